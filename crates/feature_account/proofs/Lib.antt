@@ -1,0 +1,7 @@
+pub mod FirstOfEach
+pub mod EntryFacts
+pub mod AccountFacts
+pub mod ClosedSets
+pub mod EntryReading
+pub mod LineFacts
+pub mod RuleFacts

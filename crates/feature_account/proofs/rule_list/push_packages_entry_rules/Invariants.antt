@@ -1,0 +1,7 @@
+use Rattle.std.proofs.Common.{◌≡◌, ◌++◌, map, take}
+use Rattle.std.specs.List.{flat_map}
+use Rattle.feature_account.specs.RuleList.{entry_rules}
+use Rattle.feature_account.proofs.rule_list.push_packages_entry_rules.Given as goal
+
+abbrev pub invariant-loop-row : goal.invariant-loop-row
+invariant-loop-row l = l.rules.items ≡ l.fn.rules.items ++ flat_map (entry_rules l.record l.table) (map (λ p. p.now) (take l.row-index l.packages))

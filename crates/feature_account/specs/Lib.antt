@@ -1,0 +1,9 @@
+pub mod Lines
+pub mod Entries
+pub mod EntryView
+pub mod RuleList
+pub mod Closed
+pub mod Accounts
+pub mod IsEntry
+pub mod IsRule
+pub mod Laws

@@ -1,0 +1,5 @@
+pub mod Membership
+pub mod Quantifiers
+pub mod Lists
+pub mod Ascending
+pub mod Written

@@ -1,0 +1,53 @@
+-- Maps that are filled in the order of their keys.
+use Rattle.std.proofs.Common.{◌≡◌, refl, ap, sym, ◌∙◌, List, [], ◌∷◌, ◌++◌, map, String, Global, string_bytes, append_assoc, Ordering, Less, Greater, nat_cmp, Result, Ok, Err}
+use Rattle.std.proofs.lemmas.Cmp.{nat_list_cmp_total}
+use Rattle.std.specs.Cmp.Lexicographic.{slice_cmp}
+use Rattle.std.specs.List.{AllByRecursion}
+use Rattle.std.specs.List.Sorted.{IsStrictlySortedBy}
+use Rattle.std.specs.Map.{keys_of}
+use Rattle.std.specs.Ordering.{ordering_reverse}
+use Rattle.std.specs.String.{string_cmp}
+use Rattle.std.specs.BTreeMap.{insert_entry}
+use Rattle.workspace_record.specs.Records.{Text}
+use Rattle.record_files.specs.declared.error.ReadError.{ReadError}
+use Rattle.record_files.specs.Outcomes.{◌>>=◌}
+use Rattle.record_files.proofs.Lists.{with_front}
+
+abbrev pub text_cmp : Text → Text → Ordering
+text_cmp = slice_cmp nat_cmp
+
+-- the keys of entries, as texts
+abbrev pub key_texts : {V : Type 0} → List (String Global × V) → List Text
+key_texts es = map (λ e. string_bytes e.0) es
+
+below_each : {V : Type 0} (x : String Global) (es : List (String Global × V)) → AllByRecursion (λ y. string_cmp x y ≡ Less) (keys_of es) → AllByRecursion (λ y. text_cmp (string_bytes x) y ≡ Less) (key_texts es)
+below_each x [] h = h
+below_each x (e ∷ es) h = (h.0, below_each x es h.1)
+
+-- keys that ascend as strings ascend as texts
+pub key_texts_sorted : {V : Type 0} (es : List (String Global × V)) → IsStrictlySortedBy string_cmp (keys_of es) → IsStrictlySortedBy text_cmp (key_texts es)
+unfolding IsStrictlySortedBy
+key_texts_sorted [] h = h
+key_texts_sorted (e ∷ es) h = (below_each e.0 es h.0, key_texts_sorted es h.1)
+
+below_middle : (x : Text) (front : List Text) (y : Text) (more : List Text) → AllByRecursion (λ z. text_cmp x z ≡ Less) (front ++ y ∷ more) → text_cmp x y ≡ Less
+below_middle x [] y more h = h.0
+below_middle x (z ∷ front) y more h = below_middle x front y more h.1
+
+-- a key that is above those of the map goes last
+pub insert_last : {V : Type 0} (es : List (String Global × V)) (k : String Global) (v : V) (more : List Text) → IsStrictlySortedBy text_cmp (key_texts es ++ string_bytes k ∷ more) → insert_entry string_cmp es k v ≡ es ++ (k, v) ∷ []
+unfolding IsStrictlySortedBy
+insert_last [] k v more h = refl
+insert_last (e ∷ es) k v more h =
+    let above : string_cmp k e.0 ≡ Greater =
+    nat_list_cmp_total.antisymm (string_bytes k) (string_bytes e.0) ∙ ap ordering_reverse (below_middle (string_bytes e.0) (key_texts es) (string_bytes k) more h.0) in
+    rw above (ap (λ t. e ∷ t) (insert_last es k v more h.1))
+
+pub key_texts_more : {V : Type 0} (es : List (String Global × V)) (k : String Global) (v : V) (more : List Text) → key_texts (es ++ (k, v) ∷ []) ++ more ≡ key_texts es ++ string_bytes k ∷ more
+key_texts_more [] k v more = refl
+key_texts_more (e ∷ es) k v more = ap (λ t. string_bytes e.0 ∷ t) (key_texts_more es k v more)
+
+-- the next element goes to the end of what was read before
+pub with_front_more : {A : Type 0} (front : List A) (x : A) (said : Result (List A) ReadError) → with_front front (said >>= λ xs. Ok (x ∷ xs)) ≡ with_front (front ++ x ∷ []) said
+with_front_more front x (Ok xs) = ap Ok (sym (append_assoc front (x ∷ []) xs))
+with_front_more front x (Err e) = refl

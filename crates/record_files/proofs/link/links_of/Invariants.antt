@@ -1,0 +1,10 @@
+use Rattle.std.proofs.Common.{◌≡◌}
+use Rattle.serde_json.specs.View.{items_view}
+use Rattle.record_files.specs.Values.{each}
+use Rattle.record_files.specs.Links.{link_of}
+use Rattle.record_files.proofs.Lists.{with_front, from_value}
+use Rattle.record_files.proofs.link.links_of.Given as goal
+
+abbrev pub invariant-loop-value : goal.invariant-loop-value
+invariant-loop-value l =
+    with_front l.links.items (from_value link_of l.values l.value-index) ≡ each link_of (items_view l.values)

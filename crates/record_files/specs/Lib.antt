@@ -1,0 +1,12 @@
+pub mod Keys
+pub mod Outcomes
+pub mod Values
+pub mod Editions
+pub mod Details
+pub mod Packages
+pub mod Links
+pub mod Workspaces
+pub mod Records
+pub mod Choices
+pub mod Listings
+pub mod Files

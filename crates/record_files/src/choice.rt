@@ -1,0 +1,91 @@
+ghost use Rattle.std.specs.Prelude.{◌≡◌, IfOk};
+ghost use Rattle.serde_json.specs.View.{view, items_view};
+ghost use Rattle.workspace_record.specs.LabelView.{label_view};
+ghost use Rattle.record_files.specs.declared.field.Field.TheVariants as key;
+ghost use Rattle.record_files.specs.Files.{ReadsFile};
+ghost use Rattle.record_files.specs.Outcomes.{Gives};
+ghost use Rattle.record_files.specs.Values.{each, otherwise};
+ghost use Rattle.record_files.specs.Choices.{standard_named, standard_of, label_of, extra_of, choice_of, choice_file};
+
+use crate::error::ReadError;
+use crate::field::Field;
+use crate::file::value_of;
+use crate::object::{given, object_of, objects_or_none, text_at};
+use serde_json::Value;
+use std::alloc::{AllocError, Global};
+use workspace_record::{Feature, FeatureChoice, Label, Standard};
+
+/// Reads a choice of features: `standard`, one of `none`, `default` and `all`, and `extras`, a list
+/// of objects with a package id as `package` and a `feature`.
+///
+/// A feature is written as for Cargo's `--features`: the empty text is the package itself, `dep:d`
+/// the optional dependency `d`, and any other text the feature of that name. As in Cargo, the
+/// standard features that are left out are the default ones; the extras are then none.
+pub fn read_choice(alloc: Global, bytes: &[u8]) -> Result<FeatureChoice, ReadError>
+    ensures { ReadsFile (λ c. c) choice_file bytes.now result }
+{
+    let value = value_of(alloc, bytes)?;
+    choice_of(alloc, object_of(&value, Field::File)?)
+}
+
+#[tactic(auto, unfolding(crate::specs::Choices::choice_of))]
+fn choice_of(alloc: Global, value: &Value) -> Result<FeatureChoice, ReadError>
+    ensures { Gives (λ c. c) result (choice_of (view value.now)) }
+{
+    let standard = standard_at(value)?;
+    let extras = extras_of(alloc, objects_or_none(value, Field::Extras)?)?;
+    Ok(FeatureChoice { standard, extras })
+}
+
+fn standard_at(value: &Value) -> Result<Standard, ReadError>
+    ensures { Gives (λ s. s) result (otherwise Standard.Default standard_of key.Standard (view value.now)) }
+{
+    let Some(value) = given(value, Field::Standard) else {
+        return Ok(Standard::Default);
+    };
+    let standard = value.as_str().and_then(standard_named);
+    standard.ok_or(ReadError::BadShape(Field::Standard))
+}
+
+fn standard_named(name: &str) -> Option<Standard>
+    ensures { result ≡ standard_named name.now }
+{
+    match name {
+        "none" => Some(Standard::None),
+        "default" => Some(Standard::Default),
+        "all" => Some(Standard::All),
+        _ => None,
+    }
+}
+
+fn extras_of(alloc: Global, values: &[Value]) -> Result<Vec<Feature>, ReadError>
+    ensures { Gives (λ v. v.items) result (each extra_of (items_view values.now)) }
+{
+    let mut extras = Vec::new(alloc);
+    for value in values {
+        extras.push(extra_of(alloc, value)?)?;
+    }
+    Ok(extras)
+}
+
+#[tactic(auto, unfolding(crate::specs::Choices::extra_of))]
+fn extra_of(alloc: Global, value: &Value) -> Result<Feature, ReadError>
+    ensures { Gives (λ f. f) result (extra_of (view value.now)) }
+{
+    let package = text_at(alloc, value, Field::Package)?;
+    let feature = text_at(alloc, value, Field::Feature)?;
+    let label = label_of(alloc, feature.as_str())?;
+    Ok(Feature { package, label })
+}
+
+fn label_of(alloc: Global, text: &str) -> Result<Label, AllocError>
+    ensures { IfOk result (λ l. label_view l ≡ label_of text.now) }
+{
+    if text.is_empty() {
+        return Ok(Label::Base);
+    }
+    match text.strip_prefix("dep:") {
+        Some(name) => Ok(Label::Dep(String::from_str(alloc, name)?)),
+        None => Ok(Label::Named(String::from_str(alloc, text)?)),
+    }
+}

@@ -1,0 +1,2 @@
+/// The edition of a package or target that names none.
+pub(crate) const DEFAULT_EDITION: &str = "2021";

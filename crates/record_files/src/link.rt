@@ -1,0 +1,97 @@
+ghost use Rattle.std.specs.Prelude.{◌≡◌};
+ghost use Rattle.serde_json.specs.View.{view, items_view};
+ghost use Rattle.record_files.specs.declared.field.Field.TheVariants as key;
+ghost use Rattle.record_files.specs.Outcomes.{Gives};
+ghost use Rattle.record_files.specs.Values.{each, otherwise};
+ghost use Rattle.record_files.specs.Links.{line_kind, line_kind_of, line_of, link_of};
+
+use crate::error::ReadError;
+use crate::field::Field;
+use crate::object::{flag_or, given, objects_at, optional_text_at, text_at, text_or, texts_at};
+use serde_json::Value;
+use std::alloc::Global;
+use workspace_record::{LineKind, LineRecord, LinkRecord};
+
+/// The requirement of a link that gives none.
+const ANY_VERSION: &str = "*";
+
+pub(crate) fn links_of(alloc: Global, values: &[Value]) -> Result<Vec<LinkRecord>, ReadError>
+    ensures { Gives (λ v. v.items) result (each link_of (items_view values.now)) }
+{
+    let mut links = Vec::new(alloc);
+    for value in values {
+        links.push(link_of(alloc, value)?)?;
+    }
+    Ok(links)
+}
+
+#[tactic(auto, unfolding(crate::specs::Links::link_of))]
+fn link_of(alloc: Global, value: &Value) -> Result<LinkRecord, ReadError>
+    ensures { Gives (λ l. l) result (link_of (view value.now)) }
+{
+    let from = text_at(alloc, value, Field::From)?;
+    let to = text_at(alloc, value, Field::To)?;
+    let name = text_at(alloc, value, Field::Name)?;
+    let requirement = text_or(alloc, value, Field::Requirement, ANY_VERSION)?;
+    let registry = optional_text_at(alloc, value, Field::Registry)?;
+    let path = optional_text_at(alloc, value, Field::Path)?;
+    let lines = lines_of(alloc, objects_at(value, Field::Lines)?)?;
+    Ok(LinkRecord {
+        from,
+        to,
+        name,
+        requirement,
+        lines,
+        registry,
+        path,
+    })
+}
+
+fn lines_of(alloc: Global, values: &[Value]) -> Result<Vec<LineRecord>, ReadError>
+    ensures { Gives (λ v. v.items) result (each line_of (items_view values.now)) }
+{
+    let mut lines = Vec::new(alloc);
+    for value in values {
+        lines.push(line_of(alloc, value)?)?;
+    }
+    Ok(lines)
+}
+
+#[tactic(auto, unfolding(crate::specs::Links::line_of))]
+fn line_of(alloc: Global, value: &Value) -> Result<LineRecord, ReadError>
+    ensures { Gives (λ l. l) result (line_of (view value.now)) }
+{
+    let kind = line_kind_at(value)?;
+    let optional = flag_or(value, Field::Optional, false)?;
+    let default_features = flag_or(value, Field::DefaultFeatures, true)?;
+    let features = texts_at(alloc, value, Field::Features)?;
+    let spec = optional_text_at(alloc, value, Field::Spec)?;
+    Ok(LineRecord {
+        kind,
+        optional,
+        default_features,
+        features,
+        spec,
+    })
+}
+
+fn line_kind_at(value: &Value) -> Result<LineKind, ReadError>
+    ensures { Gives (λ k. k) result (otherwise LineKind.Normal line_kind_of key.Kind (view value.now)) }
+{
+    let Some(value) = given(value, Field::Kind) else {
+        return Ok(LineKind::Normal);
+    };
+    let kind = value.as_str().and_then(line_kind);
+    kind.ok_or(ReadError::BadShape(Field::Kind))
+}
+
+fn line_kind(name: &str) -> Option<LineKind>
+    ensures { result ≡ line_kind name.now }
+{
+    match name {
+        "normal" => Some(LineKind::Normal),
+        "build" => Some(LineKind::Build),
+        "dev" => Some(LineKind::Dev),
+        _ => None,
+    }
+}

@@ -1,0 +1,53 @@
+ghost use Rattle.std.specs.Prelude.{◌≡◌};
+ghost use Rattle.serde_json.specs.View.{view};
+ghost use Rattle.record_files.specs.Files.{ReadsFile};
+ghost use Rattle.record_files.specs.Outcomes.{Gives};
+ghost use Rattle.record_files.specs.Records.{record_of, record_file};
+
+use crate::error::ReadError;
+use crate::field::Field;
+use crate::file::value_of;
+use crate::link::links_of;
+use crate::object::{object_at, object_of, objects_at, objects_or_none, optional_text_at};
+use crate::package::packages_of;
+use crate::workspace::{groups_of, workspace_of};
+use serde_json::Value;
+use std::alloc::Global;
+use workspace_record::WorkspaceRecord;
+
+/// Reads the record of a workspace: `packages`, `links`, `workspace`, `groups` and
+/// `default_filter`.
+///
+/// Packages, targets and the workspace have the keys that `cargo metadata` gives them; of a package
+/// `id`, `name` and `version` are required, of a target `kind` and `name`, of a link `from`, `to`,
+/// `name` and `lines`, and of the workspace `members`. A text or list that is left out is absent or
+/// empty, except that an edition is `2021`, a requirement `*`, the target directory `target` and a
+/// line's kind `normal`, as in Cargo. Null counts as left out, and unknown keys are ignored.
+pub fn read_record(alloc: Global, bytes: &[u8]) -> Result<WorkspaceRecord, ReadError>
+    ensures { ReadsFile (λ w. w) record_file bytes.now result }
+{
+    let value = value_of(alloc, bytes)?;
+    record_of(alloc, object_of(&value, Field::File)?)
+}
+
+#[tactic(auto, unfolding(crate::specs::Records::record_of))]
+fn record_of(alloc: Global, value: &Value) -> Result<WorkspaceRecord, ReadError>
+    ensures { Gives (λ w. w) result (record_of (view value.now)) }
+{
+    let package_values = objects_at(value, Field::Packages)?;
+    let link_values = objects_or_none(value, Field::Links)?;
+    let workspace_value = object_at(value, Field::Workspace)?;
+    let group_values = objects_or_none(value, Field::Groups)?;
+    let default_filter = optional_text_at(alloc, value, Field::DefaultFilter)?;
+    let packages = packages_of(alloc, package_values)?;
+    let links = links_of(alloc, link_values)?;
+    let workspace = workspace_of(alloc, workspace_value)?;
+    let groups = groups_of(alloc, group_values)?;
+    Ok(WorkspaceRecord {
+        packages,
+        links,
+        workspace,
+        groups,
+        default_filter,
+    })
+}

@@ -1,0 +1,8 @@
+-- What contracts see of the code's test binaries.
+use Rattle.std.specs.Prelude.{string_bytes}
+use Rattle.record_rules.specs.Binaries.{Binary}
+use Rattle.record_rules.specs.declared.binaries.TestBinary.{TestBinary}
+
+-- the id, and the parts of the record that the binary points to
+abbrev pub binary_view : TestBinary → Binary
+binary_view b = record { id = string_bytes b.id; package_id = b.row.now.id; target = b.target.now }

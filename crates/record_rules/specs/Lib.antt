@@ -1,0 +1,3 @@
+pub mod Binaries
+pub mod BinaryView
+pub mod RecordRules

@@ -1,0 +1,105 @@
+//! The test binaries of a workspace.
+
+ghost use Rattle.std.specs.Prelude.{◌≡◌, ◌++◌, OnOk, IfOk, map, filter, string_bytes};
+ghost use Rattle.feature_account.specs.Lines.{is_member};
+ghost use Rattle.record_rules.specs.Binaries.{binary_id, may_have_tests, binaries_of, binaries};
+ghost use Rattle.record_rules.specs.BinaryView.{binary_view};
+
+use feature_account::lines::is_member;
+use std::alloc::{AllocError, Global};
+use workspace_record::{PackageRecord, TargetKind, TargetRecord, WorkspaceRecord};
+
+/// A target of a package, which is built into a test binary under an id of its own.
+#[derive(Drop)]
+pub(crate) struct TestBinary<'a> {
+    pub(crate) id: String,
+    pub(crate) row: &'a PackageRecord,
+    pub(crate) target: &'a TargetRecord,
+}
+
+/// The test binaries of the members, by package and then target.
+pub(crate) fn binaries<'a>(
+    alloc: Global,
+    record: &'a WorkspaceRecord,
+) -> Result<Vec<TestBinary<'a>>, AllocError>
+    ensures { IfOk result (λ v. map binary_view v.items ≡ binaries record.entry.now) }
+{
+    let mut all = Vec::new(alloc);
+    for row in member_packages(alloc, record, &record.packages)? {
+        push_binaries(alloc, row, &mut all)?;
+    }
+    Ok(all)
+}
+
+fn member_packages<'a>(
+    alloc: Global,
+    record: &WorkspaceRecord,
+    packages: &'a [PackageRecord],
+) -> Result<Vec<&'a PackageRecord>, AllocError>
+    ensures { IfOk result (λ v. map (λ p. p.now) v.items ≡ filter (λ p. is_member record.now p.id) packages.entry.now) }
+{
+    let mut members: Vec<&'a PackageRecord> = Vec::new(alloc);
+    for row in packages {
+        if is_member(record, row.id.as_str()) {
+            members.push(row)?;
+        }
+    }
+    Ok(members)
+}
+
+fn push_binaries<'a>(
+    alloc: Global,
+    row: &'a PackageRecord,
+    all: &mut Vec<TestBinary<'a>>,
+) -> Result<(), AllocError>
+    ensures { OnOk result (map binary_view all.new.items ≡ map binary_view all.old.items ++ binaries_of row.entry.now) }
+{
+    for target in &row.targets {
+        if target.tested && may_have_tests(target.kind) {
+            let id = binary_id(alloc, row.name.as_str(), target.kind, target.name.as_str())?;
+            all.push(TestBinary { id, row, target })?;
+        }
+    }
+    Ok(())
+}
+
+fn may_have_tests(kind: TargetKind) -> bool
+    ensures { result ≡ may_have_tests kind }
+{
+    match kind {
+        TargetKind::Lib
+        | TargetKind::ProcMacro
+        | TargetKind::Test
+        | TargetKind::Bench
+        | TargetKind::Bin
+        | TargetKind::Example => true,
+        TargetKind::BuildScript => false,
+    }
+}
+
+fn binary_id(
+    alloc: Global,
+    package_name: &str,
+    kind: TargetKind,
+    name: &str,
+) -> Result<String, AllocError>
+    ensures { IfOk result (λ id. string_bytes id ≡ binary_id package_name.now kind name.now) }
+{
+    let mut id = String::from_str(alloc, package_name)?;
+    match kind {
+        TargetKind::Lib | TargetKind::ProcMacro => {}
+        TargetKind::Test => push_name(&mut id, "::", name)?,
+        TargetKind::Bench => push_name(&mut id, "::bench/", name)?,
+        TargetKind::Bin => push_name(&mut id, "::bin/", name)?,
+        TargetKind::Example => push_name(&mut id, "::example/", name)?,
+        TargetKind::BuildScript => push_name(&mut id, "::build-script/", name)?,
+    }
+    Ok(id)
+}
+
+fn push_name(id: &mut String, before: &str, name: &str) -> Result<(), AllocError>
+    ensures { OnOk result (string_bytes id.new ≡ string_bytes id.old ++ (before.now ++ name.now)) }
+{
+    id.push_str(before)?;
+    id.push_str(name)
+}

@@ -1,0 +1,18 @@
+//! Listers, which answer the names of the tests in a binary, and asking them for many binaries in
+//! turn.
+#![tactic(auto)]
+
+mod ask;
+mod binary;
+mod fault;
+mod file_lister;
+mod lister;
+mod listing;
+#[cfg(test)]
+mod tests;
+
+pub use crate::ask::ask_each;
+pub use crate::binary::{BinaryInfo, BuildPlatform};
+pub use crate::fault::{AskError, ListFault, ListingFault};
+pub use crate::file_lister::FileLister;
+pub use crate::lister::{Listing, TestLister};

@@ -1,0 +1,9 @@
+pub mod Errors
+pub mod Extras
+pub mod FilterForms
+pub mod FilterView
+pub mod Filters
+pub mod OnLines
+pub mod Reach
+pub mod ReachSteps
+pub mod Switching

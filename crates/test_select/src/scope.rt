@@ -1,0 +1,8 @@
+/// Which links the filters `deps` and `rdeps` follow.
+#[derive(Clone, Copy, Debug, PartialEq, Eq, Hash)]
+pub enum LinkScope {
+    /// Those with a line that is on.
+    SwitchedOn,
+    /// All that are declared.
+    Declared,
+}

@@ -1,0 +1,24 @@
+//! Plain records of a Cargo workspace: its packages with their features and targets, the links among
+//! them, the features that are asked for, and what is known of a platform.
+#![tactic(auto)]
+
+mod choice;
+mod feature;
+mod kinds;
+mod label;
+mod link;
+mod package;
+mod target;
+#[cfg(test)]
+mod tests;
+mod texts;
+mod workspace;
+
+pub use crate::choice::{FeatureChoice, PlatformTable};
+pub use crate::feature::Feature;
+pub use crate::kinds::{LineKind, Standard, TargetKind};
+pub use crate::label::Label;
+pub use crate::link::{LineRecord, LinkRecord};
+pub use crate::package::{FeatureRecord, PackageInfo, PackageRecord};
+pub use crate::target::{TargetInfo, TargetRecord};
+pub use crate::workspace::{GroupRecord, MemberRecord, WorkspaceInfo, WorkspaceRecord};
