@@ -3,3 +3,4 @@ pub mod Quantifiers
 pub mod Lists
 pub mod Ascending
 pub mod Written
+pub mod Counting

@@ -1,20 +1,16 @@
 -- Maps that are filled in the order of their keys.
-use Rattle.std.proofs.Common.{◌≡◌, refl, ap, sym, ◌∙◌, List, [], ◌∷◌, ◌++◌, map, String, Global, string_bytes, append_assoc, Ordering, Less, Greater, nat_cmp, Result, Ok, Err}
+use Rattle.std.proofs.Common.{◌≡◌, refl, ap, sym, ◌∙◌, List, [], ◌∷◌, ◌++◌, map, String, Global, string_bytes, false, Less, Greater}
 use Rattle.std.proofs.lemmas.Cmp.{nat_list_cmp_total}
-use Rattle.std.specs.Cmp.Lexicographic.{slice_cmp}
 use Rattle.std.specs.List.{AllByRecursion}
 use Rattle.std.specs.List.Sorted.{IsStrictlySortedBy}
 use Rattle.std.specs.Map.{keys_of}
-use Rattle.std.specs.Ordering.{ordering_reverse}
-use Rattle.std.specs.String.{string_cmp}
+use Rattle.std.specs.Ordering.{ordering_reverse, is_eq}
+use Rattle.std.specs.String.{string_cmp, string_eq}
 use Rattle.std.specs.BTreeMap.{insert_entry}
+use Rattle.std.proofs.lemmas.Map.Text.{is_eq-slice_cmp}
+use Rattle.indexmap.specs.IndexMap.{insert_entry as index_insert_entry}
+use Rattle.list_facts.specs.Ascending.{text_cmp}
 use Rattle.workspace_record.specs.Records.{Text}
-use Rattle.record_files.specs.declared.error.ReadError.{ReadError}
-use Rattle.record_files.specs.Outcomes.{◌>>=◌}
-use Rattle.record_files.proofs.Lists.{with_front}
-
-abbrev pub text_cmp : Text → Text → Ordering
-text_cmp = slice_cmp nat_cmp
 
 -- the keys of entries, as texts
 abbrev pub key_texts : {V : Type 0} → List (String Global × V) → List Text
@@ -34,20 +30,29 @@ below_middle : (x : Text) (front : List Text) (y : Text) (more : List Text) → 
 below_middle x [] y more h = h.0
 below_middle x (z ∷ front) y more h = below_middle x front y more h.1
 
+below_is_above : (k y : Text) → text_cmp y k ≡ Less → text_cmp k y ≡ Greater
+below_is_above k y below = nat_list_cmp_total.antisymm k y ∙ ap ordering_reverse below
+
+above_is_other : (k y : String Global) → string_cmp k y ≡ Greater → string_eq k y ≡ false
+above_is_other k y above = sym (is_eq-slice_cmp (string_bytes k) (string_bytes y)) ∙ ap is_eq above
+
 -- a key that is above those of the map goes last
 pub insert_last : {V : Type 0} (es : List (String Global × V)) (k : String Global) (v : V) (more : List Text) → IsStrictlySortedBy text_cmp (key_texts es ++ string_bytes k ∷ more) → insert_entry string_cmp es k v ≡ es ++ (k, v) ∷ []
 unfolding IsStrictlySortedBy
 insert_last [] k v more h = refl
 insert_last (e ∷ es) k v more h =
-    let above : string_cmp k e.0 ≡ Greater =
-    nat_list_cmp_total.antisymm (string_bytes k) (string_bytes e.0) ∙ ap ordering_reverse (below_middle (string_bytes e.0) (key_texts es) (string_bytes k) more h.0) in
+    let above : string_cmp k e.0 ≡ Greater = below_is_above (string_bytes k) (string_bytes e.0) (below_middle (string_bytes e.0) (key_texts es) (string_bytes k) more h.0) in
     rw above (ap (λ t. e ∷ t) (insert_last es k v more h.1))
+
+-- so in a map that keeps its keys as they came
+pub insert_new : {V : Type 0} (es : List (String Global × V)) (k : String Global) (v : V) (more : List Text) → IsStrictlySortedBy text_cmp (key_texts es ++ string_bytes k ∷ more) → index_insert_entry string_eq es k v ≡ es ++ (k, v) ∷ []
+unfolding IsStrictlySortedBy
+insert_new [] k v more h = refl
+insert_new (e ∷ es) k v more h =
+    let other : string_eq k e.0 ≡ false =
+    above_is_other k e.0 (below_is_above (string_bytes k) (string_bytes e.0) (below_middle (string_bytes e.0) (key_texts es) (string_bytes k) more h.0)) in
+    rw other (ap (λ t. e ∷ t) (insert_new es k v more h.1))
 
 pub key_texts_more : {V : Type 0} (es : List (String Global × V)) (k : String Global) (v : V) (more : List Text) → key_texts (es ++ (k, v) ∷ []) ++ more ≡ key_texts es ++ string_bytes k ∷ more
 key_texts_more [] k v more = refl
 key_texts_more (e ∷ es) k v more = ap (λ t. string_bytes e.0 ∷ t) (key_texts_more es k v more)
-
--- the next element goes to the end of what was read before
-pub with_front_more : {A : Type 0} (front : List A) (x : A) (said : Result (List A) ReadError) → with_front front (said >>= λ xs. Ok (x ∷ xs)) ≡ with_front (front ++ x ∷ []) said
-with_front_more front x (Ok xs) = ap Ok (sym (append_assoc front (x ∷ []) xs))
-with_front_more front x (Err e) = refl

@@ -1,2 +1,4 @@
 pub mod Lists
 pub mod Keys
+pub mod Members
+pub mod Specs

@@ -5,16 +5,16 @@ use Rattle.serde_json.specs.Data.{Data}
 use Rattle.serde_json.specs.Find.{as_object}
 use Rattle.serde_json.specs.View.{view, items_view}
 use Rattle.serde_json.specs.declared.value.Value.{Value}
-use Rattle.record_files.specs.declared.error.ReadError.{ReadError}
+use Rattle.record_files.specs.Faults.{Fault}
 use Rattle.record_files.specs.Outcomes.{◌>>=◌}
 use Rattle.record_files.specs.Values.{each, all_objects}
 
 -- what is read, behind what was read before
-abbrev pub with_front : {A : Type 0} → List A → Result (List A) ReadError → Result (List A) ReadError
+abbrev pub with_front : {A : Type 0} → List A → Result (List A) Fault → Result (List A) Fault
 with_front front said = said >>= λ xs. Ok (front ++ xs)
 
 -- the values from a place on, each under `read`
-abbrev pub from_value : {A : Type 0} → (Data → Result A ReadError) → List Value → ℕ → Result (List A) ReadError
+abbrev pub from_value : {A : Type 0} → (Data → Result A Fault) → List Value → ℕ → Result (List A) Fault
 from_value read vs i = each read (items_view (drop i vs))
 
 pub all_objects_seen : (vs : List Value) → list_all (λ v. is_some (as_object (view v))) vs ≡ all_objects (items_view vs)

@@ -6,10 +6,9 @@ use Rattle.workspace_record.specs.Features.{LabelValue, Base, Named, Dep, Featur
 use Rattle.workspace_record.specs.Choices.{Choice}
 use Rattle.workspace_record.specs.declared.kinds.Standard.{Standard}
 use Rattle.workspace_record.specs.declared.kinds.Standard.TheVariants as standard
-use Rattle.record_files.specs.declared.error.ReadError.{ReadError}
-use Rattle.record_files.specs.declared.error.ReadError.TheVariants.{BadShape}
-use Rattle.record_files.specs.declared.field.Field.{Field}
-use Rattle.record_files.specs.declared.field.Field.TheVariants as key
+use Rattle.record_files.specs.Faults.{Fault, at_key}
+use Rattle.record_files.specs.declared.key.Key.{Key}
+use Rattle.record_files.specs.declared.key.Key.TheVariants as key
 use Rattle.record_files.specs.Outcomes.{◌>>=◌}
 use Rattle.record_files.specs.Values.{each, otherwise, object_of, objects_or_none, text_of, text_at}
 
@@ -22,8 +21,8 @@ standard_named name =
     else None))
 
 -- a text that names a standard choice
-abbrev pub standard_of : Field → Data → Result Standard ReadError
-standard_of field d = text_of field d >>= λ name. ok_or (standard_named name) (BadShape field)
+abbrev pub standard_of : Key → Data → Result Standard Fault
+standard_of key d = text_of key d >>= λ name. ok_or (standard_named name) (at_key key)
 
 -- a text that begins with `dep:` names an optional dependency; any other, a feature
 abbrev pub named_or_dep : Text → LabelValue
@@ -35,14 +34,14 @@ label_of [] = Base
 label_of (c ∷ text) = named_or_dep (c ∷ text)
 
 -- a feature of a package
-unfoldable pub extra_of : Data → Result FeatureValue ReadError
+unfoldable pub extra_of : Data → Result FeatureValue Fault
 extra_of d = do
   package_id ← text_at key.Package d
   feature ← text_at key.Feature d
   Ok (record { package_id = package_id; label = label_of feature })
 
 -- a choice: its own keys, and then the features that it adds
-unfoldable pub choice_of : Data → Result Choice ReadError
+unfoldable pub choice_of : Data → Result Choice Fault
 choice_of d = do
   base ← otherwise standard.Default standard_of key.Standard d
   extra_items ← objects_or_none key.Extras d
@@ -50,5 +49,5 @@ choice_of d = do
   Ok (record { standard = base; extras = extras })
 
 -- a file that is a choice
-abbrev pub choice_file : Data → Result Choice ReadError
+abbrev pub choice_file : Data → Result Choice Fault
 choice_file d = object_of key.File d >>= choice_of

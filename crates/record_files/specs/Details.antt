@@ -2,8 +2,8 @@
 use Rattle.std.specs.Prelude.{[], List, Option, Result, Ok}
 use Rattle.serde_json.specs.Data.{Data}
 use Rattle.workspace_record.specs.Records.{Text, PackageDetails}
-use Rattle.record_files.specs.declared.error.ReadError.{ReadError}
-use Rattle.record_files.specs.declared.field.Field.TheVariants as key
+use Rattle.record_files.specs.Faults.{Fault}
+use Rattle.record_files.specs.declared.key.Key.TheVariants as key
 use Rattle.record_files.specs.Outcomes.{◌>>=◌}
 use Rattle.record_files.specs.Editions.{default_edition}
 use Rattle.record_files.specs.Values.{optional_text_at, text_or, texts_at, optional_texts_at, optional_json_at}
@@ -37,7 +37,7 @@ pub record Settings : Type 0 where
   pub metadata : Option Text
 
 -- the keys of the first part, in their order
-unfoldable pub origin_of : Data → Result Origin ReadError
+unfoldable pub origin_of : Data → Result Origin Fault
 origin_of d = do
   source ← optional_text_at key.Source d
   path ← optional_text_at key.Path d
@@ -49,7 +49,7 @@ origin_of d = do
   Ok (record { source = source; path = path; manifest_path = manifest_path; edition = edition; authors = authors; categories = categories; keywords = keywords })
 
 -- the keys of the second part
-unfoldable pub description_of : Data → Result Description ReadError
+unfoldable pub description_of : Data → Result Description Fault
 description_of d = do
   description ← optional_text_at key.Description d
   license ← optional_text_at key.License d
@@ -61,7 +61,7 @@ description_of d = do
   Ok (record { description = description; license = license; license_file = license_file; readme = readme; repository = repository; homepage = homepage; documentation = documentation })
 
 -- the keys of the third part
-unfoldable pub settings_of : Data → Result Settings ReadError
+unfoldable pub settings_of : Data → Result Settings Fault
 settings_of d = do
   links ← optional_text_at key.Links d
   default_run ← optional_text_at key.DefaultRun d
@@ -76,7 +76,7 @@ joined o d s =
     record { source = o.source; path = o.path; manifest_path = o.manifest_path; edition = o.edition; authors = o.authors; categories = o.categories; keywords = o.keywords; description = d.description; license = d.license; license_file = d.license_file; readme = d.readme; repository = d.repository; homepage = d.homepage; documentation = d.documentation; links = s.links; default_run = s.default_run; rust_version = s.rust_version; publish = s.publish; metadata = s.metadata }
 
 -- the details of a package, in the order of its keys
-abbrev pub details_of : Data → Result PackageDetails ReadError
+abbrev pub details_of : Data → Result PackageDetails Fault
 details_of d = do
   origin ← origin_of d
   description ← description_of d

@@ -7,9 +7,10 @@ use Rattle.serde_json.specs.View.{view}
 use Rattle.serde_json.specs.declared.value.Value.{Value}
 use Rattle.record_files.specs.declared.error.ReadError.{ReadError}
 use Rattle.record_files.specs.declared.error.ReadError.TheVariants.{BadJson, BadShape, Memory}
+use Rattle.record_files.specs.Faults.{Fault, fault_of}
 
 -- The bytes are JSON as `serde_json` reads it, and of the value that they are the format says this.
-pub record Reads {Y : Type 0} (format : Data → Result Y ReadError) (bytes : List ℕ) (said : Result Y ReadError) : Type 0 where
+pub record Reads {Y : Type 0} (format : Data → Result Y Fault) (bytes : List ℕ) (said : Result Y Fault) : Type 0 where
   pub value : Data
   pub text : IsUtf8 bytes
   pub reading : read bytes ≡ Some value
@@ -17,9 +18,9 @@ pub record Reads {Y : Type 0} (format : Data → Result Y ReadError) (bytes : Li
 
 -- What a reader of files answers: the value that the format gives for the bytes, the first fault of
 -- their shape, or that they are not JSON. Of want of memory nothing is said.
-abbrev pub ReadsFile : {X Y : Type 0} → (X → Y) → (Data → Result Y ReadError) → List ℕ → Result X ReadError → Type 0
+abbrev pub ReadsFile : {X Y : Type 0} → (X → Y) → (Data → Result Y Fault) → List ℕ → Result X ReadError → Type 0
 ReadsFile shows format bytes (Ok x) = Reads format bytes (Ok (shows x))
-ReadsFile shows format bytes (Err (BadShape field)) = Reads format bytes (Err (BadShape field))
+ReadsFile shows format bytes (Err (BadShape field)) = Reads format bytes (Err (fault_of field))
 ReadsFile shows format bytes (Err BadJson) = IsUtf8 bytes → read bytes ≡ None
 ReadsFile shows format bytes (Err Memory) = Unit {0}
 

@@ -1,10 +1,10 @@
 -- The keys of the files.
 use Rattle.std.specs.Prelude.{ℕ, List, codes}
-use Rattle.record_files.specs.declared.field.Field.{Field}
-use Rattle.record_files.specs.declared.field.Field.TheVariants as key
+use Rattle.record_files.specs.declared.key.Key.{Key}
+use Rattle.record_files.specs.declared.key.Key.TheVariants as key
 
 -- a key as files write it
-abbrev pub key_of : Field → List ℕ
+abbrev pub key_of : Key → List ℕ
 key_of key.File = codes "file"
 key_of key.Packages = codes "packages"
 key_of key.Links = codes "links"

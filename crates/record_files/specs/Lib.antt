@@ -1,4 +1,5 @@
 pub mod Keys
+pub mod Faults
 pub mod Outcomes
 pub mod Values
 pub mod Editions
@@ -8,5 +9,7 @@ pub mod Links
 pub mod Workspaces
 pub mod Records
 pub mod Choices
+pub mod Tables
+pub mod Accounts
 pub mod Listings
 pub mod Files

@@ -4,10 +4,9 @@ use Rattle.serde_json.specs.Data.{Data}
 use Rattle.workspace_record.specs.Records.{Text, Line, Link}
 use Rattle.workspace_record.specs.declared.kinds.LineKind.{LineKind}
 use Rattle.workspace_record.specs.declared.kinds.LineKind.TheVariants.{Normal, Build, Dev}
-use Rattle.record_files.specs.declared.error.ReadError.{ReadError}
-use Rattle.record_files.specs.declared.error.ReadError.TheVariants.{BadShape}
-use Rattle.record_files.specs.declared.field.Field.{Field}
-use Rattle.record_files.specs.declared.field.Field.TheVariants as key
+use Rattle.record_files.specs.Faults.{Fault, at_key}
+use Rattle.record_files.specs.declared.key.Key.{Key}
+use Rattle.record_files.specs.declared.key.Key.TheVariants as key
 use Rattle.record_files.specs.Outcomes.{◌>>=◌}
 use Rattle.record_files.specs.Values.{each, otherwise, text_of, text_at, optional_text_at, text_or, texts_at, flag_or, objects_at}
 
@@ -20,11 +19,11 @@ line_kind name =
     else None))
 
 -- a text that names a section
-abbrev pub line_kind_of : Field → Data → Result LineKind ReadError
-line_kind_of field d = text_of field d >>= λ name. ok_or (line_kind name) (BadShape field)
+abbrev pub line_kind_of : Key → Data → Result LineKind Fault
+line_kind_of key d = text_of key d >>= λ name. ok_or (line_kind name) (at_key key)
 
 -- a line: one declaration of the dependency
-unfoldable pub line_of : Data → Result Line ReadError
+unfoldable pub line_of : Data → Result Line Fault
 line_of d = do
   kind ← otherwise Normal line_kind_of key.Kind d
   optional ← flag_or false key.Optional d
@@ -38,7 +37,7 @@ abbrev pub any_version : Text
 any_version = codes "*"
 
 -- a link: its own keys, and then its lines
-unfoldable pub link_of : Data → Result Link ReadError
+unfoldable pub link_of : Data → Result Link Fault
 link_of d = do
   from ← text_at key.From d
   to ← text_at key.To d

@@ -4,17 +4,16 @@ use Rattle.serde_json.specs.Data.{Data}
 use Rattle.workspace_record.specs.Records.{Text, FeatureEntry, Target, Package}
 use Rattle.workspace_record.specs.declared.kinds.TargetKind.{TargetKind}
 use Rattle.workspace_record.specs.declared.kinds.TargetKind.TheVariants.{Lib, ProcMacro, Test, Bench, Bin, Example, BuildScript}
-use Rattle.record_files.specs.declared.error.ReadError.{ReadError}
-use Rattle.record_files.specs.declared.error.ReadError.TheVariants.{BadShape}
-use Rattle.record_files.specs.declared.field.Field.{Field}
-use Rattle.record_files.specs.declared.field.Field.TheVariants as key
+use Rattle.record_files.specs.Faults.{Fault, at_key}
+use Rattle.record_files.specs.declared.key.Key.{Key}
+use Rattle.record_files.specs.declared.key.Key.TheVariants as key
 use Rattle.record_files.specs.Outcomes.{◌>>=◌}
 use Rattle.record_files.specs.Editions.{default_edition}
 use Rattle.record_files.specs.Details.{details_of}
 use Rattle.record_files.specs.Values.{each, required, text_of, text_at, text_or, texts_at, flag_or, objects_or_none}
 
 -- a feature, and what it switches on
-unfoldable pub feature_of : Data → Result FeatureEntry ReadError
+unfoldable pub feature_of : Data → Result FeatureEntry Fault
 feature_of d = do
   name ← text_at key.Name d
   enables ← texts_at key.Enables d
@@ -33,11 +32,11 @@ target_kind name =
     else None))))))
 
 -- a text that names a kind of target
-abbrev pub target_kind_of : Field → Data → Result TargetKind ReadError
-target_kind_of field d = text_of field d >>= λ name. ok_or (target_kind name) (BadShape field)
+abbrev pub target_kind_of : Key → Data → Result TargetKind Fault
+target_kind_of key d = text_of key d >>= λ name. ok_or (target_kind name) (at_key key)
 
 -- a target: what Cargo builds of a package
-unfoldable pub target_of : Data → Result Target ReadError
+unfoldable pub target_of : Data → Result Target Fault
 target_of d = do
   kind ← required target_kind_of key.Kind d
   name ← text_at key.Name d
@@ -51,7 +50,7 @@ target_of d = do
   Ok (record { kind = kind; name = name; required_features = required_features; tested = tested; info = record { path = path; edition = edition; crate_types = crate_types; doc = doc; doctest = doctest } })
 
 -- what a package holds: the lists of features and targets, then each feature, and then each target
-unfoldable pub contents_of : Data → Result (List FeatureEntry × List Target) ReadError
+unfoldable pub contents_of : Data → Result (List FeatureEntry × List Target) Fault
 contents_of d = do
   feature_items ← objects_or_none key.Features d
   target_items ← objects_or_none key.Targets d
@@ -60,7 +59,7 @@ contents_of d = do
   Ok (features, targets)
 
 -- a package: its own keys, and then what it holds
-unfoldable pub package_of : Data → Result Package ReadError
+unfoldable pub package_of : Data → Result Package Fault
 package_of d = do
   id ← text_at key.Id d
   name ← text_at key.Name d

@@ -2,8 +2,8 @@
 use Rattle.std.specs.Prelude.{Result, Ok}
 use Rattle.serde_json.specs.Data.{Data}
 use Rattle.workspace_record.specs.Records.{Workspace}
-use Rattle.record_files.specs.declared.error.ReadError.{ReadError}
-use Rattle.record_files.specs.declared.field.Field.TheVariants as key
+use Rattle.record_files.specs.Faults.{Fault}
+use Rattle.record_files.specs.declared.key.Key.TheVariants as key
 use Rattle.record_files.specs.Outcomes.{◌>>=◌}
 use Rattle.record_files.specs.Values.{each, optional_text_at, object_of, object_at, objects_at, objects_or_none}
 use Rattle.record_files.specs.Packages.{package_of}
@@ -11,7 +11,7 @@ use Rattle.record_files.specs.Links.{link_of}
 use Rattle.record_files.specs.Workspaces.{workspace_of, group_of}
 
 -- a record: its own keys, then each package, each link, the workspace and each group
-unfoldable pub record_of : Data → Result Workspace ReadError
+unfoldable pub record_of : Data → Result Workspace Fault
 record_of d = do
   package_items ← objects_at key.Packages d
   link_items ← objects_or_none key.Links d
@@ -25,5 +25,5 @@ record_of d = do
   Ok (record { packages = packages; links = links; workspace = workspace; groups = groups; default_filter = default_filter })
 
 -- a file that is a record
-abbrev pub record_file : Data → Result Workspace ReadError
+abbrev pub record_file : Data → Result Workspace Fault
 record_file d = object_of key.File d >>= record_of

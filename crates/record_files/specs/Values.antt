@@ -1,41 +1,58 @@
 -- What a value gives where a text, a flag or a list is wanted, and what an object gives at a key.
-use Rattle.std.specs.Prelude.{List, [], ◌∷◌, Bool, true, ◌&&◌, if◌then◌else◌, Option, Some, None, is_some, ok_or, Result, Ok, Err}
-use Rattle.serde_json.specs.Data.{Data, null, boolean, number, string, array, object, Items, no_items, item}
+use Rattle.std.specs.Prelude.{List, [], ◌∷◌, Bool, true, ◌&&◌, if◌then◌else◌, Option, Some, None, is_some, option_map, option_and_then, ok_or, Result, Ok, Err}
+use Rattle.serde_json.specs.Data.{Data, null, boolean, number, string, array, object, Items, no_items, item, Members, no_members, member}
 use Rattle.serde_json.specs.Find.{get, as_bool, as_str, as_array, as_object}
 use Rattle.serde_json.specs.Written.{has_float, compact_text}
 use Rattle.workspace_record.specs.Records.{Text}
-use Rattle.record_files.specs.declared.error.ReadError.{ReadError}
-use Rattle.record_files.specs.declared.error.ReadError.TheVariants.{BadShape}
-use Rattle.record_files.specs.declared.field.Field.{Field}
+use Rattle.record_files.specs.Faults.{Fault, at_key}
+use Rattle.record_files.specs.declared.key.Key.{Key}
 use Rattle.record_files.specs.Keys.{key_of}
 use Rattle.record_files.specs.Outcomes.{◌>>=◌}
 
--- ---- one value; the field names a value of another kind
+-- ---- one value; the key is at fault where it is of another kind
 
 -- a text
-abbrev pub text_of : Field → Data → Result Text ReadError
-text_of field d = ok_or (as_str d) (BadShape field)
+abbrev pub text_of : Key → Data → Result Text Fault
+text_of key d = ok_or (as_str d) (at_key key)
 
 -- true or false
-abbrev pub flag_of : Field → Data → Result Bool ReadError
-flag_of field d = ok_or (as_bool d) (BadShape field)
+abbrev pub flag_of : Key → Data → Result Bool Fault
+flag_of key d = ok_or (as_bool d) (at_key key)
 
 -- the elements of a list
-abbrev pub items_of : Field → Data → Result Items ReadError
-items_of field d = ok_or (as_array d) (BadShape field)
+abbrev pub items_of : Key → Data → Result Items Fault
+items_of key d = ok_or (as_array d) (at_key key)
 
 -- an object, as it is
-abbrev pub object_of : Field → Data → Result Data ReadError
-object_of field d = if is_some (as_object d) then Ok d else Err (BadShape field)
+abbrev pub object_of : Key → Data → Result Data Fault
+object_of key d = if is_some (as_object d) then Ok d else Err (at_key key)
 
--- each element under `read`, by place; the first error counts
-abbrev pub each : {A : Type 0} → (Data → Result A ReadError) → Items → Result (List A) ReadError
+-- each element under `read`, by place; the first fault counts
+abbrev pub each : {A : Type 0} → (Data → Result A Fault) → Items → Result (List A) Fault
 each read no_items = Ok []
 each read (item d ds) = read d >>= λ x. each read ds >>= λ xs. Ok (x ∷ xs)
 
+-- the texts of elements, if each is a text
+abbrev pub each_text : Items → Option (List Text)
+each_text no_items = Some []
+each_text (item d ds) = option_and_then (λ t. option_map (λ ts. t ∷ ts) (each_text ds)) (as_str d)
+
+-- the texts of a list, if the value is one
+abbrev pub as_texts : Data → Option (List Text)
+as_texts d = option_and_then each_text (as_array d)
+
 -- a list of texts
-abbrev pub texts_of : Field → Data → Result (List Text) ReadError
-texts_of field d = items_of field d >>= each (text_of field)
+abbrev pub texts_of : Key → Data → Result (List Text) Fault
+texts_of key d = ok_or (as_texts d) (at_key key)
+
+-- the members of an object
+abbrev pub members_of : Key → Data → Result Members Fault
+members_of key d = ok_or (as_object d) (at_key key)
+
+-- each member under `read`, which takes its name too, ascending by name; the first fault counts
+abbrev pub each_member : {A : Type 0} → (Text → Data → Result A Fault) → Members → Result (List (Text × A)) Fault
+each_member read no_members = Ok []
+each_member read (member name d ms) = read name d >>= λ x. each_member read ms >>= λ xs. Ok ((name, x) ∷ xs)
 
 -- each element is an object
 abbrev pub all_objects : Items → Bool
@@ -43,12 +60,12 @@ all_objects no_items = true
 all_objects (item d ds) = is_some (as_object d) && all_objects ds
 
 -- the elements of a list of objects, as they are
-abbrev pub objects_of : Field → Data → Result Items ReadError
-objects_of field d = items_of field d >>= λ ds. if all_objects ds then Ok ds else Err (BadShape field)
+abbrev pub objects_of : Key → Data → Result Items Fault
+objects_of key d = items_of key d >>= λ ds. if all_objects ds then Ok ds else Err (at_key key)
 
 -- any value without a float, as JSON with no blanks
-abbrev pub json_of : Field → Data → Result Text ReadError
-json_of field d = if has_float d then Err (BadShape field) else Ok (compact_text d)
+abbrev pub json_of : Key → Data → Result Text Fault
+json_of key d = if has_float d then Err (at_key key) else Ok (compact_text d)
 
 -- ---- the value at a key of an object
 
@@ -66,75 +83,75 @@ abbrev pub present : Option Data → Option Data
 present None = None
 present (Some d) = unless_null d
 
--- the value that an object gives under a field's key, if any
-abbrev pub given : Field → Data → Option Data
-given field d = present (get (key_of field) d)
+-- the value that an object gives under a key's key, if any
+abbrev pub given : Key → Data → Option Data
+given key d = present (get (key_of key) d)
 
 -- what `required` gives for the value under the key
-abbrev pub required_in : {A : Type 0} → (Field → Data → Result A ReadError) → Field → Option Data → Result A ReadError
-required_in read field None = Err (BadShape field)
-required_in read field (Some d) = read field d
+abbrev pub required_in : {A : Type 0} → (Key → Data → Result A Fault) → Key → Option Data → Result A Fault
+required_in read key None = Err (at_key key)
+required_in read key (Some d) = read key d
 
 -- a value that has to be given
-abbrev pub required : {A : Type 0} → (Field → Data → Result A ReadError) → Field → Data → Result A ReadError
-required read field d = required_in read field (given field d)
+abbrev pub required : {A : Type 0} → (Key → Data → Result A Fault) → Key → Data → Result A Fault
+required read key d = required_in read key (given key d)
 
 -- what `optional` gives for the value under the key
-abbrev pub optional_in : {A : Type 0} → (Field → Data → Result A ReadError) → Field → Option Data → Result (Option A) ReadError
-optional_in read field None = Ok None
-optional_in read field (Some d) = read field d >>= λ x. Ok (Some x)
+abbrev pub optional_in : {A : Type 0} → (Key → Data → Result A Fault) → Key → Option Data → Result (Option A) Fault
+optional_in read key None = Ok None
+optional_in read key (Some d) = read key d >>= λ x. Ok (Some x)
 
 -- a value that may be absent
-abbrev pub optional : {A : Type 0} → (Field → Data → Result A ReadError) → Field → Data → Result (Option A) ReadError
-optional read field d = optional_in read field (given field d)
+abbrev pub optional : {A : Type 0} → (Key → Data → Result A Fault) → Key → Data → Result (Option A) Fault
+optional read key d = optional_in read key (given key d)
 
 -- what `otherwise` gives for the value under the key
-abbrev pub otherwise_in : {A : Type 0} → A → (Field → Data → Result A ReadError) → Field → Option Data → Result A ReadError
-otherwise_in default read field None = Ok default
-otherwise_in default read field (Some d) = read field d
+abbrev pub otherwise_in : {A : Type 0} → A → (Key → Data → Result A Fault) → Key → Option Data → Result A Fault
+otherwise_in default read key None = Ok default
+otherwise_in default read key (Some d) = read key d
 
 -- a value that is the default where it is absent
-abbrev pub otherwise : {A : Type 0} → A → (Field → Data → Result A ReadError) → Field → Data → Result A ReadError
-otherwise default read field d = otherwise_in default read field (given field d)
+abbrev pub otherwise : {A : Type 0} → A → (Key → Data → Result A Fault) → Key → Data → Result A Fault
+otherwise default read key d = otherwise_in default read key (given key d)
 
 -- ---- the shapes that the files use
 
 -- a text that has to be given
-abbrev pub text_at : Field → Data → Result Text ReadError
+abbrev pub text_at : Key → Data → Result Text Fault
 text_at = required text_of
 
 -- a text that may be absent
-abbrev pub optional_text_at : Field → Data → Result (Option Text) ReadError
+abbrev pub optional_text_at : Key → Data → Result (Option Text) Fault
 optional_text_at = optional text_of
 
 -- a text, or the default
-abbrev pub text_or : Text → Field → Data → Result Text ReadError
+abbrev pub text_or : Text → Key → Data → Result Text Fault
 text_or default = otherwise default text_of
 
 -- a list of texts; absent is empty
-abbrev pub texts_at : Field → Data → Result (List Text) ReadError
+abbrev pub texts_at : Key → Data → Result (List Text) Fault
 texts_at = otherwise [] texts_of
 
 -- a list of texts that may be absent
-abbrev pub optional_texts_at : Field → Data → Result (Option (List Text)) ReadError
+abbrev pub optional_texts_at : Key → Data → Result (Option (List Text)) Fault
 optional_texts_at = optional texts_of
 
 -- true or false, or the default
-abbrev pub flag_or : Bool → Field → Data → Result Bool ReadError
+abbrev pub flag_or : Bool → Key → Data → Result Bool Fault
 flag_or default = otherwise default flag_of
 
 -- an object that has to be given
-abbrev pub object_at : Field → Data → Result Data ReadError
+abbrev pub object_at : Key → Data → Result Data Fault
 object_at = required object_of
 
 -- a list of objects that has to be given
-abbrev pub objects_at : Field → Data → Result Items ReadError
+abbrev pub objects_at : Key → Data → Result Items Fault
 objects_at = required objects_of
 
 -- a list of objects; absent is empty
-abbrev pub objects_or_none : Field → Data → Result Items ReadError
+abbrev pub objects_or_none : Key → Data → Result Items Fault
 objects_or_none = otherwise no_items objects_of
 
 -- any value without a float that may be absent, as JSON with no blanks
-abbrev pub optional_json_at : Field → Data → Result (Option Text) ReadError
+abbrev pub optional_json_at : Key → Data → Result (Option Text) Fault
 optional_json_at = optional json_of

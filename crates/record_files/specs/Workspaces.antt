@@ -2,13 +2,13 @@
 use Rattle.std.specs.Prelude.{[], codes, Result, Ok}
 use Rattle.serde_json.specs.Data.{Data}
 use Rattle.workspace_record.specs.Records.{Text, Member, WorkspaceDetails, Group}
-use Rattle.record_files.specs.declared.error.ReadError.{ReadError}
-use Rattle.record_files.specs.declared.field.Field.TheVariants as key
+use Rattle.record_files.specs.Faults.{Fault}
+use Rattle.record_files.specs.declared.key.Key.TheVariants as key
 use Rattle.record_files.specs.Outcomes.{◌>>=◌}
 use Rattle.record_files.specs.Values.{each, text_at, optional_text_at, text_or, texts_at, objects_at, optional_json_at}
 
 -- a member: the id of a package, and its folder
-unfoldable pub member_of : Data → Result Member ReadError
+unfoldable pub member_of : Data → Result Member Fault
 member_of d = do
   package_id ← text_at key.Package d
   path ← text_at key.Path d
@@ -19,7 +19,7 @@ abbrev pub default_target_directory : Text
 default_target_directory = codes "target"
 
 -- a workspace: its own keys, and then its members
-unfoldable pub workspace_of : Data → Result WorkspaceDetails ReadError
+unfoldable pub workspace_of : Data → Result WorkspaceDetails Fault
 workspace_of d = do
   root ← text_or [] key.Root d
   target_directory ← text_or default_target_directory key.TargetDirectory d
@@ -31,7 +31,7 @@ workspace_of d = do
   Ok (record { root = root; target_directory = target_directory; build_directory = build_directory; members = members; default_members = default_members; metadata = metadata })
 
 -- a group of tests
-unfoldable pub group_of : Data → Result Group ReadError
+unfoldable pub group_of : Data → Result Group Fault
 group_of d = do
   name ← text_at key.Name d
   filter ← text_at key.Filter d

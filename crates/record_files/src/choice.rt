@@ -1,15 +1,15 @@
 ghost use Rattle.std.specs.Prelude.{◌≡◌, IfOk};
 ghost use Rattle.serde_json.specs.View.{view, items_view};
 ghost use Rattle.workspace_record.specs.LabelView.{label_view};
-ghost use Rattle.record_files.specs.declared.field.Field.TheVariants as key;
+ghost use Rattle.record_files.specs.declared.key.Key.TheVariants as key;
 ghost use Rattle.record_files.specs.Files.{ReadsFile};
 ghost use Rattle.record_files.specs.Outcomes.{Gives};
 ghost use Rattle.record_files.specs.Values.{each, otherwise};
 ghost use Rattle.record_files.specs.Choices.{standard_named, standard_of, label_of, extra_of, choice_of, choice_file};
 
 use crate::error::ReadError;
-use crate::field::Field;
 use crate::file::value_of;
+use crate::key::Key;
 use crate::object::{given, object_of, objects_or_none, text_at};
 use serde_json::Value;
 use std::alloc::{AllocError, Global};
@@ -25,7 +25,7 @@ pub fn read_choice(alloc: Global, bytes: &[u8]) -> Result<FeatureChoice, ReadErr
     ensures { ReadsFile (λ c. c) choice_file bytes.now result }
 {
     let value = value_of(alloc, bytes)?;
-    choice_of(alloc, object_of(&value, Field::File)?)
+    choice_of(alloc, object_of(&value, Key::File)?)
 }
 
 #[tactic(auto, unfolding(crate::specs::Choices::choice_of))]
@@ -33,18 +33,18 @@ fn choice_of(alloc: Global, value: &Value) -> Result<FeatureChoice, ReadError>
     ensures { Gives (λ c. c) result (choice_of (view value.now)) }
 {
     let standard = standard_at(value)?;
-    let extras = extras_of(alloc, objects_or_none(value, Field::Extras)?)?;
+    let extras = extras_of(alloc, objects_or_none(value, Key::Extras)?)?;
     Ok(FeatureChoice { standard, extras })
 }
 
 fn standard_at(value: &Value) -> Result<Standard, ReadError>
     ensures { Gives (λ s. s) result (otherwise Standard.Default standard_of key.Standard (view value.now)) }
 {
-    let Some(value) = given(value, Field::Standard) else {
+    let Some(value) = given(value, Key::Standard) else {
         return Ok(Standard::Default);
     };
     let standard = value.as_str().and_then(standard_named);
-    standard.ok_or(ReadError::BadShape(Field::Standard))
+    standard.ok_or(ReadError::at(Key::Standard))
 }
 
 fn standard_named(name: &str) -> Option<Standard>
@@ -72,8 +72,8 @@ fn extras_of(alloc: Global, values: &[Value]) -> Result<Vec<Feature>, ReadError>
 fn extra_of(alloc: Global, value: &Value) -> Result<Feature, ReadError>
     ensures { Gives (λ f. f) result (extra_of (view value.now)) }
 {
-    let package = text_at(alloc, value, Field::Package)?;
-    let feature = text_at(alloc, value, Field::Feature)?;
+    let package = text_at(alloc, value, Key::Package)?;
+    let feature = text_at(alloc, value, Key::Feature)?;
     let label = label_of(alloc, feature.as_str())?;
     Ok(Feature { package, label })
 }

@@ -7,7 +7,7 @@ ghost use Rattle.record_files.specs.Details.{origin_of, description_of, settings
 
 use crate::edition::DEFAULT_EDITION;
 use crate::error::ReadError;
-use crate::field::Field;
+use crate::key::Key;
 use crate::metadata::metadata_at;
 use crate::object::{optional_text_at, optional_texts_at, text_or, texts_at};
 use serde_json::Value;
@@ -26,51 +26,26 @@ pub(crate) fn details_of(alloc: Global, value: &Value) -> Result<PackageInfo, Re
 fn joined(origin: Origin, description: Description, settings: Settings) -> PackageInfo
     ensures { result ≡ joined origin description settings }
 {
-    let Origin {
-        source,
-        path,
-        manifest_path,
-        edition,
-        authors,
-        categories,
-        keywords,
-    } = origin;
-    let Description {
-        description,
-        license,
-        license_file,
-        readme,
-        repository,
-        homepage,
-        documentation,
-    } = description;
-    let Settings {
-        links,
-        default_run,
-        rust_version,
-        publish,
-        metadata,
-    } = settings;
     PackageInfo {
-        source,
-        path,
-        manifest_path,
-        edition,
-        authors,
-        categories,
-        keywords,
-        description,
-        license,
-        license_file,
-        readme,
-        repository,
-        homepage,
-        documentation,
-        links,
-        default_run,
-        rust_version,
-        publish,
-        metadata,
+        source: origin.source,
+        path: origin.path,
+        manifest_path: origin.manifest_path,
+        edition: origin.edition,
+        authors: origin.authors,
+        categories: origin.categories,
+        keywords: origin.keywords,
+        description: description.description,
+        license: description.license,
+        license_file: description.license_file,
+        readme: description.readme,
+        repository: description.repository,
+        homepage: description.homepage,
+        documentation: description.documentation,
+        links: settings.links,
+        default_run: settings.default_run,
+        rust_version: settings.rust_version,
+        publish: settings.publish,
+        metadata: settings.metadata,
     }
 }
 
@@ -107,13 +82,13 @@ impl Model for Origin {
 fn origin_of(alloc: Global, value: &Value) -> Result<Origin, ReadError>
     ensures { Gives (λ x. x) result (origin_of (view value.now)) }
 {
-    let source = optional_text_at(alloc, value, Field::Source)?;
-    let path = optional_text_at(alloc, value, Field::Path)?;
-    let manifest_path = text_or(alloc, value, Field::ManifestPath, "")?;
-    let edition = text_or(alloc, value, Field::Edition, DEFAULT_EDITION)?;
-    let authors = texts_at(alloc, value, Field::Authors)?;
-    let categories = texts_at(alloc, value, Field::Categories)?;
-    let keywords = texts_at(alloc, value, Field::Keywords)?;
+    let source = optional_text_at(alloc, value, Key::Source)?;
+    let path = optional_text_at(alloc, value, Key::Path)?;
+    let manifest_path = text_or(alloc, value, Key::ManifestPath, "")?;
+    let edition = text_or(alloc, value, Key::Edition, DEFAULT_EDITION)?;
+    let authors = texts_at(alloc, value, Key::Authors)?;
+    let categories = texts_at(alloc, value, Key::Categories)?;
+    let keywords = texts_at(alloc, value, Key::Keywords)?;
     Ok(Origin {
         source,
         path,
@@ -158,13 +133,13 @@ impl Model for Description {
 fn description_of(alloc: Global, value: &Value) -> Result<Description, ReadError>
     ensures { Gives (λ x. x) result (description_of (view value.now)) }
 {
-    let description = optional_text_at(alloc, value, Field::Description)?;
-    let license = optional_text_at(alloc, value, Field::License)?;
-    let license_file = optional_text_at(alloc, value, Field::LicenseFile)?;
-    let readme = optional_text_at(alloc, value, Field::Readme)?;
-    let repository = optional_text_at(alloc, value, Field::Repository)?;
-    let homepage = optional_text_at(alloc, value, Field::Homepage)?;
-    let documentation = optional_text_at(alloc, value, Field::Documentation)?;
+    let description = optional_text_at(alloc, value, Key::Description)?;
+    let license = optional_text_at(alloc, value, Key::License)?;
+    let license_file = optional_text_at(alloc, value, Key::LicenseFile)?;
+    let readme = optional_text_at(alloc, value, Key::Readme)?;
+    let repository = optional_text_at(alloc, value, Key::Repository)?;
+    let homepage = optional_text_at(alloc, value, Key::Homepage)?;
+    let documentation = optional_text_at(alloc, value, Key::Documentation)?;
     Ok(Description {
         description,
         license,
@@ -205,10 +180,10 @@ impl Model for Settings {
 fn settings_of(alloc: Global, value: &Value) -> Result<Settings, ReadError>
     ensures { Gives (λ x. x) result (settings_of (view value.now)) }
 {
-    let links = optional_text_at(alloc, value, Field::Links)?;
-    let default_run = optional_text_at(alloc, value, Field::DefaultRun)?;
-    let rust_version = optional_text_at(alloc, value, Field::RustVersion)?;
-    let publish = optional_texts_at(alloc, value, Field::Publish)?;
+    let links = optional_text_at(alloc, value, Key::Links)?;
+    let default_run = optional_text_at(alloc, value, Key::DefaultRun)?;
+    let rust_version = optional_text_at(alloc, value, Key::RustVersion)?;
+    let publish = optional_texts_at(alloc, value, Key::Publish)?;
     let metadata = metadata_at(alloc, value)?;
     Ok(Settings {
         links,

@@ -1,25 +1,32 @@
-//! The files of a workspace: its record, a choice of features, and listings of tests. Each is JSON,
-//! and is read whole or refused with the first fault.
+//! The files of a workspace: its record, a choice of features, a table of a platform, an account and
+//! listings of tests. Each is JSON, and is read whole or refused with the first fault;
+//! `docs/FORMATS.md` has their keys.
 
 #![tactic(auto)]
 
+mod account;
 mod choice;
 mod details;
 mod edition;
 mod error;
 mod field;
 mod file;
+mod key;
 mod link;
 mod listings;
 mod metadata;
 mod object;
 mod package;
 mod record;
+mod table;
 mod target;
 mod workspace;
 
+pub use crate::account::read_account;
 pub use crate::choice::read_choice;
 pub use crate::error::ReadError;
 pub use crate::field::Field;
+pub use crate::key::Key;
 pub use crate::listings::read_listings;
 pub use crate::record::read_record;
+pub use crate::table::read_table;

@@ -1,12 +1,12 @@
 ghost use Rattle.std.specs.Prelude.{◌≡◌};
 ghost use Rattle.serde_json.specs.View.{view, items_view};
-ghost use Rattle.record_files.specs.declared.field.Field.TheVariants as key;
+ghost use Rattle.record_files.specs.declared.key.Key.TheVariants as key;
 ghost use Rattle.record_files.specs.Outcomes.{Gives};
 ghost use Rattle.record_files.specs.Values.{each, otherwise};
 ghost use Rattle.record_files.specs.Links.{line_kind, line_kind_of, line_of, link_of};
 
 use crate::error::ReadError;
-use crate::field::Field;
+use crate::key::Key;
 use crate::object::{flag_or, given, objects_at, optional_text_at, text_at, text_or, texts_at};
 use serde_json::Value;
 use std::alloc::Global;
@@ -29,13 +29,13 @@ pub(crate) fn links_of(alloc: Global, values: &[Value]) -> Result<Vec<LinkRecord
 fn link_of(alloc: Global, value: &Value) -> Result<LinkRecord, ReadError>
     ensures { Gives (λ l. l) result (link_of (view value.now)) }
 {
-    let from = text_at(alloc, value, Field::From)?;
-    let to = text_at(alloc, value, Field::To)?;
-    let name = text_at(alloc, value, Field::Name)?;
-    let requirement = text_or(alloc, value, Field::Requirement, ANY_VERSION)?;
-    let registry = optional_text_at(alloc, value, Field::Registry)?;
-    let path = optional_text_at(alloc, value, Field::Path)?;
-    let lines = lines_of(alloc, objects_at(value, Field::Lines)?)?;
+    let from = text_at(alloc, value, Key::From)?;
+    let to = text_at(alloc, value, Key::To)?;
+    let name = text_at(alloc, value, Key::Name)?;
+    let requirement = text_or(alloc, value, Key::Requirement, ANY_VERSION)?;
+    let registry = optional_text_at(alloc, value, Key::Registry)?;
+    let path = optional_text_at(alloc, value, Key::Path)?;
+    let lines = lines_of(alloc, objects_at(value, Key::Lines)?)?;
     Ok(LinkRecord {
         from,
         to,
@@ -62,10 +62,10 @@ fn line_of(alloc: Global, value: &Value) -> Result<LineRecord, ReadError>
     ensures { Gives (λ l. l) result (line_of (view value.now)) }
 {
     let kind = line_kind_at(value)?;
-    let optional = flag_or(value, Field::Optional, false)?;
-    let default_features = flag_or(value, Field::DefaultFeatures, true)?;
-    let features = texts_at(alloc, value, Field::Features)?;
-    let spec = optional_text_at(alloc, value, Field::Spec)?;
+    let optional = flag_or(value, Key::Optional, false)?;
+    let default_features = flag_or(value, Key::DefaultFeatures, true)?;
+    let features = texts_at(alloc, value, Key::Features)?;
+    let spec = optional_text_at(alloc, value, Key::Spec)?;
     Ok(LineRecord {
         kind,
         optional,
@@ -78,11 +78,11 @@ fn line_of(alloc: Global, value: &Value) -> Result<LineRecord, ReadError>
 fn line_kind_at(value: &Value) -> Result<LineKind, ReadError>
     ensures { Gives (λ k. k) result (otherwise LineKind.Normal line_kind_of key.Kind (view value.now)) }
 {
-    let Some(value) = given(value, Field::Kind) else {
+    let Some(value) = given(value, Key::Kind) else {
         return Ok(LineKind::Normal);
     };
     let kind = value.as_str().and_then(line_kind);
-    kind.ok_or(ReadError::BadShape(Field::Kind))
+    kind.ok_or(ReadError::at(Key::Kind))
 }
 
 fn line_kind(name: &str) -> Option<LineKind>

@@ -1,20 +1,21 @@
 ghost use Rattle.std.specs.Prelude.{◌≡◌, map};
-ghost use Rattle.serde_json.specs.View.{members_view};
+ghost use Rattle.serde_json.specs.View.{view, members_view};
 ghost use Rattle.record_files.specs.Files.{ReadsFile};
 ghost use Rattle.record_files.specs.Outcomes.{Gives};
-ghost use Rattle.record_files.specs.Listings.{listing, each_listing, listings_file};
+ghost use Rattle.record_files.specs.Listings.{test_names, listing, listing_of, each_listing, listings_file};
 
 use crate::error::ReadError;
 use crate::field::Field;
 use crate::file::value_of;
-use crate::object::texts_of;
+use crate::key::Key;
+use crate::object::as_texts;
 use serde_json::{Map, Value};
 use std::alloc::Global;
 use std::collections::BTreeMap;
 
 /// Reads listings: under each binary's id, the list of its tests' names.
 ///
-/// The ids are no keys of the format, so that a wrong value under one is a fault of the file.
+/// A binary whose value is no list of texts, null included, is at fault and is named by its id.
 pub fn read_listings(
     alloc: Global,
     bytes: &[u8],
@@ -23,7 +24,7 @@ pub fn read_listings(
 {
     let value = value_of(alloc, bytes)?;
     match value.as_object() {
-        None => Err(ReadError::BadShape(Field::File)),
+        None => Err(ReadError::at(Key::File)),
         Some(members) => listings_of(alloc, members),
     }
 }
@@ -36,9 +37,21 @@ fn listings_of(
 {
     let mut listings = BTreeMap::new(alloc);
     for (id, value) in members.iter() {
-        let tests = texts_of(alloc, value, Field::File)?;
+        let tests = listing_of(alloc, id.as_str(), value)?;
         let id = String::from_str(alloc, id.as_str())?;
         drop(listings.insert(id, tests)?);
     }
     Ok(listings)
+}
+
+fn listing_of(alloc: Global, id: &str, value: &Value) -> Result<Vec<String>, ReadError>
+    ensures { Gives test_names result (listing_of id.now (view value.now)) }
+{
+    match as_texts(alloc, value)? {
+        Some(tests) => Ok(tests),
+        None => {
+            let id = String::from_str(alloc, id)?;
+            Err(ReadError::BadShape(Field::Binary(id)))
+        }
+    }
 }

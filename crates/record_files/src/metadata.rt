@@ -3,12 +3,12 @@
 ghost use Rattle.std.specs.Prelude.{◌≡◌, option_map, string_bytes};
 ghost use Rattle.serde_json.specs.View.{view, items_view, members_view};
 ghost use Rattle.serde_json.specs.Written.{has_float, items_have_float, members_have_float};
-ghost use Rattle.record_files.specs.declared.field.Field.TheVariants as key;
+ghost use Rattle.record_files.specs.declared.key.Key.TheVariants as key;
 ghost use Rattle.record_files.specs.Outcomes.{Gives};
 ghost use Rattle.record_files.specs.Values.{json_of, optional_json_at};
 
 use crate::error::ReadError;
-use crate::field::Field;
+use crate::key::Key;
 use crate::object::given;
 use serde_json::{Map, Value};
 use std::alloc::Global;
@@ -18,17 +18,17 @@ use std::alloc::Global;
 pub(crate) fn metadata_at(alloc: Global, value: &Value) -> Result<Option<String>, ReadError>
     ensures { Gives (option_map string_bytes) result (optional_json_at key.Metadata (view value.now)) }
 {
-    match given(value, Field::Metadata) {
+    match given(value, Key::Metadata) {
         None => Ok(None),
-        Some(value) => Ok(Some(json_of(alloc, value, Field::Metadata)?)),
+        Some(value) => Ok(Some(json_of(alloc, value, Key::Metadata)?)),
     }
 }
 
-fn json_of(alloc: Global, value: &Value, field: Field) -> Result<String, ReadError>
-    ensures { Gives string_bytes result (json_of field (view value.now)) }
+fn json_of(alloc: Global, value: &Value, key: Key) -> Result<String, ReadError>
+    ensures { Gives string_bytes result (json_of key (view value.now)) }
 {
     if has_float(value) {
-        return Err(ReadError::BadShape(field));
+        return Err(ReadError::at(key));
     }
     Ok(value.to_string(alloc)?)
 }

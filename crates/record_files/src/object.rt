@@ -1,139 +1,155 @@
 //! Values as texts, flags and lists, and the values at the keys of an object.
 
-ghost use Rattle.std.specs.Prelude.{◌≡◌, map, is_some, option_map, string_bytes};
+ghost use Rattle.std.specs.Prelude.{◌≡◌, IfOk, map, is_some, option_map, string_bytes};
 ghost use Rattle.std.specs.List.{list_all};
 ghost use Rattle.serde_json.specs.Find.{as_object};
 ghost use Rattle.serde_json.specs.View.{view, items_view};
 ghost use Rattle.record_files.specs.Outcomes.{Gives};
-ghost use Rattle.record_files.specs.Values.{given, text_of, each, text_at, optional_text_at, text_or, texts_of, texts_at, optional_texts_at, flag_or, object_of, object_at, objects_of, objects_at, objects_or_none};
+ghost use Rattle.record_files.specs.Values.{given, text_of, each_text, as_texts, text_at, optional_text_at, text_or, texts_of, texts_at, optional_texts_at, flag_of, flag_or, object_of, object_at, objects_of, objects_at, objects_or_none};
 
 use crate::error::ReadError;
-use crate::field::Field;
+use crate::key::Key;
 use serde_json::Value;
-use std::alloc::Global;
+use std::alloc::{AllocError, Global};
 
 /// The value under a key; null stands for none.
-pub(crate) fn given(value: &Value, field: Field) -> Option<&Value>
-    ensures { option_map (λ v. view v.now) result ≡ given field (view value.entry.now) }
+pub(crate) fn given(value: &Value, key: Key) -> Option<&Value>
+    ensures { option_map (λ v. view v.now) result ≡ given key (view value.entry.now) }
 {
-    match value.get(field.key()) {
+    match value.get(key.as_str()) {
         None | Some(Value::Null) => None,
         found => found,
     }
 }
 
-pub(crate) fn text_of(alloc: Global, value: &Value, field: Field) -> Result<String, ReadError>
-    ensures { Gives string_bytes result (text_of field (view value.now)) }
+pub(crate) fn text_of(alloc: Global, value: &Value, key: Key) -> Result<String, ReadError>
+    ensures { Gives string_bytes result (text_of key (view value.now)) }
 {
     match value.as_str() {
-        None => Err(ReadError::BadShape(field)),
+        None => Err(ReadError::at(key)),
         Some(text) => Ok(String::from_str(alloc, text)?),
     }
 }
 
-pub(crate) fn text_at(alloc: Global, value: &Value, field: Field) -> Result<String, ReadError>
-    ensures { Gives string_bytes result (text_at field (view value.now)) }
+pub(crate) fn text_at(alloc: Global, value: &Value, key: Key) -> Result<String, ReadError>
+    ensures { Gives string_bytes result (text_at key (view value.now)) }
 {
-    match given(value, field) {
-        None => Err(ReadError::BadShape(field)),
-        Some(value) => text_of(alloc, value, field),
+    match given(value, key) {
+        None => Err(ReadError::at(key)),
+        Some(value) => text_of(alloc, value, key),
     }
 }
 
 pub(crate) fn optional_text_at(
     alloc: Global,
     value: &Value,
-    field: Field,
+    key: Key,
 ) -> Result<Option<String>, ReadError>
-    ensures { Gives (option_map string_bytes) result (optional_text_at field (view value.now)) }
+    ensures { Gives (option_map string_bytes) result (optional_text_at key (view value.now)) }
 {
-    match given(value, field) {
+    match given(value, key) {
         None => Ok(None),
-        Some(value) => Ok(Some(text_of(alloc, value, field)?)),
+        Some(value) => Ok(Some(text_of(alloc, value, key)?)),
     }
 }
 
 pub(crate) fn text_or(
     alloc: Global,
     value: &Value,
-    field: Field,
+    key: Key,
     default: &str,
 ) -> Result<String, ReadError>
-    ensures { Gives string_bytes result (text_or default.now field (view value.now)) }
+    ensures { Gives string_bytes result (text_or default.now key (view value.now)) }
 {
-    match given(value, field) {
+    match given(value, key) {
         None => Ok(String::from_str(alloc, default)?),
-        Some(value) => text_of(alloc, value, field),
+        Some(value) => text_of(alloc, value, key),
     }
 }
 
-pub(crate) fn flag_or(value: &Value, field: Field, default: bool) -> Result<bool, ReadError>
-    ensures { Gives (λ b. b) result (flag_or default field (view value.now)) }
+pub(crate) fn flag_of(value: &Value, key: Key) -> Result<bool, ReadError>
+    ensures { Gives (λ b. b) result (flag_of key (view value.now)) }
 {
-    match given(value, field) {
+    value.as_bool().ok_or(ReadError::at(key))
+}
+
+pub(crate) fn flag_or(value: &Value, key: Key, default: bool) -> Result<bool, ReadError>
+    ensures { Gives (λ b. b) result (flag_or default key (view value.now)) }
+{
+    match given(value, key) {
         None => Ok(default),
-        Some(value) => value.as_bool().ok_or(ReadError::BadShape(field)),
+        Some(value) => flag_of(value, key),
     }
 }
 
-fn each_text(alloc: Global, values: &[Value], field: Field) -> Result<Vec<String>, ReadError>
-    ensures { Gives (λ v. map string_bytes v.items) result (each (text_of field) (items_view values.now)) }
+fn each_text(alloc: Global, values: &[Value]) -> Result<Option<Vec<String>>, AllocError>
+    ensures { IfOk result (λ o. option_map (λ v. map string_bytes v.items) o ≡ each_text (items_view values.now)) }
 {
     let mut texts = Vec::new(alloc);
     for value in values {
-        texts.push(text_of(alloc, value, field)?)?;
+        let Some(text) = value.as_str() else {
+            return Ok(None);
+        };
+        texts.push(String::from_str(alloc, text)?)?;
     }
-    Ok(texts)
+    Ok(Some(texts))
 }
 
-pub(crate) fn texts_of(alloc: Global, value: &Value, field: Field) -> Result<Vec<String>, ReadError>
-    ensures { Gives (λ v. map string_bytes v.items) result (texts_of field (view value.now)) }
+/// The texts of a list, if the value is one.
+pub(crate) fn as_texts(alloc: Global, value: &Value) -> Result<Option<Vec<String>>, AllocError>
+    ensures { IfOk result (λ o. option_map (λ v. map string_bytes v.items) o ≡ as_texts (view value.now)) }
 {
     match value.as_array() {
-        None => Err(ReadError::BadShape(field)),
-        Some(values) => each_text(alloc, values, field),
+        None => Ok(None),
+        Some(values) => each_text(alloc, values),
     }
 }
 
-pub(crate) fn texts_at(alloc: Global, value: &Value, field: Field) -> Result<Vec<String>, ReadError>
-    ensures { Gives (λ v. map string_bytes v.items) result (texts_at field (view value.now)) }
+pub(crate) fn texts_of(alloc: Global, value: &Value, key: Key) -> Result<Vec<String>, ReadError>
+    ensures { Gives (λ v. map string_bytes v.items) result (texts_of key (view value.now)) }
 {
-    match given(value, field) {
+    as_texts(alloc, value)?.ok_or(ReadError::at(key))
+}
+
+pub(crate) fn texts_at(alloc: Global, value: &Value, key: Key) -> Result<Vec<String>, ReadError>
+    ensures { Gives (λ v. map string_bytes v.items) result (texts_at key (view value.now)) }
+{
+    match given(value, key) {
         None => Ok(Vec::new(alloc)),
-        Some(value) => texts_of(alloc, value, field),
+        Some(value) => texts_of(alloc, value, key),
     }
 }
 
 pub(crate) fn optional_texts_at(
     alloc: Global,
     value: &Value,
-    field: Field,
+    key: Key,
 ) -> Result<Option<Vec<String>>, ReadError>
-    ensures { Gives (option_map (λ v. map string_bytes v.items)) result (optional_texts_at field (view value.now)) }
+    ensures { Gives (option_map (λ v. map string_bytes v.items)) result (optional_texts_at key (view value.now)) }
 {
-    match given(value, field) {
+    match given(value, key) {
         None => Ok(None),
-        Some(value) => Ok(Some(texts_of(alloc, value, field)?)),
+        Some(value) => Ok(Some(texts_of(alloc, value, key)?)),
     }
 }
 
 /// The value itself, if it is an object.
-pub(crate) fn object_of(value: &Value, field: Field) -> Result<&Value, ReadError>
-    ensures { Gives (λ v. view v.now) result (object_of field (view value.entry.now)) }
+pub(crate) fn object_of(value: &Value, key: Key) -> Result<&Value, ReadError>
+    ensures { Gives (λ v. view v.now) result (object_of key (view value.entry.now)) }
 {
     if value.is_object() {
         Ok(value)
     } else {
-        Err(ReadError::BadShape(field))
+        Err(ReadError::at(key))
     }
 }
 
-pub(crate) fn object_at(value: &Value, field: Field) -> Result<&Value, ReadError>
-    ensures { Gives (λ v. view v.now) result (object_at field (view value.entry.now)) }
+pub(crate) fn object_at(value: &Value, key: Key) -> Result<&Value, ReadError>
+    ensures { Gives (λ v. view v.now) result (object_at key (view value.entry.now)) }
 {
-    match given(value, field) {
-        None => Err(ReadError::BadShape(field)),
-        Some(value) => object_of(value, field),
+    match given(value, key) {
+        None => Err(ReadError::at(key)),
+        Some(value) => object_of(value, key),
     }
 }
 
@@ -144,30 +160,30 @@ fn all_objects(values: &[Value]) -> bool
 }
 
 #[tactic(auto, using(crate::proofs::Lists::all_objects_seen))]
-fn objects_of(value: &Value, field: Field) -> Result<&[Value], ReadError>
-    ensures { Gives (λ v. items_view v.now) result (objects_of field (view value.entry.now)) }
+fn objects_of(value: &Value, key: Key) -> Result<&[Value], ReadError>
+    ensures { Gives (λ v. items_view v.now) result (objects_of key (view value.entry.now)) }
 {
     match value.as_array() {
         Some(values) if all_objects(values) => Ok(values),
-        _ => Err(ReadError::BadShape(field)),
+        _ => Err(ReadError::at(key)),
     }
 }
 
-pub(crate) fn objects_at(value: &Value, field: Field) -> Result<&[Value], ReadError>
-    ensures { Gives (λ v. items_view v.now) result (objects_at field (view value.entry.now)) }
+pub(crate) fn objects_at(value: &Value, key: Key) -> Result<&[Value], ReadError>
+    ensures { Gives (λ v. items_view v.now) result (objects_at key (view value.entry.now)) }
 {
-    match given(value, field) {
-        None => Err(ReadError::BadShape(field)),
-        Some(value) => objects_of(value, field),
+    match given(value, key) {
+        None => Err(ReadError::at(key)),
+        Some(value) => objects_of(value, key),
     }
 }
 
 /// As `objects_at`, but absent is the empty list.
-pub(crate) fn objects_or_none(value: &Value, field: Field) -> Result<&[Value], ReadError>
-    ensures { Gives (λ v. items_view v.now) result (objects_or_none field (view value.entry.now)) }
+pub(crate) fn objects_or_none(value: &Value, key: Key) -> Result<&[Value], ReadError>
+    ensures { Gives (λ v. items_view v.now) result (objects_or_none key (view value.entry.now)) }
 {
-    match given(value, field) {
+    match given(value, key) {
         None => Ok(&[]),
-        Some(value) => objects_of(value, field),
+        Some(value) => objects_of(value, key),
     }
 }

@@ -6,7 +6,7 @@ ghost use Rattle.record_files.specs.Packages.{feature_of, contents_of, package_o
 
 use crate::details::details_of;
 use crate::error::ReadError;
-use crate::field::Field;
+use crate::key::Key;
 use crate::object::{objects_or_none, text_at, texts_at};
 use crate::target::targets_of;
 use serde_json::Value;
@@ -27,10 +27,10 @@ pub(crate) fn packages_of(alloc: Global, values: &[Value]) -> Result<Vec<Package
 fn package_of(alloc: Global, value: &Value) -> Result<PackageRecord, ReadError>
     ensures { Gives (λ p. p) result (package_of (view value.now)) }
 {
-    let id = text_at(alloc, value, Field::Id)?;
-    let name = text_at(alloc, value, Field::Name)?;
-    let version = text_at(alloc, value, Field::Version)?;
-    let optional = texts_at(alloc, value, Field::Optional)?;
+    let id = text_at(alloc, value, Key::Id)?;
+    let name = text_at(alloc, value, Key::Name)?;
+    let version = text_at(alloc, value, Key::Version)?;
+    let optional = texts_at(alloc, value, Key::Optional)?;
     let info = details_of(alloc, value)?;
     contents_of(alloc, value).map(|contents| PackageRecord {
         id,
@@ -50,8 +50,8 @@ fn contents_of(
 ) -> Result<(Vec<FeatureRecord>, Vec<TargetRecord>), ReadError>
     ensures { Gives (λ c. (c.0.items, c.1.items)) result (contents_of (view value.now)) }
 {
-    let feature_values = objects_or_none(value, Field::Features)?;
-    let target_values = objects_or_none(value, Field::Targets)?;
+    let feature_values = objects_or_none(value, Key::Features)?;
+    let target_values = objects_or_none(value, Key::Targets)?;
     let features = features_of(alloc, feature_values)?;
     let targets = targets_of(alloc, target_values)?;
     Ok((features, targets))
@@ -71,7 +71,7 @@ fn features_of(alloc: Global, values: &[Value]) -> Result<Vec<FeatureRecord>, Re
 fn feature_of(alloc: Global, value: &Value) -> Result<FeatureRecord, ReadError>
     ensures { Gives (λ f. f) result (feature_of (view value.now)) }
 {
-    let name = text_at(alloc, value, Field::Name)?;
-    let enables = texts_at(alloc, value, Field::Enables)?;
+    let name = text_at(alloc, value, Key::Name)?;
+    let enables = texts_at(alloc, value, Key::Enables)?;
     Ok(FeatureRecord { name, enables })
 }

@@ -5,8 +5,8 @@ ghost use Rattle.record_files.specs.Outcomes.{Gives};
 ghost use Rattle.record_files.specs.Records.{record_of, record_file};
 
 use crate::error::ReadError;
-use crate::field::Field;
 use crate::file::value_of;
+use crate::key::Key;
 use crate::link::links_of;
 use crate::object::{object_at, object_of, objects_at, objects_or_none, optional_text_at};
 use crate::package::packages_of;
@@ -27,18 +27,18 @@ pub fn read_record(alloc: Global, bytes: &[u8]) -> Result<WorkspaceRecord, ReadE
     ensures { ReadsFile (λ w. w) record_file bytes.now result }
 {
     let value = value_of(alloc, bytes)?;
-    record_of(alloc, object_of(&value, Field::File)?)
+    record_of(alloc, object_of(&value, Key::File)?)
 }
 
 #[tactic(auto, unfolding(crate::specs::Records::record_of))]
 fn record_of(alloc: Global, value: &Value) -> Result<WorkspaceRecord, ReadError>
     ensures { Gives (λ w. w) result (record_of (view value.now)) }
 {
-    let package_values = objects_at(value, Field::Packages)?;
-    let link_values = objects_or_none(value, Field::Links)?;
-    let workspace_value = object_at(value, Field::Workspace)?;
-    let group_values = objects_or_none(value, Field::Groups)?;
-    let default_filter = optional_text_at(alloc, value, Field::DefaultFilter)?;
+    let package_values = objects_at(value, Key::Packages)?;
+    let link_values = objects_or_none(value, Key::Links)?;
+    let workspace_value = object_at(value, Key::Workspace)?;
+    let group_values = objects_or_none(value, Key::Groups)?;
+    let default_filter = optional_text_at(alloc, value, Key::DefaultFilter)?;
     let packages = packages_of(alloc, package_values)?;
     let links = links_of(alloc, link_values)?;
     let workspace = workspace_of(alloc, workspace_value)?;

@@ -1,13 +1,13 @@
 ghost use Rattle.std.specs.Prelude.{◌≡◌};
 ghost use Rattle.serde_json.specs.View.{view, items_view};
-ghost use Rattle.record_files.specs.declared.field.Field.TheVariants as key;
+ghost use Rattle.record_files.specs.declared.key.Key.TheVariants as key;
 ghost use Rattle.record_files.specs.Outcomes.{Gives};
 ghost use Rattle.record_files.specs.Values.{each, required};
 ghost use Rattle.record_files.specs.Packages.{target_kind, target_kind_of, target_of};
 
 use crate::edition::DEFAULT_EDITION;
 use crate::error::ReadError;
-use crate::field::Field;
+use crate::key::Key;
 use crate::object::{flag_or, given, text_at, text_or, texts_at};
 use serde_json::Value;
 use std::alloc::Global;
@@ -28,14 +28,14 @@ fn target_of(alloc: Global, value: &Value) -> Result<TargetRecord, ReadError>
     ensures { Gives (λ t. t) result (target_of (view value.now)) }
 {
     let kind = target_kind_at(value)?;
-    let name = text_at(alloc, value, Field::Name)?;
-    let required_features = texts_at(alloc, value, Field::RequiredFeatures)?;
-    let tested = flag_or(value, Field::Tested, true)?;
-    let path = text_or(alloc, value, Field::Path, "")?;
-    let edition = text_or(alloc, value, Field::Edition, DEFAULT_EDITION)?;
-    let crate_types = texts_at(alloc, value, Field::CrateTypes)?;
-    let doc = flag_or(value, Field::Doc, false)?;
-    let doctest = flag_or(value, Field::Doctest, false)?;
+    let name = text_at(alloc, value, Key::Name)?;
+    let required_features = texts_at(alloc, value, Key::RequiredFeatures)?;
+    let tested = flag_or(value, Key::Tested, true)?;
+    let path = text_or(alloc, value, Key::Path, "")?;
+    let edition = text_or(alloc, value, Key::Edition, DEFAULT_EDITION)?;
+    let crate_types = texts_at(alloc, value, Key::CrateTypes)?;
+    let doc = flag_or(value, Key::Doc, false)?;
+    let doctest = flag_or(value, Key::Doctest, false)?;
     let info = TargetInfo {
         path,
         edition,
@@ -55,9 +55,9 @@ fn target_of(alloc: Global, value: &Value) -> Result<TargetRecord, ReadError>
 fn target_kind_at(value: &Value) -> Result<TargetKind, ReadError>
     ensures { Gives (λ k. k) result (required target_kind_of key.Kind (view value.now)) }
 {
-    let name = given(value, Field::Kind).and_then(Value::as_str);
+    let name = given(value, Key::Kind).and_then(Value::as_str);
     let kind = name.and_then(target_kind);
-    kind.ok_or(ReadError::BadShape(Field::Kind))
+    kind.ok_or(ReadError::at(Key::Kind))
 }
 
 fn target_kind(name: &str) -> Option<TargetKind>

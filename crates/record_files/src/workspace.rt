@@ -5,7 +5,7 @@ ghost use Rattle.record_files.specs.Values.{each};
 ghost use Rattle.record_files.specs.Workspaces.{member_of, workspace_of, group_of};
 
 use crate::error::ReadError;
-use crate::field::Field;
+use crate::key::Key;
 use crate::metadata::metadata_at;
 use crate::object::{objects_at, optional_text_at, text_at, text_or, texts_at};
 use serde_json::Value;
@@ -19,17 +19,12 @@ const DEFAULT_TARGET_DIRECTORY: &str = "target";
 pub(crate) fn workspace_of(alloc: Global, value: &Value) -> Result<WorkspaceInfo, ReadError>
     ensures { Gives (λ w. w) result (workspace_of (view value.now)) }
 {
-    let root = text_or(alloc, value, Field::Root, "")?;
-    let target_directory = text_or(
-        alloc,
-        value,
-        Field::TargetDirectory,
-        DEFAULT_TARGET_DIRECTORY,
-    )?;
-    let build_directory = optional_text_at(alloc, value, Field::BuildDirectory)?;
-    let default_members = texts_at(alloc, value, Field::DefaultMembers)?;
+    let root = text_or(alloc, value, Key::Root, "")?;
+    let target_directory = text_or(alloc, value, Key::TargetDirectory, DEFAULT_TARGET_DIRECTORY)?;
+    let build_directory = optional_text_at(alloc, value, Key::BuildDirectory)?;
+    let default_members = texts_at(alloc, value, Key::DefaultMembers)?;
     let metadata = metadata_at(alloc, value)?;
-    let members = members_of(alloc, objects_at(value, Field::Members)?)?;
+    let members = members_of(alloc, objects_at(value, Key::Members)?)?;
     Ok(WorkspaceInfo {
         root,
         target_directory,
@@ -54,8 +49,8 @@ fn members_of(alloc: Global, values: &[Value]) -> Result<Vec<MemberRecord>, Read
 fn member_of(alloc: Global, value: &Value) -> Result<MemberRecord, ReadError>
     ensures { Gives (λ m. m) result (member_of (view value.now)) }
 {
-    let package = text_at(alloc, value, Field::Package)?;
-    let path = text_at(alloc, value, Field::Path)?;
+    let package = text_at(alloc, value, Key::Package)?;
+    let path = text_at(alloc, value, Key::Path)?;
     Ok(MemberRecord { package, path })
 }
 
@@ -73,7 +68,7 @@ pub(crate) fn groups_of(alloc: Global, values: &[Value]) -> Result<Vec<GroupReco
 fn group_of(alloc: Global, value: &Value) -> Result<GroupRecord, ReadError>
     ensures { Gives (λ g. g) result (group_of (view value.now)) }
 {
-    let name = text_at(alloc, value, Field::Name)?;
-    let filter = text_at(alloc, value, Field::Filter)?;
+    let name = text_at(alloc, value, Key::Name)?;
+    let filter = text_at(alloc, value, Key::Filter)?;
     Ok(GroupRecord { name, filter })
 }

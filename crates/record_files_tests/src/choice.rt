@@ -1,4 +1,4 @@
-use record_files::{Field, ReadError, read_choice};
+use record_files::{Key, ReadError, read_choice};
 use std::test::Fail;
 use workspace_record::{Feature, FeatureChoice, Standard};
 
@@ -53,22 +53,36 @@ fn refuses_bad_choices(rt: HostRuntime) {
         let read = read_choice(alloc, file.as_bytes());
         assert_eq!(rt; read.err(), Some(ReadError::BadJson), "{file}");
     }
-    for (file, field) in [
-        ("[]", Field::File),
-        ("null", Field::File),
-        (r#"{"standard": "All"}"#, Field::Standard),
-        (r#"{"standard": true, "extras": 7}"#, Field::Standard),
-        (r#"{"extras": {}}"#, Field::Extras),
-        (r#"{"extras": [{}, null]}"#, Field::Extras),
-        (r#"{"extras": [{}]}"#, Field::Package),
-        (r#"{"extras": [{"feature": ""}]}"#, Field::Package),
-        (r#"{"extras": [{"package": "a"}]}"#, Field::Feature),
+    for (file, key) in [
+        ("[]", Key::File),
+        ("null", Key::File),
+        (r#"{"standard": "All"}"#, Key::Standard),
+        (r#"{"standard": true, "extras": 7}"#, Key::Standard),
+        (r#"{"extras": 7, "standard": ""}"#, Key::Standard),
+        (r#"{"extras": [{}], "standard": ["all"]}"#, Key::Standard),
+        (r#"{"extras": {}}"#, Key::Extras),
+        (r#"{"extras": [{}, null]}"#, Key::Extras),
+        (r#"{"extras": [{}]}"#, Key::Package),
+        (
+            r#"{"extras": [{"package": 7, "feature": 7}, {}]}"#,
+            Key::Package,
+        ),
+        (
+            r#"{"extras": [{"package": null, "feature": "f"}]}"#,
+            Key::Package,
+        ),
+        (
+            r#"{"extras": [{"package": "a", "feature": "f"}, {"package": "a", "feature": []}]}"#,
+            Key::Feature,
+        ),
+        (r#"{"extras": [{"feature": ""}]}"#, Key::Package),
+        (r#"{"extras": [{"package": "a"}]}"#, Key::Feature),
         (
             r#"{"extras": [{"package": "a", "feature": null}]}"#,
-            Field::Feature,
+            Key::Feature,
         ),
     ] {
         let read = read_choice(alloc, file.as_bytes());
-        assert_eq!(rt; read.err(), Some(ReadError::BadShape(field)), "{file}");
+        assert_eq!(rt; read.err(), Some(ReadError::at(key)), "{file}");
     }
 }

@@ -178,6 +178,34 @@ const DEFAULTS: &str = r#"{
     "default_filter": null
 }"#;
 
+const NULLS: &str = r#"{
+    "packages": [{
+        "id": "app", "name": "a", "version": "1.0.0", "optional": null, "source": null,
+        "path": null, "manifest_path": null, "edition": null, "authors": null,
+        "categories": null, "keywords": null, "description": null, "license": null,
+        "license_file": null, "readme": null, "repository": null, "homepage": null,
+        "documentation": null, "links": null, "default_run": null, "rust_version": null,
+        "publish": null, "metadata": null, "features": [{"name": "f", "enables": null}],
+        "targets": [{
+            "kind": "build-script", "name": "t", "required_features": null, "tested": null,
+            "path": null, "edition": null, "crate_types": null, "doc": null, "doctest": null
+        }]
+    }],
+    "links": [{
+        "from": "app", "to": "log", "name": "l", "requirement": null, "registry": null,
+        "path": null,
+        "lines": [
+            {"optional": null, "default_features": null, "features": null, "spec": null},
+            {"kind": "build"}
+        ]
+    }],
+    "workspace": {
+        "root": null, "target_directory": null, "build_directory": null,
+        "default_members": null, "metadata": null, "members": []
+    },
+    "groups": null, "default_filter": null
+}"#;
+
 fn default_package(alloc: Global) -> Result<PackageRecord, ReadError> {
     let mut features = Vec::new(alloc);
     features.push(FeatureRecord {
@@ -255,6 +283,36 @@ fn fills_in_defaults(rt: HostRuntime) -> Result<(), Fail> {
         groups: Vec::new(alloc),
         default_filter: None,
     };
-    assert_eq!(rt; read_record(alloc, DEFAULTS.as_bytes())?, want);
+    for file in [DEFAULTS, NULLS] {
+        assert_eq!(rt; read_record(alloc, file.as_bytes())?, want);
+    }
+    Ok(())
+}
+
+#[test]
+fn reads_the_smallest_record(rt: HostRuntime) -> Result<(), Fail> {
+    let alloc = rt.alloc();
+    let workspace = WorkspaceInfo {
+        root: text(alloc, "")?,
+        target_directory: text(alloc, "target")?,
+        build_directory: None,
+        members: Vec::new(alloc),
+        default_members: Vec::new(alloc),
+        metadata: None,
+    };
+    let want = WorkspaceRecord {
+        packages: Vec::new(alloc),
+        links: Vec::new(alloc),
+        workspace,
+        groups: Vec::new(alloc),
+        default_filter: None,
+    };
+    for file in [
+        r#"{"packages":[],"workspace":{"members":[]}}"#,
+        r#"{"packages": [], "links": null, "workspace": {"members": []}, "x": {"packages": 7}}"#,
+        r#"{"packages": 7, "workspace": {"members": 7}, "workspace": {"members": []}, "packages": []}"#,
+    ] {
+        assert_eq!(rt; read_record(alloc, file.as_bytes())?, want, "{file}");
+    }
     Ok(())
 }

@@ -1,74 +1,57 @@
-use record_files::{Field, ReadError, read_record};
+use record_files::{Key, ReadError, read_record};
 use std::test::Fail;
 
-#[test]
-fn refuses_what_is_no_json(rt: HostRuntime) -> Result<(), Fail> {
-    let alloc = rt.alloc();
-    for file in [
-        b"".as_slice(),
-        b" ",
-        b"{\"packages\": []",
-        b"{}}",
-        b"{\"a\": \"\xff\"}",
-    ] {
-        assert_eq!(rt; read_record(alloc, file).err(), Some(ReadError::BadJson));
-    }
-    for (depth, error) in [
-        (127, ReadError::BadShape(Field::File)),
-        (128, ReadError::BadJson),
-    ] {
-        let mut file = Vec::new(alloc);
-        for _ in 0..depth {
-            file.push(b'[')?;
-        }
-        for _ in 0..depth {
-            file.push(b']')?;
-        }
-        assert_eq!(rt; read_record(alloc, &file).err(), Some(error), "{depth}");
-    }
-    Ok(())
-}
+/// A file with one or more faults, and the key of the first.
+const RECORDS: [(&str, Key); 17] = [
+    ("[]", Key::File),
+    ("null", Key::File),
+    ("{}", Key::Packages),
+    (r#"{"packages": {}, "links": 7}"#, Key::Packages),
+    (r#"{"packages": [null]}"#, Key::Packages),
+    (r#"{"packages": [{}, "x"], "links": 7}"#, Key::Packages),
+    (r#"{"packages": [{}], "links": [[]]}"#, Key::Links),
+    (
+        r#"{"packages": [], "workspace": {}, "packages": 7}"#,
+        Key::Packages,
+    ),
+    (
+        r#"{"packages": 7, "workspace": {}, "packages": []}"#,
+        Key::Members,
+    ),
+    (r#"{"packages": [{}], "groups": 7}"#, Key::Workspace),
+    (r#"{"packages": [{}], "workspace": []}"#, Key::Workspace),
+    (
+        r#"{"packages": [{}], "workspace": {}, "groups": 7}"#,
+        Key::Groups,
+    ),
+    (
+        r#"{"packages": [{}], "workspace": {}, "default_filter": 7}"#,
+        Key::DefaultFilter,
+    ),
+    (
+        r#"{"packages": [{}], "links": [{}], "workspace": {}}"#,
+        Key::Id,
+    ),
+    (
+        r#"{"packages": [], "links": [{}], "workspace": {}}"#,
+        Key::From,
+    ),
+    (
+        r#"{"packages": [], "workspace": {}, "groups": [{}]}"#,
+        Key::Members,
+    ),
+    (
+        r#"{"packages": [], "workspace": {"members": []}, "groups": [{}]}"#,
+        Key::Name,
+    ),
+];
 
 #[test]
 fn names_the_first_fault_of_a_record(rt: HostRuntime) {
     let alloc = rt.alloc();
-    for (file, field) in [
-        ("[]", Field::File),
-        ("null", Field::File),
-        ("{}", Field::Packages),
-        (r#"{"packages": {}, "links": 7}"#, Field::Packages),
-        (r#"{"packages": [null]}"#, Field::Packages),
-        (r#"{"packages": [{}, "x"], "links": 7}"#, Field::Packages),
-        (r#"{"packages": [{}], "links": [[]]}"#, Field::Links),
-        (r#"{"packages": [{}], "groups": 7}"#, Field::Workspace),
-        (r#"{"packages": [{}], "workspace": []}"#, Field::Workspace),
-        (
-            r#"{"packages": [{}], "workspace": {}, "groups": 7}"#,
-            Field::Groups,
-        ),
-        (
-            r#"{"packages": [{}], "workspace": {}, "default_filter": 7}"#,
-            Field::DefaultFilter,
-        ),
-        (
-            r#"{"packages": [{}], "links": [{}], "workspace": {}}"#,
-            Field::Id,
-        ),
-        (
-            r#"{"packages": [], "links": [{}], "workspace": {}}"#,
-            Field::From,
-        ),
-        (
-            r#"{"packages": [], "workspace": {}, "groups": [{}]}"#,
-            Field::Members,
-        ),
-        (
-            r#"{"packages": [], "workspace": {"members": []}, "groups": [{}]}"#,
-            Field::Name,
-        ),
-    ] {
+    for (file, key) in RECORDS {
         let read = read_record(alloc, file.as_bytes());
-        assert_eq!(rt; read.err(), Some(ReadError::BadShape(field)), "{file}");
+        assert_eq!(rt; read.err(), Some(ReadError::at(key)), "{file}");
     }
 }
 
@@ -76,78 +59,38 @@ fn names_the_first_fault_of_a_record(rt: HostRuntime) {
 fn names_the_first_fault_of_a_package(rt: HostRuntime) -> Result<(), Fail> {
     let alloc = rt.alloc();
     let own = r#""id": "a", "name": "a", "version": "1""#;
-    for (members, field) in [
-        (r#""features": [], "targets": [7, {}]"#, Field::Targets),
-        (r#""features": [{}], "targets": 7"#, Field::Targets),
-        (r#""features": [{}], "targets": [{}]"#, Field::Name),
+    for (members, key) in [
+        (r#""features": [], "targets": [7, {}]"#, Key::Targets),
+        (r#""features": [{}], "targets": 7"#, Key::Targets),
+        (r#""features": [{}], "targets": [{}]"#, Key::Name),
         (
             r#""features": [{"name": "f", "enables": [null]}]"#,
-            Field::Enables,
+            Key::Enables,
         ),
-        (r#""targets": [{}]"#, Field::Kind),
-        (r#""targets": [{"kind": "Lib", "name": "t"}]"#, Field::Kind),
-        (r#""targets": [{"kind": "lib"}]"#, Field::Name),
+        (r#""targets": [{}]"#, Key::Kind),
+        (r#""targets": [{"kind": "Lib", "name": "t"}]"#, Key::Kind),
+        (r#""targets": [{"kind": "lib"}]"#, Key::Name),
         (
             r#""targets": [{"kind": "test", "name": "t", "doctest": 0}]"#,
-            Field::Doctest,
+            Key::Doctest,
         ),
         (
             r#""targets": [{"kind": "bench", "name": "t", "tested": "no"}]"#,
-            Field::Tested,
+            Key::Tested,
         ),
-        (r#""publish": [], "metadata": 1.0"#, Field::Metadata),
-        (r#""metadata": -0"#, Field::Metadata),
-        (r#""metadata": 18446744073709551616"#, Field::Metadata),
+        (r#""publish": [], "metadata": 1.0"#, Key::Metadata),
+        (r#""metadata": -0"#, Key::Metadata),
+        (r#""metadata": 18446744073709551616"#, Key::Metadata),
         (
             r#""metadata": {"a": [-9223372036854775809]}"#,
-            Field::Metadata,
+            Key::Metadata,
         ),
-        (r#""optional": ["x", null]"#, Field::Optional),
+        (r#""optional": ["x", null]"#, Key::Optional),
     ] {
         let (head, tail) = (r#"{"workspace": {}, "packages": [{"#, "}, {}]}");
         let file = format!(in alloc; "{head}{own}, {members}{tail}")?;
         let read = read_record(alloc, file.as_bytes());
-        assert_eq!(rt; read.err(), Some(ReadError::BadShape(field)), "{file}");
-    }
-    Ok(())
-}
-
-#[test]
-fn names_each_key_of_a_package(rt: HostRuntime) -> Result<(), Fail> {
-    let alloc = rt.alloc();
-    let mut members = String::from_str(alloc, r#""targets": 7, "features": 7"#)?;
-    for field in [
-        Field::Metadata,
-        Field::Publish,
-        Field::RustVersion,
-        Field::DefaultRun,
-        Field::Links,
-        Field::Documentation,
-        Field::Homepage,
-        Field::Repository,
-        Field::Readme,
-        Field::LicenseFile,
-        Field::License,
-        Field::Description,
-        Field::Keywords,
-        Field::Categories,
-        Field::Authors,
-        Field::Edition,
-        Field::ManifestPath,
-        Field::Path,
-        Field::Source,
-        Field::Optional,
-        Field::Version,
-        Field::Name,
-        Field::Id,
-    ] {
-        let wrong = format!(in alloc; "{members}, \"{field}\": 0.5")?;
-        let (head, tail) = (r#"{"workspace": {}, "packages": [{"#, "}]}");
-        let own = r#""id": "a", "name": "a", "version": "1", "#;
-        let file = format!(in alloc; "{head}{own}{wrong}{tail}")?;
-        let read = read_record(alloc, file.as_bytes());
-        assert_eq!(rt; read.err(), Some(ReadError::BadShape(field)), "{file}");
-        members = wrong;
+        assert_eq!(rt; read.err(), Some(ReadError::at(key)), "{file}");
     }
     Ok(())
 }
@@ -156,29 +99,29 @@ fn names_each_key_of_a_package(rt: HostRuntime) -> Result<(), Fail> {
 fn names_the_first_fault_of_a_link(rt: HostRuntime) -> Result<(), Fail> {
     let alloc = rt.alloc();
     let own = r#""from": "a", "to": "b", "name": "b""#;
-    for (members, field) in [
-        (r#""lines": []"#, Field::Members),
-        (r#""path": "x""#, Field::Lines),
-        (r#""lines": null"#, Field::Lines),
-        (r#""lines": [{"kind": 7}, null]"#, Field::Lines),
-        (r#""lines": [{"kind": 7}], "path": []"#, Field::Path),
-        (r#""registry": 7, "requirement": 7"#, Field::Requirement),
-        (r#""lines": [{"kind": "test"}]"#, Field::Kind),
+    for (members, key) in [
+        (r#""lines": []"#, Key::Members),
+        (r#""path": "x""#, Key::Lines),
+        (r#""lines": null"#, Key::Lines),
+        (r#""lines": [{"kind": 7}, null]"#, Key::Lines),
+        (r#""lines": [{"kind": 7}], "path": []"#, Key::Path),
+        (r#""registry": 7, "requirement": 7"#, Key::Requirement),
+        (r#""lines": [{"kind": "test"}]"#, Key::Kind),
         (
             r#""lines": [{"kind": null, "optional": "true"}]"#,
-            Field::Optional,
+            Key::Optional,
         ),
         (
             r#""lines": [{}, {"default_features": 1, "features": 7}]"#,
-            Field::DefaultFeatures,
+            Key::DefaultFeatures,
         ),
-        (r#""lines": [{"spec": []}, {"kind": 7}]"#, Field::Spec),
-        (r#""name": 7"#, Field::Name),
+        (r#""lines": [{"spec": []}, {"kind": 7}]"#, Key::Spec),
+        (r#""name": 7"#, Key::Name),
     ] {
         let (head, tail) = (r#"{"packages": [], "workspace": {}, "links": [{"#, "}]}");
         let file = format!(in alloc; "{head}{own}, {members}{tail}")?;
         let read = read_record(alloc, file.as_bytes());
-        assert_eq!(rt; read.err(), Some(ReadError::BadShape(field)), "{file}");
+        assert_eq!(rt; read.err(), Some(ReadError::at(key)), "{file}");
     }
     Ok(())
 }
@@ -186,26 +129,26 @@ fn names_the_first_fault_of_a_link(rt: HostRuntime) -> Result<(), Fail> {
 #[test]
 fn names_the_first_fault_of_a_workspace(rt: HostRuntime) -> Result<(), Fail> {
     let alloc = rt.alloc();
-    for (members, field) in [
-        (r#""members": null"#, Field::Members),
-        (r#""members": [{}, 7], "root": 7"#, Field::Root),
-        (r#""members": [{}, 7]"#, Field::Members),
-        (r#""members": [{"path": "x"}]"#, Field::Package),
-        (r#""members": [{"package": "x"}]"#, Field::Path),
+    for (members, key) in [
+        (r#""members": null"#, Key::Members),
+        (r#""members": [{}, 7], "root": 7"#, Key::Root),
+        (r#""members": [{}, 7]"#, Key::Members),
+        (r#""members": [{"path": "x"}]"#, Key::Package),
+        (r#""members": [{"package": "x"}]"#, Key::Path),
         (
             r#""members": [{}], "target_directory": 7"#,
-            Field::TargetDirectory,
+            Key::TargetDirectory,
         ),
         (
             r#""members": [{}], "build_directory": 7"#,
-            Field::BuildDirectory,
+            Key::BuildDirectory,
         ),
         (
             r#""members": [{}], "default_members": [7]"#,
-            Field::DefaultMembers,
+            Key::DefaultMembers,
         ),
-        (r#""members": [{}], "metadata": [0.5]"#, Field::Metadata),
-        (r#""members": [], "metadata": [5]"#, Field::Filter),
+        (r#""members": [{}], "metadata": [0.5]"#, Key::Metadata),
+        (r#""members": [], "metadata": [5]"#, Key::Filter),
     ] {
         let (head, tail) = (
             r#"{"packages": [], "workspace": {"#,
@@ -213,7 +156,7 @@ fn names_the_first_fault_of_a_workspace(rt: HostRuntime) -> Result<(), Fail> {
         );
         let file = format!(in alloc; "{head}{members}{tail}")?;
         let read = read_record(alloc, file.as_bytes());
-        assert_eq!(rt; read.err(), Some(ReadError::BadShape(field)), "{file}");
+        assert_eq!(rt; read.err(), Some(ReadError::at(key)), "{file}");
     }
     Ok(())
 }

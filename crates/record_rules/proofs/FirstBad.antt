@@ -1,5 +1,5 @@
 -- Texts seen one after another, until one fails a test or was seen before.
-use Rattle.std.proofs.Common.{◌≡◌, ℕ, ◌+◌, ◌<◌, Bool, true, false, not, ◌||◌, List, [], ◌∷◌, ◌++◌, Option, Some, None, length, get_or, take, drop, map, refl, sym, ◌∙◌, ap, subst, ◌↔◌, append-nil, append_assoc, add-one, take-append-drop, length-take, arith, Contains, is_eq, if◌then◌else◌, Bor}
+use Rattle.std.proofs.Common.{◌≡◌, ℕ, ◌+◌, ◌<◌, Bool, true, false, not, ◌||◌, List, [], ◌∷◌, ◌++◌, Option, Some, None, length, get_or, take, drop, map, refl, sym, ◌∙◌, ap, subst, ◌↔◌, append-nil, append_assoc, add-one, take-append-drop, length-take, arith, Contains, is_eq, if◌then◌else◌, Bor, ⊎_elim, true≢false}
 use Rattle.std.specs.List.{list_any}
 use Rattle.std.specs.Option.{option_map}
 use Rattle.std.specs.Str.{bytes_eq}
@@ -11,10 +11,11 @@ use Rattle.std.proofs.lemmas.Map.Views.{tells_apart}
 use Rattle.list_facts.specs.Ascending.{text_cmp}
 use Rattle.list_facts.proofs.Ascending.{text_total, text_exact}
 use Rattle.list_facts.proofs.Lists.{map-take_more}
+use Rattle.list_facts.proofs.Membership.{Contains-none, Contains-first, Contains-cons_cases, Contains-append_left, Contains-append_right}
 use Rattle.list_facts.proofs.Quantifiers.{list_any_cases, list_any-from_Contains}
 use Rattle.test_lister.proofs.Repeats.{seen_more, found, not_found}
 use Rattle.workspace_record.specs.Records.{Text}
-use Rattle.record_rules.specs.RecordRules.{first_bad_after, first_bad}
+use Rattle.record_rules.specs.RecordRules.{first_bad_after, first_bad, first_repeat}
 
 -- equal texts are the same
 same_text : (x y : Text) → bytes_eq x y ≡ true → x ≡ y
@@ -120,3 +121,27 @@ module _ (test : Text → Bool) where
   pub fails_at : (keys xs : List (Bor Text)) (i : ℕ) (d : Bor Text) → HoldsLent keys (lent (take i xs)) → i < length xs → test (get_or xs i d).now ≡ false → Some i ≡ first_bad test (lent xs)
   fails_at keys xs i d held lt fails =
       sym (failure_at (λ (k : Bor Text). k.now) keys (lent xs) i (get_or xs i d).now (subst (HoldsLent keys) (sym (take-map (λ (k : Bor Text). k.now) i xs)) held) fails (lent_within xs i lt) (lent_at xs i d lt))
+
+not_stands : (seen : List Text) (x : Text) → is_bad (λ _. true) seen x ≡ false → Contains seen x → ⊥
+not_stands seen x good h = true≢false (sym (stands_among seen x h) ∙ good)
+
+-- Where no text stands twice, what has the text is told by it.
+module _ {X : Type 0} (f : X → Text) where
+  apart : (seen : List Text) (xs : List X) → first_bad_after (λ _. true) seen (map f xs) ≡ None → ((a : X) → Contains xs a → Contains seen (f a) → ⊥) × ((a b : X) → Contains xs a → Contains xs b → f a ≡ f b → a ≡ b)
+  apart seen [] none = (λ a inside. absurd (Contains-none a inside), λ a b inside. absurd (Contains-none a inside))
+  apart seen (x ∷ xs) none =
+      let both = none_here (is_bad (λ _. true) seen (f x)) (first_bad_after (λ _. true) (seen ++ f x ∷ []) (map f xs)) none in
+      let rest = apart (seen ++ f x ∷ []) xs both.1 in
+      let is_seen : Contains (seen ++ f x ∷ []) (f x) = Contains-append_right seen (f x ∷ []) (f x) (Contains-first (f x) []) in
+      let later : (a : X) → Contains xs a → f a ≡ f x → ⊥ = λ a inside e. rest.0 a inside (subst (Contains (seen ++ f x ∷ [])) (sym e) is_seen) in
+      let unseen : (a : X) → Contains (x ∷ xs) a → Contains seen (f a) → ⊥ = λ a inside.
+      ⊎_elim (λ e h. not_stands seen (f x) both.0 (subst (λ y. Contains seen (f y)) (sym e) h)) (λ i h. rest.0 a i (Contains-append_left seen (f x ∷ []) (f a) h)) (Contains-cons_cases x xs a inside) in
+      let told : (a b : X) → Contains (x ∷ xs) a → Contains (x ∷ xs) b → f a ≡ f b → a ≡ b = λ a b first second same.
+      ⊎_elim
+      (λ e. ⊎_elim (λ d. sym e ∙ d) (λ j. absurd (later b j (sym same ∙ ap f (sym e)))) (Contains-cons_cases x xs b second))
+      (λ i. ⊎_elim (λ d. absurd (later a i (same ∙ ap f (sym d)))) (λ j. rest.1 a b i j same) (Contains-cons_cases x xs b second))
+      (Contains-cons_cases x xs a first) in
+      (unseen, told)
+
+  pub told_by : (xs : List X) → first_repeat (map f xs) ≡ None → (a b : X) → Contains xs a → Contains xs b → f a ≡ f b → a ≡ b
+  told_by xs none = (apart [] xs none).1

@@ -1,3 +1,4 @@
 pub mod Binaries
+pub mod BinaryOrder
 pub mod BinaryView
 pub mod RecordRules

@@ -2,23 +2,74 @@
 
 ghost use Rattle.std.specs.Prelude.{◌≡◌, ◌++◌, OnOk, IfOk, map, filter, string_bytes};
 ghost use Rattle.feature_account.specs.Lines.{is_member};
-ghost use Rattle.record_rules.specs.Binaries.{binary_id, may_have_tests, binaries_of, binaries};
+ghost use Rattle.record_rules.specs.Binaries.{binary_id, may_have_tests, platform_of, binaries_of, binaries};
 ghost use Rattle.record_rules.specs.BinaryView.{binary_view};
 
 use feature_account::lines::is_member;
 use std::alloc::{AllocError, Global};
+use std::cmp::Ordering;
+use test_lister::BuildPlatform;
 use workspace_record::{PackageRecord, TargetKind, TargetRecord, WorkspaceRecord};
 
-/// A target of a package, which is built into a test binary under an id of its own.
+/// A target of a package, which is built into a test binary under an id of its own. Binaries are
+/// compared by their ids, which are distinct in a record that keeps the rules.
 #[derive(Drop)]
-pub(crate) struct TestBinary<'a> {
-    pub(crate) id: String,
-    pub(crate) row: &'a PackageRecord,
-    pub(crate) target: &'a TargetRecord,
+pub struct TestBinary<'a> {
+    pub id: String,
+    pub row: &'a PackageRecord,
+    pub target: &'a TargetRecord,
+}
+
+impl PartialEq for TestBinary<'_> {
+    ghost use Rattle.record_rules.specs.BinaryOrder.{same_id, same_id_laws};
+
+    ghost eq = { same_id };
+
+    ghost laws = { same_id_laws };
+
+    fn eq(&self, other: &Self) -> bool {
+        self.id == other.id
+    }
+}
+
+impl Eq for TestBinary<'_> {
+    ghost use Rattle.record_rules.specs.BinaryOrder.{same_id_equivalence};
+
+    ghost laws = { same_id_equivalence };
+}
+
+impl PartialOrd for TestBinary<'_> {
+    ghost use Rattle.std.specs.Ordering.{as_partial_cmp};
+    ghost use Rattle.record_rules.specs.BinaryOrder.{id_cmp, id_cmp_laws};
+
+    ghost partial_cmp = { as_partial_cmp id_cmp };
+
+    ghost laws = { id_cmp_laws };
+
+    fn partial_cmp(&self, other: &Self) -> Option<Ordering> {
+        Some(self.cmp(other))
+    }
+}
+
+impl Ord for TestBinary<'_> {
+    ghost use Rattle.std.proofs.Common.{refl};
+    ghost use Rattle.record_rules.specs.BinaryOrder.{id_cmp, id_cmp_total, ids_tie};
+
+    ghost cmp = { id_cmp };
+
+    ghost total = { id_cmp_total };
+
+    ghost matches_partial_cmp = { λ a b. refl };
+
+    ghost matches_eq = { ids_tie };
+
+    fn cmp(&self, other: &Self) -> Ordering {
+        self.id.cmp(&other.id)
+    }
 }
 
 /// The test binaries of the members, by package and then target.
-pub(crate) fn binaries<'a>(
+pub fn binaries<'a>(
     alloc: Global,
     record: &'a WorkspaceRecord,
 ) -> Result<Vec<TestBinary<'a>>, AllocError>
@@ -74,6 +125,21 @@ fn may_have_tests(kind: TargetKind) -> bool
         | TargetKind::Bin
         | TargetKind::Example => true,
         TargetKind::BuildScript => false,
+    }
+}
+
+/// The platform that targets of this kind are built for: proc macros run in the compiler.
+pub fn platform_of(kind: TargetKind) -> BuildPlatform
+    ensures { result ≡ platform_of kind }
+{
+    match kind {
+        TargetKind::ProcMacro => BuildPlatform::Host,
+        TargetKind::Lib
+        | TargetKind::Test
+        | TargetKind::Bench
+        | TargetKind::Bin
+        | TargetKind::Example
+        | TargetKind::BuildScript => BuildPlatform::Target,
     }
 }
 

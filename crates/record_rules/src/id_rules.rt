@@ -7,7 +7,7 @@ ghost use Rattle.record_rules.specs.RecordRules.{is_package_id, first_bad, first
 use crate::distinct::first_repeat;
 use std::alloc::{AllocError, Global};
 use std::collections::BTreeSet;
-use workspace_record::{MemberRecord, PackageRecord, WorkspaceRecord};
+use workspace_record::{PackageRecord, WorkspaceRecord};
 
 /// The first package whose id is that of an earlier one.
 pub(crate) fn first_repeated_package(
@@ -59,18 +59,8 @@ pub(crate) fn first_bad_member(
 ) -> Result<Option<usize>, AllocError>
     ensures { IfOk result (λ place. place ≡ first_broken Members record.now) }
 {
-    let ids = member_ids(alloc, &record.workspace.members)?;
+    let ids = record.workspace.member_ids(alloc)?;
     first_bad_id(alloc, record, &ids)
-}
-
-fn member_ids<'a>(alloc: Global, members: &'a [MemberRecord]) -> Result<Vec<&'a str>, AllocError>
-    ensures { IfOk result (λ v. map (λ t. t.now) v.items ≡ map (λ m. m.package_id) members.entry.now) }
-{
-    let mut ids: Vec<&'a str> = Vec::new(alloc);
-    for member in members {
-        ids.push(member.package.as_str())?;
-    }
-    Ok(ids)
 }
 
 fn first_bad_id(

@@ -1,7 +1,7 @@
 //! The rules that records of workspaces keep, and the test binaries of a workspace.
 #![tactic(auto)]
 
-mod binaries;
+pub mod binaries;
 mod binary_rules;
 mod distinct;
 mod id_rules;

@@ -1,3 +1,4 @@
-pub mod Concluded
-pub mod OnLines
-pub mod ReachFacts
+pub mod ChoosingFacts
+pub mod KeptFacts
+pub mod PlanFacts
+pub mod SelectingFacts

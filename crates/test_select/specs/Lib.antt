@@ -1,9 +1,7 @@
-pub mod Errors
-pub mod Extras
-pub mod FilterForms
-pub mod FilterView
-pub mod Filters
-pub mod OnLines
-pub mod Reach
-pub mod ReachSteps
-pub mod Switching
+pub mod Choosing
+pub mod Failures
+pub mod Kept
+pub mod Plans
+pub mod Questions
+pub mod Selecting
+pub mod Selections

@@ -1,28 +1,36 @@
-//! Which tests run: the features that are on, and the parts that a selection of tests is made of.
+//! Which tests run: those that some filter texts choose, of the binaries that are available under a
+//! choice of features on one platform.
 #![tactic(auto)]
 
-mod availability;
-mod extras;
-mod features;
-mod filter_text;
-mod reach;
+mod asking;
+mod command_line;
+mod failure;
+mod file_source;
+mod followed;
+mod inputs;
+mod plan;
+mod program;
+mod report;
 mod scope;
-mod select_error;
-mod switching;
-#[cfg(test)]
-mod tests;
+mod selecting;
+mod selection;
 
-pub use crate::features::FeaturesOn;
-pub use crate::filter_text::{ParseSingleError, SourceSpan};
+pub use crate::file_source::{FileFault, FileSource};
+pub use crate::program::run;
+pub use crate::report::write_report;
 pub use crate::scope::LinkScope;
-pub use crate::select_error::SelectError;
-pub use crate::switching::features_on;
+pub use crate::selecting::select;
+pub use crate::selection::Selection;
 pub use feature_account::{
     Feature, FeatureChoice, FeatureRecord, GroupRecord, Label, LineKind, LineRecord, LinkRecord,
     MemberRecord, PackageInfo, PackageRecord, PlatformTable, Standard, TargetInfo, TargetKind,
     TargetRecord, WorkspaceInfo, WorkspaceRecord,
 };
-pub use record_files::{Field, ReadError, read_choice, read_listings, read_record};
+pub use feature_switching::{FeaturesOn, SelectError, features_on};
+pub use filter_texts::{ParseSingleError, SourceSpan};
+pub use record_files::{
+    Field, Key, ReadError, read_account, read_choice, read_listings, read_record, read_table,
+};
 pub use record_rules::{RecordError, RecordRule, check_record};
 pub use test_lister::{
     BinaryInfo, BuildPlatform, FileLister, ListFault, Listing, ListingFault, TestLister,

@@ -1,4 +1,4 @@
-ghost use Rattle.std.specs.Prelude.{◌≡◌, IfOk};
+ghost use Rattle.std.specs.Prelude.{◌≡◌, IfOk, map};
 
 use crate::link::{LinkRecord, copy_links};
 use crate::package::{PackageRecord, copy_packages};
@@ -133,6 +133,23 @@ impl WorkspaceInfo {
             metadata: copy_text(alloc, &self.metadata)?,
         })
     }
+
+    /// The package ids of the members, in order.
+    pub fn member_ids<'a>(&'a self, alloc: Global) -> Result<Vec<&'a str>, AllocError>
+        ensures { IfOk result (λ v. map (λ t. t.now) v.items ≡ map (λ m. m.package_id) self.entry.now.members) }
+    {
+        package_ids(alloc, &self.members)
+    }
+}
+
+fn package_ids<'a>(alloc: Global, members: &'a [MemberRecord]) -> Result<Vec<&'a str>, AllocError>
+    ensures { IfOk result (λ v. map (λ t. t.now) v.items ≡ map (λ m. m.package_id) members.entry.now) }
+{
+    let mut ids: Vec<&'a str> = Vec::new(alloc);
+    for member in members {
+        ids.push(member.package.as_str())?;
+    }
+    Ok(ids)
 }
 
 /// A test group: its name, and the filter of the tests that may stand in it.

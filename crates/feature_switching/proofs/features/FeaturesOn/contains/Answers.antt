@@ -1,0 +1,11 @@
+use Rattle.std.proofs.Common.{◌≡◌, Contains, IsTrue, ◌↔◌, subst, sym}
+use Rattle.feature_account.specs.Accounts.{concluded_set}
+use Rattle.feature_switching.proofs.Concluded.{concluded_iff}
+use Rattle.feature_switching.proofs.features.FeaturesOn.contains.Goals as goal
+
+pub returns : goal.returns
+returns c =
+    let on = c.args.self.now in
+    let feature = c.args.feature.now in
+    let is : c.concludes.result ≡ concluded_set on feature = cc in
+    subst (λ b. IsTrue b ↔ Contains on feature) (sym is) (concluded_iff on feature)

@@ -1,0 +1,5 @@
+pub mod Errors
+pub mod Extras
+pub mod OnLines
+pub mod Rounds
+pub mod Switching

@@ -1,0 +1,166 @@
+//! The features that rules switch on.
+
+ghost use Rattle.std.specs.Prelude.{◌≡◌, ◌↔◌, IfOk, IsTrue, Contains};
+ghost use Rattle.std.specs.List.{list_any};
+ghost use Rattle.std.specs.List.Sorted.{IsStrictlySortedBy};
+ghost use Rattle.list_facts.specs.Ascending.{IsAscendingOf};
+ghost use Rattle.workspace_record.specs.Features.{FeatureValue, Base, Named, Dep, label_eq, feature_eq, feature_cmp};
+ghost use Rattle.workspace_record.specs.LabelView.{label_view};
+ghost use Rattle.feature_account.specs.Accounts.{concluded_set};
+ghost use Rattle.feature_account.specs.RuleList.{base_of, named_of, dep_of};
+ghost use Rattle.feature_account.specs.Closed.{has_premises, is_open, IsOn};
+ghost use Rattle.feature_switching.specs.Rounds.{IsRound};
+
+use feature_account::{Premises, Rule};
+use std::alloc::{AllocError, Global};
+use std::marker::Model;
+use workspace_record::{Feature, Label};
+
+/// The features that are on, in ascending order, each once.
+#[derive(Debug, Drop)]
+pub struct FeaturesOn {
+    features: Vec<Feature>,
+}
+
+impl Model for FeaturesOn {
+    ghost use Rattle.std.specs.Prelude.{List};
+    ghost use Rattle.workspace_record.specs.Features.{FeatureValue};
+
+    ghost Value = { List FeatureValue };
+
+    ghost view = { λ on. on.features.items };
+}
+
+impl FeaturesOn {
+    /// Whether the feature is on.
+    pub fn contains(&self, feature: &Feature) -> bool
+        ensures { IsTrue result ↔ Contains self.now feature.now }
+    {
+        concludes(&self.features, feature)
+    }
+
+    /// Whether the package's base is on.
+    pub(crate) fn contains_base(&self, package_id: &str) -> bool
+        ensures { result ≡ concluded_set self.now (base_of package_id.now) }
+    {
+        self.features
+            .iter()
+            .any(|f| f.package.as_str() == package_id && is_base(&f.label))
+    }
+
+    /// Whether the package's feature of this name is on.
+    pub(crate) fn contains_named(&self, package_id: &str, name: &str) -> bool
+        ensures { result ≡ concluded_set self.now (named_of package_id.now name.now) }
+    {
+        self.features.iter().any(|f| f.package.as_str() == package_id && is_named(&f.label, name))
+    }
+
+    /// Whether the package's optional dependency of this name is on.
+    pub(crate) fn contains_dep(&self, package_id: &str, name: &str) -> bool
+        ensures { result ≡ concluded_set self.now (dep_of package_id.now name.now) }
+    {
+        self.features.iter().any(|f| f.package.as_str() == package_id && is_dep(&f.label, name))
+    }
+
+    /// The features in order.
+    pub fn as_slice(&self) -> &[Feature]
+        ensures { result.now ≡ self.now }
+    {
+        self.features.as_slice()
+    }
+}
+
+fn is_base(label: &Label) -> bool
+    ensures { result ≡ label_eq Base (label_view label.now) }
+{
+    match label {
+        Label::Base => true,
+        Label::Named(_) | Label::Dep(_) => false,
+    }
+}
+
+fn is_named(label: &Label, name: &str) -> bool
+    ensures { result ≡ label_eq (Named name.now) (label_view label.now) }
+{
+    match label {
+        Label::Named(text) => text.as_str() == name,
+        Label::Base | Label::Dep(_) => false,
+    }
+}
+
+fn is_dep(label: &Label, name: &str) -> bool
+    ensures { result ≡ label_eq (Dep name.now) (label_view label.now) }
+{
+    match label {
+        Label::Dep(text) => text.as_str() == name,
+        Label::Base | Label::Named(_) => false,
+    }
+}
+
+/// The features that lie in every set that the rules close.
+pub(crate) fn features_of(alloc: Global, rules: &[Rule]) -> Result<FeaturesOn, AllocError>
+    ensures on { IfOk result (λ on. (f : FeatureValue) → Contains on f ↔ IsOn rules.now f) }
+    ensures ascending { IfOk result (λ on. IsStrictlySortedBy feature_cmp on) }
+{
+    let found = conclude_all(alloc, rules)?;
+    let features = sorted_features(found)?;
+    Ok(FeaturesOn { features })
+}
+
+fn sorted_features(mut features: Vec<Feature>) -> Result<Vec<Feature>, AllocError>
+    ensures { IfOk result (λ v. IsAscendingOf feature_cmp features.items v.items) }
+{
+    features.sort()?;
+    features.dedup();
+    Ok(features)
+}
+
+// Round after round, until no rule is open.
+fn conclude_all(alloc: Global, rules: &[Rule]) -> Result<Vec<Feature>, AllocError>
+    ensures { IfOk result (λ v. (f : FeatureValue) → Contains v.items f ↔ IsOn rules.now f) }
+{
+    let mut found: Vec<Feature> = Vec::new(alloc);
+    while conclude_round(alloc, rules, &mut found)? {}
+    Ok(found)
+}
+
+/// Looks at each rule once, in order, and adds the conclusions of those that are open then. Whether
+/// there was one.
+fn conclude_round(
+    alloc: Global,
+    rules: &[Rule],
+    found: &mut Vec<Feature>,
+) -> Result<bool, AllocError>
+    ensures { IfOk result (λ went_on. IsRound rules.now rules.now found.old.items found.new.items went_on) }
+{
+    let mut went_on = false;
+    for rule in rules {
+        if is_open(found, rule) {
+            found.push(rule.conclusion.copy(alloc)?)?;
+            went_on = true;
+        }
+    }
+    Ok(went_on)
+}
+
+fn is_open(found: &[Feature], rule: &Rule) -> bool
+    ensures { result ≡ is_open (concluded_set found.now) rule.now }
+{
+    has_premises(found, &rule.premises) && !concludes(found, &rule.conclusion)
+}
+
+fn has_premises(found: &[Feature], premises: &Premises) -> bool
+    ensures { result ≡ has_premises (concluded_set found.now) premises.now }
+{
+    match premises {
+        Premises::None => true,
+        Premises::One(a) => concludes(found, a),
+        Premises::Two(a, b) => concludes(found, a) && concludes(found, b),
+    }
+}
+
+fn concludes(found: &[Feature], feature: &Feature) -> bool
+    ensures { result ≡ list_any (feature_eq feature.now) found.now }
+{
+    found.iter().any(|f| feature == f)
+}

@@ -1,0 +1,14 @@
+//! The features that are on in a workspace, and what they switch on: links, and test binaries.
+#![tactic(auto)]
+
+pub mod availability;
+mod extras;
+mod features;
+mod select_error;
+mod switching;
+#[cfg(test)]
+mod tests;
+
+pub use crate::features::FeaturesOn;
+pub use crate::select_error::SelectError;
+pub use crate::switching::features_on;

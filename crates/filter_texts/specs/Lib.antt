@@ -1,0 +1,10 @@
+pub mod Compiled
+pub mod Compiling
+pub mod Contexts
+pub mod Faults
+pub mod FilterForms
+pub mod FilterView
+pub mod Filters
+pub mod Meaning
+pub mod Reach
+pub mod ReachSteps

@@ -1,0 +1,84 @@
+-- From a plan that was carried out to the answer of the question.
+use Rattle.std.proofs.Common.{◌≡◌, ◌<◌, length, All, true, List, take, sym, subst, ◌↔◌, Result, Ok, Err}
+use Rattle.list_facts.specs.Ascending.{IsAscendingOf, text_cmp}
+use Rattle.list_facts.proofs.Ascending.{one_ascending, text_total, text_exact}
+use Rattle.workspace_record.specs.Records.{Text, Link, Workspace}
+use Rattle.test_lister.specs.Listers.{Shown, Asked, largest}
+use Rattle.test_lister.specs.Asking.{HoldsWellFormed}
+use Rattle.record_rules.specs.Binaries.{Binary}
+use Rattle.filter_texts.specs.Filters.{Filter, Everything, PackageNamed, DepsOf, TestNamed}
+use Rattle.filter_texts.specs.Meaning.{Holds, SomeAnswersGive, SomeTextHolds, SomeTextMayHold}
+use Rattle.filter_texts.specs.declared.test_filter.TestFilter.{TestFilter}
+use Rattle.feature_switching.specs.declared.select_error.SelectError.{SelectError}
+use Rattle.feature_switching.specs.declared.select_error.SelectError.TheVariants.{Record, UnknownExtra, Filter as BadFilter, Lister, BadListing, Memory}
+use Rattle.test_select.specs.Choosing.{ids_of, IsMatched, IsCarriedOut, CarriesOut}
+use Rattle.test_select.specs.Plans.{IsPlan}
+use Rattle.test_select.specs.Questions.{Question}
+use Rattle.test_select.specs.Selecting.{IsChosen, IsAsked, Selects, Answers}
+use Rattle.test_select.specs.Selections.{Selected}
+
+-- where a text holds of a test, some answers let its binary through
+module _ (w : Workspace) (context : Text → Type 0) (among : Link → Type 0) where
+  may_hold : (f : Filter) (package_id test : Text) → Holds w context among f package_id test → SomeAnswersGive w context among f package_id true
+  may_hold Everything package_id test h = h
+  may_hold (PackageNamed name) package_id test h = h
+  may_hold (DepsOf name) package_id test h = h
+  may_hold (TestNamed name) package_id test h = tt
+
+  pub texts_may_hold : (texts : List Text) (package_id test : Text) → SomeTextHolds w context among texts package_id test → SomeTextMayHold w context among texts package_id
+  texts_may_hold texts package_id test h = let t = h.2 in (h.0, h.1, (t.0, t.1, may_hold t.0 package_id test t.2))
+
+module _ (q : Question) where
+  -- the ids to ask for are one list
+  pub one_asked : (a b : List Text) → IsAsked q a → IsAsked q b → a ≡ b
+  one_asked a b p r =
+      let itself : IsAscendingOf text_cmp a a = record { members = λ id. (λ h. h, λ h. h); ascending = p.ascending } in
+      let other : IsAscendingOf text_cmp a b = record { members = λ id. (λ h. (p.members id).1 ((r.members id).0 h), λ h. (r.members id).1 ((p.members id).0 h)); ascending = r.ascending } in
+      one_ascending text_total text_exact a a b itself other
+
+  module _ (filters : List TestFilter) (asked : List Binary) (plan : IsPlan q filters asked) (old : Shown) where
+    -- a test is matched in a planned binary exactly where it is chosen
+    matched_iff : (pair : Text × Text) → IsMatched filters asked old.listing_of pair ↔ IsChosen q old.listing_of pair
+    matched_iff pair =
+        let there : IsMatched filters asked old.listing_of pair → IsChosen q old.listing_of pair = λ m. record {
+          binary = m.binary;
+          available = ((plan.binaries m.binary).0 m.is_asked).0;
+          id = m.id;
+          names = m.names;
+          listing = m.listing;
+          listed = m.listed;
+          holds = (plan.holds m.binary pair.1).0 m.holds;
+        } in
+        let back : IsChosen q old.listing_of pair → IsMatched filters asked old.listing_of pair = λ h. record {
+          binary = h.binary;
+          is_asked = (plan.binaries h.binary).1 (h.available, texts_may_hold _ _ _ _ h.binary.package_id pair.1 h.holds);
+          id = h.id;
+          names = h.names;
+          listing = h.listing;
+          listed = h.listed;
+          holds = (plan.holds h.binary pair.1).1 h.holds;
+        } in
+        (there, back)
+
+    selects : (s : Selected) (new : Shown) → IsCarriedOut filters asked old s new → Selects q old s new
+    selects s new done = record {
+      answered = plan.answered;
+      asked = subst (IsAsked q) (sym done.ids) plan.ids;
+      lister = subst (λ ids. Asked old ids new) (sym done.ids) done.lister;
+      not_full = subst (λ ids. 0 < length ids → old.failures < largest) (sym done.ids) done.not_full;
+      well_formed = subst (All (HoldsWellFormed old)) (sym done.ids) done.well_formed;
+      report = record {
+        members = λ pair. (λ h. (matched_iff pair).0 ((done.chosen pair).0 h), λ h. (done.chosen pair).1 ((matched_iff pair).1 h));
+        ascending = done.ascending;
+      };
+    }
+
+    -- and so the answer of the plan is that of the question
+    pub answers_question : (r : Result Selected SelectError) (new : Shown) → CarriesOut filters asked old r new → Answers q old r new
+    answers_question (Ok s) new h = selects s new h
+    answers_question (Err (Record e)) new h = absurd h
+    answers_question (Err (UnknownExtra place)) new h = absurd h
+    answers_question (Err (BadFilter place faults)) new h = absurd h
+    answers_question (Err (Lister id)) new h = record { answered = plan.answered; ids = ids_of asked; asked = plan.ids; place = h.place; at = h.at; failed = h.failed }
+    answers_question (Err (BadListing id fault)) new h = record { answered = plan.answered; ids = ids_of asked; asked = plan.ids; place = h.place; at = h.at; faulty = h.faulty }
+    answers_question (Err Memory) new h = λ ids are. (h.0, subst (λ all. Asked old (take h.0 all) new) (one_asked (ids_of asked) ids plan.ids are) h.1)

@@ -1,0 +1,108 @@
+//! The command line, as `clap` reads it.
+
+use clap::{Arg, ArgAction, ArgMatches, Command};
+use std::alloc::{AllocError, Global};
+
+/// The program's command, with a subcommand for each thing that it does.
+pub(crate) fn command<'a>(alloc: Global) -> Result<Command<'a>, AllocError> {
+    Command::new(alloc, "test_select")
+        .bin_name("test_select")?
+        .version("0.1.0")
+        .about("Says which Rust tests run under chosen features and filter texts")
+        .after_help(STATUSES)
+        .subcommand_required(true)
+        .arg_required_else_help(true)
+        .subcommand(tests_command(alloc)?)
+}
+
+/// The names of the files that `tests` reads.
+#[derive(Clone, Copy)]
+pub(crate) struct TestsFiles<'a> {
+    pub(crate) record: &'a str,
+    pub(crate) choice: Option<&'a str>,
+    pub(crate) listings: &'a str,
+}
+
+fn tests_command<'a>(alloc: Global) -> Result<Command<'a>, AllocError> {
+    Command::new(alloc, "tests")
+        .about("Prints the tests that run")
+        .after_help(TESTS_HELP)
+        .arg(record_option(alloc))?
+        .arg(listings_option(alloc))?
+        .arg(choice_option(alloc))?
+        .arg(filter_words(alloc))
+}
+
+fn record_option<'a>(alloc: Global) -> Arg<'a> {
+    file_option(alloc, "record").required(true).help(
+        "The record of the workspace: its packages, links and members, as JSON",
+    )
+}
+
+fn listings_option<'a>(alloc: Global) -> Arg<'a> {
+    file_option(alloc, "listings").required(true).help(
+        "The names of the tests in each test binary, under the binary's id, as JSON",
+    )
+}
+
+fn choice_option<'a>(alloc: Global) -> Arg<'a> {
+    file_option(alloc, "choice").help(
+        "The features that are asked for, as JSON [default: the default features]",
+    )
+}
+
+fn file_option<'a>(alloc: Global, name: &'a str) -> Arg<'a> {
+    Arg::new(alloc, name)
+        .long(name)
+        .value_name("FILE")
+        .action(ArgAction::Set)
+}
+
+fn filter_words<'a>(alloc: Global) -> Arg<'a> {
+    Arg::new(alloc, "filter")
+        .value_name("FILTER")
+        .num_args(0..)
+        .action(ArgAction::Append)
+        .help("Which tests are wanted: those of which one filter holds [default: all]")
+}
+
+/// The files that the command line names for `tests`.
+pub(crate) fn tests_files<'a>(asked: &ArgMatches<'a>) -> TestsFiles<'a> {
+    TestsFiles {
+        record: required(asked, "record"),
+        choice: asked.get_str("choice"),
+        listings: required(asked, "listings"),
+    }
+}
+
+/// The value of a required option, without which `clap` takes no command line.
+fn required<'a>(asked: &ArgMatches<'a>, name: &str) -> &'a str {
+    asked.get_str(name).unwrap_or("")
+}
+
+/// The filter texts of the command line, in its order.
+pub(crate) fn filters_in<'m, 'a: 'm>(asked: &'m ArgMatches<'a>) -> &'m [&'a str] {
+    asked.get_strs("filter").unwrap_or_default()
+}
+
+const TESTS_HELP: &str = "Filters:
+  all()           every test
+  package(=NAME)  the tests of the package with this name
+  deps(=NAME)     the tests of the package with this name, and of all that it depends on by links
+                  that are on
+  test(=NAME)     the tests with this name
+
+A filter is one of these forms, without blanks. NAME is one or more ASCII letters, digits, `_`, `-`
+and `:`, and `package` and `deps` take names that the record has. Tests run only in binaries whose
+required features are on.
+
+Output: a line for each test, with the id of its binary, a space and its name. The lines ascend by
+binary and then name, and none stands there twice.
+
+Exit status: 0 if the tests are printed; 1 if a file, the record, the choice, a filter or a listing
+is refused, or the output cannot be written, with the reasons on standard error; 2 for a bad command
+line.";
+
+const STATUSES: &str =
+    "Exit status: 0 if all is done; 1 if it failed, with the reasons on standard error; 2 for a bad
+command line.";

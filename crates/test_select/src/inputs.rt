@@ -1,0 +1,108 @@
+//! The files that the program is given, read one by one.
+
+ghost use Rattle.std.specs.Prelude.{◌≡◌, [], IfErr};
+ghost use Rattle.test_select.specs.Failures.{status_of};
+
+use crate::command_line::TestsFiles;
+use crate::failure::Failure;
+use crate::file_source::FileSource;
+use record_files::{ReadError, read_choice, read_listings, read_record};
+use std::alloc::Global;
+use std::collections::BTreeMap;
+use test_lister::Listing;
+use workspace_record::{FeatureChoice, Standard, WorkspaceRecord};
+
+/// What the command `tests` works on.
+#[derive(Drop)]
+pub(crate) struct TestsInputs {
+    pub(crate) record: WorkspaceRecord,
+    pub(crate) choice: FeatureChoice,
+    pub(crate) listings: BTreeMap<String, Listing>,
+}
+
+/// Reads and decodes the record, then the choice, then the listings. The first file that fails ends
+/// the reading.
+pub(crate) fn tests_inputs<'a>(
+    alloc: Global,
+    names: TestsFiles<'a>,
+    files: &mut dyn FileSource,
+) -> Result<TestsInputs, Failure<'a>>
+    ensures { IfErr result (λ f. status_of f ≡ 1) }
+{
+    let record = record_in(alloc, names.record, files)?;
+    let choice = choice_in(alloc, names.choice, files)?;
+    let listings = listings_in(alloc, names.listings, files)?;
+    Ok(TestsInputs {
+        record,
+        choice,
+        listings,
+    })
+}
+
+fn record_in<'a>(
+    alloc: Global,
+    name: &'a str,
+    files: &mut dyn FileSource,
+) -> Result<WorkspaceRecord, Failure<'a>>
+    ensures { IfErr result (λ f. status_of f ≡ 1) }
+{
+    let bytes = bytes_in(alloc, name, files)?;
+    accepted(name, read_record(alloc, &bytes))
+}
+
+fn choice_in<'a>(
+    alloc: Global,
+    name: Option<&'a str>,
+    files: &mut dyn FileSource,
+) -> Result<FeatureChoice, Failure<'a>>
+    ensures { IfErr result (λ f. status_of f ≡ 1) }
+{
+    let Some(name) = name else {
+        return Ok(choice_of_defaults(alloc));
+    };
+    let bytes = bytes_in(alloc, name, files)?;
+    accepted(name, read_choice(alloc, &bytes))
+}
+
+/// The choice where no file is named.
+fn choice_of_defaults(alloc: Global) -> FeatureChoice
+    ensures { result ≡ record { standard = Standard.Default; extras = [] } }
+{
+    FeatureChoice {
+        standard: Standard::Default,
+        extras: Vec::new(alloc),
+    }
+}
+
+fn listings_in<'a>(
+    alloc: Global,
+    name: &'a str,
+    files: &mut dyn FileSource,
+) -> Result<BTreeMap<String, Listing>, Failure<'a>>
+    ensures { IfErr result (λ f. status_of f ≡ 1) }
+{
+    let bytes = bytes_in(alloc, name, files)?;
+    accepted(name, read_listings(alloc, &bytes))
+}
+
+fn bytes_in<'a>(
+    alloc: Global,
+    name: &'a str,
+    files: &mut dyn FileSource,
+) -> Result<Vec<u8>, Failure<'a>>
+    ensures { IfErr result (λ f. status_of f ≡ 1) }
+{
+    match files.read(alloc, name) {
+        Ok(bytes) => Ok(bytes),
+        Err(fault) => Err(Failure::unread(name, fault)),
+    }
+}
+
+fn accepted<T>(name: &str, read: Result<T, ReadError>) -> Result<T, Failure<'_>>
+    ensures { IfErr result (λ f. status_of f ≡ 1) }
+{
+    match read {
+        Ok(value) => Ok(value),
+        Err(error) => Err(Failure::bad_file(name, error)),
+    }
+}

@@ -1,0 +1,114 @@
+//! The program, over any files and any two streams.
+
+ghost use Rattle.std.specs.Prelude.{◌≡◌, ◌≤◌, [], IfErr, true};
+ghost use Rattle.test_select.specs.Failures.{status_of};
+
+use crate::command_line::{command, filters_in, tests_files};
+use crate::failure::Failure;
+use crate::file_source::FileSource;
+use crate::inputs::tests_inputs;
+use crate::report::write_report;
+use crate::scope::LinkScope;
+use crate::selecting::select;
+use clap::ArgMatches;
+use indexmap::IndexMap;
+use std::alloc::Global;
+use std::convert::AsStr;
+use std::io::Write;
+use test_lister::FileLister;
+use workspace_record::PlatformTable;
+
+/// Runs the program on a command line, whose first word is the program's name, and answers the
+/// status that it ends with: 0 if all was done, 1 if something was refused or failed, and 2 for a
+/// bad command line.
+///
+/// `test_select tests --record F --listings F [--choice F] [FILTER]...` reads and decodes the record,
+/// the choice and the listings, one by one and in this order, then selects, and writes the report to
+/// `out`. Without a choice the default features are on. Nothing is known of the platform, and links
+/// that are on are followed. Help and the version go to `out` too. `err` gets a line for each cause
+/// of a status other than 0; a fault of `err` changes nothing.
+pub fn run<S: AsStr, O: Write, E: Write>(
+    alloc: Global,
+    words: &[S],
+    files: &mut dyn FileSource,
+    out: &mut O,
+    err: &mut E,
+) -> u8
+    ensures statuses { result ≤ 2 }
+    ensures quiet { result ≡ 0 → E.contents err.new ≡ E.contents err.old }
+    ensures bad_words { result ≡ 2 → O.contents out.new ≡ O.contents out.old }
+{
+    match try_run(alloc, words, files, out) {
+        Ok(()) => 0,
+        Err(failure) => {
+            let _ = write!(err, "{failure}");
+            failure.status()
+        }
+    }
+}
+
+fn try_run<'a, S: AsStr, O: Write>(
+    alloc: Global,
+    words: &'a [S],
+    files: &mut dyn FileSource,
+    out: &mut O,
+) -> Result<(), Failure<'a>>
+    ensures { IfErr result (λ f. status_of f ≡ 2 → O.contents out.new ≡ O.contents out.old) }
+{
+    match command(alloc)?.try_get_matches_from(words) {
+        Ok(matches) => carry_out(alloc, &matches, files, out)?,
+        Err(shown) if !shown.use_stderr() => write!(out, "{shown}")?,
+        Err(error) => return Err(Failure::from(error)),
+    }
+    out.flush()?;
+    Ok(())
+}
+
+/// Does what the command line asks for. `clap` takes no command line without a command.
+fn carry_out<'a, O: Write>(
+    alloc: Global,
+    matches: &ArgMatches<'a>,
+    files: &mut dyn FileSource,
+    out: &mut O,
+) -> Result<(), Failure<'a>>
+    ensures { IfErr result (λ f. status_of f ≡ 1) }
+{
+    match matches.subcommand() {
+        Some(("tests", asked)) => print_tests(alloc, asked, files, out),
+        _ => Ok(()),
+    }
+}
+
+fn print_tests<'a, O: Write>(
+    alloc: Global,
+    asked: &ArgMatches<'a>,
+    files: &mut dyn FileSource,
+    out: &mut O,
+) -> Result<(), Failure<'a>>
+    ensures { IfErr result (λ f. status_of f ≡ 1) }
+{
+    let inputs = tests_inputs(alloc, tests_files(asked), files)?;
+    let mut lister = FileLister::new(alloc, inputs.listings);
+    let selection = select(
+        alloc,
+        &inputs.record,
+        &inputs.choice,
+        &nothing_known(alloc),
+        LinkScope::SwitchedOn,
+        filters_in(asked),
+        &mut lister,
+    )?;
+    write_report(&selection, out)?;
+    Ok(())
+}
+
+/// The table of a platform of which nothing is known.
+fn nothing_known(alloc: Global) -> PlatformTable
+    ensures answers { result.answers.entries ≡ [] }
+    ensures unknown_counts { result.unknown_counts ≡ true }
+{
+    PlatformTable {
+        answers: IndexMap::new(alloc),
+        unknown_counts: true,
+    }
+}

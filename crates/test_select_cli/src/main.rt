@@ -1,0 +1,51 @@
+//! The program `test_select`, with the files and streams of the system.
+#![tactic(auto)]
+
+use std::alloc::{AllocGlobal, Global};
+use std::fs;
+use std::io::{self, ErrorKind};
+use std::process::ExitCode;
+use std::rt::Files;
+use test_select::{FileFault, FileSource, run};
+
+/// The files of the system, by their paths.
+#[derive(Drop)]
+struct SystemFiles<'a, R> {
+    rt: &'a R,
+}
+
+impl<R: Files + AllocGlobal> FileSource for SystemFiles<'_, R> {
+    fn read(&mut self, _alloc: Global, name: &str) -> Result<Vec<u8>, FileFault> {
+        match fs::read(self.rt, name) {
+            Ok(bytes) => Ok(bytes),
+            Err(error) if error.kind() == ErrorKind::OutOfMemory => Err(FileFault::Memory),
+            Err(_) => Err(FileFault::CannotRead),
+        }
+    }
+}
+
+fn main(rt: HostRuntime) -> ExitCode {
+    match words(&rt) {
+        Ok(words) => ExitCode::from(run_on(&rt, &words)),
+        Err(error) if error.kind() == ErrorKind::OutOfMemory => {
+            let _ = eprintln!(rt; "out of memory");
+            ExitCode::from(1)
+        }
+        Err(_) => {
+            let _ = eprintln!(rt; "error: a word of the command line is not UTF-8");
+            ExitCode::from(2)
+        }
+    }
+}
+
+/// The words of the command line, the program's name first.
+fn words(rt: &HostRuntime) -> io::Result<Vec<String>> {
+    Ok(std::env::args(rt)?.collect(rt.alloc())?)
+}
+
+fn run_on(rt: &HostRuntime, words: &[String]) -> u8 {
+    let mut files = SystemFiles { rt };
+    let mut out = rt.stdout();
+    let mut err = rt.stderr();
+    run(rt.alloc(), words, &mut files, &mut out, &mut err)
+}
