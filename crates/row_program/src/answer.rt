@@ -2,18 +2,32 @@ use crate::fault::RowFault;
 use serde_json::Value;
 use std::alloc::Global;
 
-/// What came of a row, under the key by which rows say what they want of it.
+/// What came of a row, each text under the key by which rows say what they want of it. Where a key has
+/// several texts, each is to be the wanted one.
 #[derive(Drop)]
-pub struct Answer {
-    pub key: &'static str,
-    pub text: String,
+pub struct Answers {
+    pub(crate) items: Vec<Answer>,
+}
+
+#[derive(Drop)]
+pub(crate) struct Answer {
+    pub(crate) key: &'static str,
+    pub(crate) text: String,
+}
+
+impl Answers {
+    pub(crate) fn new(alloc: Global) -> Answers {
+        let items = Vec::new(alloc);
+        Answers { items }
+    }
+
+    pub fn push(&mut self, key: &'static str, text: String) -> Result<(), RowFault> {
+        self.items.push(Answer { key, text })?;
+        Ok(())
+    }
 }
 
 impl Answer {
-    pub fn new(key: &'static str, text: String) -> Answer {
-        Answer { key, text }
-    }
-
     /// Whether this is what was wanted: a text or a number is wanted as it stands, of a list of texts
     /// each is to stand somewhere in it, and null wants nothing.
     pub(crate) fn is_wanted(&self, alloc: Global, wanted: &Value) -> Result<bool, RowFault> {

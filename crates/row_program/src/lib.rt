@@ -10,7 +10,7 @@ mod fault;
 mod row;
 mod running;
 
-pub use crate::answer::Answer;
+pub use crate::answer::Answers;
 pub use crate::fault::RowFault;
-pub use crate::row::Row;
+pub use crate::row::{Row, file_text};
 pub use crate::running::{RowRunner, run_rows};

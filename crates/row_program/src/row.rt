@@ -81,15 +81,11 @@ impl<'a> Row<'a> {
         }
     }
 
-    /// The file with this name under `files`, of the row or else of its group: a text as it stands,
-    /// another value as the JSON that it is.
+    /// The file with this name under `files`, of the row or else of its group.
     pub fn file(&self, alloc: Global, name: &str) -> Result<Option<String>, AllocError> {
         match self.file_value(name) {
             None => Ok(None),
-            Some(value) => match value.as_str() {
-                Some(text) => Ok(Some(String::from_str(alloc, text)?)),
-                None => Ok(Some(value.to_string(alloc)?)),
-            },
+            Some(value) => Ok(Some(file_text(alloc, value)?)),
         }
     }
 
@@ -99,5 +95,13 @@ impl<'a> Row<'a> {
             Some(value) => Some(value),
             None => self.group?.get("files")?.get(name),
         }
+    }
+}
+
+/// The file that a value stands for: a text as it stands, another value as the JSON that it is.
+pub fn file_text(alloc: Global, value: &Value) -> Result<String, AllocError> {
+    match value.as_str() {
+        Some(text) => String::from_str(alloc, text),
+        None => value.to_string(alloc),
     }
 }

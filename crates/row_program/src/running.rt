@@ -1,4 +1,4 @@
-use crate::answer::Answer;
+use crate::answer::{Answer, Answers};
 use crate::fault::RowFault;
 use crate::row::Row;
 use serde_json::Value;
@@ -10,8 +10,13 @@ pub trait RowRunner {
     /// The keys under which a row says what it is run on.
     fn inputs(&self) -> &'static [&'static str];
 
-    /// Runs the row, and answers all that came of it.
-    fn run_row(&mut self, alloc: Global, row: Row<'_>) -> Result<Vec<Answer>, RowFault>;
+    /// Runs the row, and keeps all that came of it.
+    fn run_row(
+        &mut self,
+        alloc: Global,
+        row: Row<'_>,
+        answers: &mut Answers,
+    ) -> Result<(), RowFault>;
 }
 
 /// Runs each row of a file of rows, and writes what differs from what is wanted: the row's name, the
@@ -71,8 +76,9 @@ fn run_one<R: RowRunner, W: Write>(
         .get("name")
         .and_then(Value::as_str)
         .unwrap_or("a row without a name");
-    match runner.run_row(alloc, row) {
-        Ok(answers) => told(alloc, name, row, runner.inputs(), &answers, out),
+    let mut answers = Answers::new(alloc);
+    match runner.run_row(alloc, row, &mut answers) {
+        Ok(()) => told(alloc, name, row, runner.inputs(), &answers.items, out),
         Err(fault) => {
             writeln!(out, "{name}: {fault}")?;
             Ok(false)

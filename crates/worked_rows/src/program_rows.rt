@@ -1,5 +1,5 @@
 use crate::memory_files::MemoryFiles;
-use row_program::{Answer, Row, RowFault, RowRunner};
+use row_program::{Answers, Row, RowFault, RowRunner};
 use std::alloc::Global;
 use test_select::run;
 
@@ -13,16 +13,19 @@ impl RowRunner for ProgramRows {
         &["files", "words"]
     }
 
-    fn run_row(&mut self, alloc: Global, row: Row<'_>) -> Result<Vec<Answer>, RowFault> {
+    fn run_row(
+        &mut self,
+        alloc: Global,
+        row: Row<'_>,
+        answers: &mut Answers,
+    ) -> Result<(), RowFault> {
         let words = row.texts(alloc, "words")?;
         let mut files = MemoryFiles::new(alloc, row);
         let (mut out, mut err) = (Vec::new(alloc), Vec::new(alloc));
         let status = run(alloc, words.as_slice(), &mut files, &mut out, &mut err);
-        let mut answers = Vec::new(alloc);
-        answers.push(Answer::new("status", format!(in alloc; "{status}")?))?;
-        answers.push(Answer::new("stdout", String::from_utf8(out)?))?;
-        answers.push(Answer::new("stderr", String::from_utf8(err)?))?;
-        answers.push(Answer::new("read", files.into_asked()))?;
-        Ok(answers)
+        answers.push("read", files.into_asked())?;
+        answers.push("status", format!(in alloc; "{status}")?)?;
+        answers.push("stdout", String::from_utf8(out)?)?;
+        answers.push("stderr", String::from_utf8(err)?)
     }
 }
