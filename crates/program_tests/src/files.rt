@@ -19,7 +19,11 @@ pub(crate) struct TwoFiles;
 
 impl FileSource for TwoFiles {
     fn read(&mut self, alloc: Global, name: &str) -> Result<Vec<u8>, FileFault> {
-        let bytes = if name == "record.json" { RECORD } else { LISTINGS };
+        let bytes = if name == "record.json" {
+            RECORD
+        } else {
+            LISTINGS
+        };
         bytes.to_vec(alloc).map_err(|_| FileFault::Memory)
     }
 }

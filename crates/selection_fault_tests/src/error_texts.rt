@@ -10,7 +10,12 @@ use test_select::{
     SourceSpan,
 };
 
-fn expect_text<E: Display>(rt: &impl Abort, alloc: Global, error: &E, want: &str) -> Result<(), Fail> {
+fn expect_text<E: Display>(
+    rt: &impl Abort,
+    alloc: Global,
+    error: &E,
+    want: &str,
+) -> Result<(), Fail> {
     let text = format!(in alloc; "{error}")?;
     assert_eq!(rt; text.as_str(), want);
     Ok(())
@@ -30,9 +35,19 @@ fn errors_of_asking(rt: HostRuntime) -> Result<(), Fail> {
     let alloc = rt.alloc();
     expect_text(&rt, alloc, &AskError::Lister(2), "no listing for binary 2")?;
     let line_feed = AskError::BadListing(0, ListingFault::LineFeed);
-    expect_text(&rt, alloc, &line_feed, "bad listing for binary 0: line feed")?;
+    expect_text(
+        &rt,
+        alloc,
+        &line_feed,
+        "bad listing for binary 0: line feed",
+    )?;
     let repeated = AskError::BadListing(7, ListingFault::RepeatedName);
-    expect_text(&rt, alloc, &repeated, "bad listing for binary 7: repeated name")?;
+    expect_text(
+        &rt,
+        alloc,
+        &repeated,
+        "bad listing for binary 7: repeated name",
+    )?;
     expect_text(&rt, alloc, &ListFault, "no listing")?;
     expect_text(&rt, alloc, &BuildPlatform::Host, "host")
 }

@@ -43,7 +43,11 @@ impl TestLister for FailingLister {
 
 fn write_down(told: &mut String, binary: &BinaryInfo<'_>) -> std::fmt::Result {
     let (id, package_id, name) = (binary.id, binary.package_id, binary.name);
-    writeln!(told, "{id}, {package_id}, {name}, {:?}, {}", binary.kind, binary.platform)?;
+    writeln!(
+        told,
+        "{id}, {package_id}, {name}, {:?}, {}",
+        binary.kind, binary.platform
+    )?;
     Ok(())
 }
 
@@ -124,7 +128,7 @@ fn what_a_lister_is_told(rt: HostRuntime) -> Result<(), Fail> {
     let mut lister = failing(rt.alloc(), 0, 3);
     let answer = select_all(rt.alloc(), &mut lister)?;
     assert!(rt; answer.is_ok());
-    let told = "a, a, a, Lib, target\nb-b, b 1.0.0, b-b, Lib, target\nc, c, c, Lib, target\n";
+    let told = "a, a, a, Lib, target\nb-b, b 1.0.0, b_b, Lib, target\nc, c, c, Lib, target\n";
     assert_eq!(rt; lister.told.as_str(), told);
     Ok(())
 }

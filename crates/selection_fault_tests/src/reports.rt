@@ -34,14 +34,14 @@ fn expect_end(
 
 /// How many bytes the writer takes at a time, how many writes, the error, and how many bytes it took.
 const ENDS: [(usize, usize, Option<ErrorKind>, usize); 9] = [
-    (1, 24, None, 24),
-    (5, 24, None, 24),
-    (100, 16, None, 24),
-    (1, 23, Some(ErrorKind::BrokenPipe), 23),
+    (1, 25, None, 25),
+    (5, 25, None, 25),
+    (100, 15, None, 25),
+    (1, 24, Some(ErrorKind::BrokenPipe), 24),
     (1, 0, Some(ErrorKind::BrokenPipe), 0),
     (2, 1, Some(ErrorKind::BrokenPipe), 1),
-    (100, 3, Some(ErrorKind::BrokenPipe), 2),
-    (100, 15, Some(ErrorKind::BrokenPipe), 23),
+    (100, 3, Some(ErrorKind::BrokenPipe), 3),
+    (100, 14, Some(ErrorKind::BrokenPipe), 24),
     (0, 100, Some(ErrorKind::WriteZero), 0),
 ];
 

@@ -26,9 +26,13 @@ fn lines_of(alloc: Global, all: &[TestBinary<'_>]) -> Result<String, AllocError>
 
 fn push_line(lines: &mut String, binary: &TestBinary<'_>) -> Result<(), AllocError> {
     lines.push_str(binary.id.as_str())?;
-    for text in [&binary.row.name, &binary.row.version, &binary.target.name] {
-        lines.push(' ')?;
-        lines.push_str(text.as_str())?;
-    }
+    push_part(lines, binary.row.name.as_str())?;
+    push_part(lines, binary.row.version.as_str())?;
+    push_part(lines, binary.target.name.as_str())?;
     lines.push('\n')
+}
+
+fn push_part(lines: &mut String, part: &str) -> Result<(), AllocError> {
+    lines.push(' ')?;
+    lines.push_str(part)
 }

@@ -34,7 +34,15 @@ fn select_by(
         choice,
         table,
     } = question;
-    match select(alloc, record, choice, table, scope, texts.as_slice(), lister) {
+    match select(
+        alloc,
+        record,
+        choice,
+        table,
+        scope,
+        texts.as_slice(),
+        lister,
+    ) {
         Ok(selection) => tell_report(alloc, &selection, answers),
         Err(error) => {
             answers.push("report", String::from_str(alloc, "refused")?)?;

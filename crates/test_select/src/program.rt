@@ -87,7 +87,13 @@ fn print_tests<'a, O: Write>(
     let inputs = tests_inputs(alloc, tests_files(asked), files)?;
     let mut lister = FileLister::new(alloc, inputs.listings);
     let (record, choice) = (&inputs.record, &inputs.choice);
-    let selection = select_on_unknown_platform(alloc, record, choice, filters_in(asked), &mut lister)?;
+    let selection = select_on_unknown_platform(
+        alloc,
+        record,
+        choice,
+        filters_in(asked),
+        &mut lister,
+    )?;
     write_report(&selection, out)?;
     Ok(())
 }
