@@ -21,19 +21,32 @@ pub(crate) fn record_in(
     name: &'static str,
 ) -> Result<WorkspaceRecord, RowFault> {
     let text = file_or_empty(alloc, row, name)?;
-    read_record(alloc, text.as_bytes()).map_err(|e| unread(alloc, name, e))
+    match read_record(alloc, text.as_bytes()) {
+        Ok(record) => Ok(record),
+        Err(error) => Err(unread(alloc, name, error)),
+    }
 }
 
 /// The choice of the row, without a file that of the default features.
 pub(crate) fn choice_in(alloc: Global, row: Row<'_>) -> Result<FeatureChoice, RowFault> {
     let text = file_or_empty(alloc, row, "choice.json")?;
-    read_choice(alloc, text.as_bytes()).map_err(|e| unread(alloc, "choice.json", e))
+    match read_choice(alloc, text.as_bytes()) {
+        Ok(choice) => Ok(choice),
+        Err(error) => Err(unread(alloc, "choice.json", error)),
+    }
 }
 
 /// The table of the row, without a file one that has no answers and lets unknown ones count.
 pub(crate) fn table_in(alloc: Global, row: Row<'_>) -> Result<PlatformTable, RowFault> {
     let text = file_or_empty(alloc, row, "table.json")?;
-    read_table(alloc, text.as_bytes()).map_err(|e| unread(alloc, "table.json", e))
+    match table_of(alloc, &text) {
+        Ok(table) => Ok(table),
+        Err(error) => Err(unread(alloc, "table.json", error)),
+    }
+}
+
+fn table_of(alloc: Global, text: &String) -> Result<PlatformTable, ReadError> {
+    read_table(alloc, text.as_bytes())
 }
 
 /// A lister over the row's listings; without a file it has none.

@@ -3,7 +3,7 @@
 use crate::question::{Question, lister_in};
 use row_program::{Answers, Row, RowFault};
 use std::alloc::{AllocError, Global};
-use test_select::{FileLister, LinkScope, Selection, select, write_report};
+use test_select::{FileLister, LinkScope, SelectError, Selection, select, write_report};
 
 /// Selects in the scope, and tells the report or what is refused, the ids that were asked and how many
 /// calls failed.
@@ -29,26 +29,30 @@ fn select_by(
     answers: &mut Answers,
 ) -> Result<(), RowFault> {
     let texts = row.texts(alloc, "texts")?;
+    match selected(alloc, question, scope, texts.as_slice(), lister) {
+        Ok(selection) => tell_report(alloc, &selection, answers),
+        Err(error) => tell_refusal(alloc, &error, answers),
+    }
+}
+
+fn selected(
+    alloc: Global,
+    question: Question<'_>,
+    scope: LinkScope,
+    texts: &[&str],
+    lister: &mut FileLister,
+) -> Result<Selection, SelectError> {
     let Question {
         record,
         choice,
         table,
     } = question;
-    match select(
-        alloc,
-        record,
-        choice,
-        table,
-        scope,
-        texts.as_slice(),
-        lister,
-    ) {
-        Ok(selection) => tell_report(alloc, &selection, answers),
-        Err(error) => {
-            answers.push("report", String::from_str(alloc, "refused")?)?;
-            answers.push("refused", format!(in alloc; "{error}")?)
-        }
-    }
+    select(alloc, record, choice, table, scope, texts, lister)
+}
+
+fn tell_refusal(alloc: Global, error: &SelectError, answers: &mut Answers) -> Result<(), RowFault> {
+    answers.push("report", String::from_str(alloc, "refused")?)?;
+    answers.push("refused", format!(in alloc; "{error}")?)
 }
 
 /// Tells the report that is written, the chosen tests, which are to be the same lines, and that the
@@ -61,11 +65,15 @@ fn tell_report(
     answers.push("refused", String::new(alloc))?;
     answers.push("asked", spaced(alloc, selection.asked())?)?;
     answers.push("report", chosen_lines(alloc, selection)?)?;
+    answers.push("report", report_text(alloc, selection)?)
+}
+
+fn report_text(alloc: Global, selection: &Selection) -> Result<String, RowFault> {
     let mut written = Vec::new(alloc);
-    match write_report(selection, &mut written) {
-        Ok(()) => answers.push("report", String::from_utf8(written)?),
-        Err(_) => Err(RowFault::Memory),
+    if write_report(selection, &mut written).is_err() {
+        return Err(RowFault::Memory);
     }
+    Ok(String::from_utf8(written)?)
 }
 
 fn chosen_lines(alloc: Global, selection: &Selection) -> Result<String, AllocError> {

@@ -5,7 +5,7 @@ use crate::question::{Question, record_in};
 use feature_switching::availability::{is_available, link_is_on};
 use row_program::{Answers, Row, RowFault};
 use std::alloc::{AllocError, Global};
-use test_select::{FeaturesOn, PlatformTable, WorkspaceRecord, features_on};
+use test_select::{FeaturesOn, PlatformTable, SelectError, WorkspaceRecord, features_on};
 
 /// Tells the features that are on, or the error, and which links and targets of the record
 /// `switched.json` they switch on.
@@ -15,15 +15,19 @@ pub(crate) fn tell_switching(
     question: Question<'_>,
     answers: &mut Answers,
 ) -> Result<(), RowFault> {
+    match switched_on(alloc, question) {
+        Ok(on) => tell_features(alloc, row, question.table, &on, answers),
+        Err(error) => answers.push("on", format!(in alloc; "{error}")?),
+    }
+}
+
+fn switched_on(alloc: Global, question: Question<'_>) -> Result<FeaturesOn, SelectError> {
     let Question {
         record,
         choice,
         table,
     } = question;
-    match features_on(alloc, record, choice, table) {
-        Ok(on) => tell_features(alloc, row, table, &on, answers),
-        Err(error) => answers.push("on", format!(in alloc; "{error}")?),
-    }
+    features_on(alloc, record, choice, table)
 }
 
 fn tell_features(

@@ -20,12 +20,35 @@ impl RowRunner for ProgramRows {
         answers: &mut Answers,
     ) -> Result<(), RowFault> {
         let words = row.texts(alloc, "words")?;
-        let mut files = MemoryFiles::new(alloc, row);
-        let (mut out, mut err) = (Vec::new(alloc), Vec::new(alloc));
-        let status = run(alloc, words.as_slice(), &mut files, &mut out, &mut err);
-        answers.push("read", files.into_asked())?;
-        answers.push("status", format!(in alloc; "{status}")?)?;
-        answers.push("stdout", String::from_utf8(out)?)?;
-        answers.push("stderr", String::from_utf8(err)?)
+        tell_end(alloc, run_on(alloc, row, words.as_slice()), answers)
     }
+}
+
+/// What a run ended with, what it wrote, and the names of the files that it read.
+#[derive(Drop)]
+struct Ended {
+    status: u8,
+    out: Vec<u8>,
+    err: Vec<u8>,
+    read: String,
+}
+
+fn run_on(alloc: Global, row: Row<'_>, words: &[&str]) -> Ended {
+    let mut files = MemoryFiles::new(alloc, row);
+    let (mut out, mut err) = (Vec::new(alloc), Vec::new(alloc));
+    let status = run(alloc, words, &mut files, &mut out, &mut err);
+    let read = files.into_asked();
+    Ended {
+        status,
+        out,
+        err,
+        read,
+    }
+}
+
+fn tell_end(alloc: Global, ended: Ended, answers: &mut Answers) -> Result<(), RowFault> {
+    answers.push("read", ended.read)?;
+    answers.push("status", format!(in alloc; "{}", ended.status)?)?;
+    answers.push("stdout", String::from_utf8(ended.out)?)?;
+    answers.push("stderr", String::from_utf8(ended.err)?)
 }
