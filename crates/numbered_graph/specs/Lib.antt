@@ -1,0 +1,4 @@
+pub mod Links
+pub mod Chains
+pub mod Graphs
+pub mod Sets

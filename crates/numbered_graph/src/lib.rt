@@ -1,0 +1,15 @@
+//! Walks, components and orders over graphs whose nodes are numbers.
+#![tactic(auto)]
+
+mod chains;
+mod direction;
+mod graph;
+mod link;
+mod looks;
+mod node_set;
+
+pub use crate::direction::Direction;
+pub use crate::graph::Graph;
+pub use crate::link::{Link, are_below, are_within};
+pub use crate::looks::Looks;
+pub use crate::node_set::NodeSet;
