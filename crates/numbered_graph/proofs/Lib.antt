@@ -1,1 +1,4 @@
-
+pub mod PathFacts
+pub mod SetFacts
+pub mod WalkFacts
+pub mod WalkingFacts

@@ -2,3 +2,6 @@ pub mod Links
 pub mod Chains
 pub mod Graphs
 pub mod Sets
+pub mod Paths
+pub mod Walks
+pub mod Walking

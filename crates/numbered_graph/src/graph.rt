@@ -1,7 +1,7 @@
 //! Graphs over numbered nodes, with the links of each node at hand by both ends.
 
-ghost use Rattle.std.specs.Prelude.{◌≡◌, ◌<◌, suc, length, IfOk};
-ghost use Rattle.numbered_graph.specs.Links.{AreWithin, near_at};
+ghost use Rattle.std.specs.Prelude.{◌≡◌, ℕ, ◌<◌, suc, length, slice_index, IfOk};
+ghost use Rattle.numbered_graph.specs.Links.{AreWithin, near_at, far_at};
 ghost use Rattle.numbered_graph.specs.Chains.{IsNextLink};
 
 use crate::chains::{Chains, chains_of};
@@ -58,6 +58,39 @@ impl Graph {
         ensures within { AreWithin self.now.nodes self.now.links }
     {
         &self.links
+    }
+
+    /// The node from which the link with this number is followed.
+    pub fn near(&self, direction: Direction, number: usize) -> usize
+        requires { number < length self.now.links }
+        ensures value { result ≡ near_at direction self.now.links number }
+        ensures node { result < self.now.nodes }
+    {
+        self.links[number].near(direction)
+    }
+
+    /// The node to which the link with this number is followed.
+    pub fn far(&self, direction: Direction, number: usize) -> usize
+        requires { number < length self.now.links }
+        ensures value { result ≡ far_at direction self.now.links number }
+        ensures node { result < self.now.nodes }
+    {
+        self.links[number].far(direction)
+    }
+
+    // For each node the number of its first link, or the number of links.
+    pub(crate) fn first_links(
+        &self,
+        alloc: Global,
+        direction: Direction,
+    ) -> Result<Vec<usize>, AllocError>
+        ensures sized { IfOk result (λ r. length r.items ≡ self.now.nodes) }
+        ensures each { IfOk result (λ r. (v : ℕ) → v < self.now.nodes → IsNextLink direction self.now.links v 0 (slice_index r.items v)) }
+    {
+        match direction {
+            Direction::Forward => Vec::from_slice(alloc, &self.leaving.first),
+            Direction::Reverse => Vec::from_slice(alloc, &self.entering.first),
+        }
     }
 
     pub(crate) fn first_of(&self, direction: Direction, node: usize) -> usize

@@ -3,13 +3,18 @@
 
 mod chains;
 mod direction;
+mod flags;
 mod graph;
 mod link;
 mod looks;
 mod node_set;
+mod reaching;
+mod walk;
 
 pub use crate::direction::Direction;
 pub use crate::graph::Graph;
 pub use crate::link::{Link, are_below, are_within};
 pub use crate::looks::Looks;
 pub use crate::node_set::NodeSet;
+pub use crate::reaching::{reach, reach_over, reach_over_counted};
+pub use crate::walk::Walk;

@@ -21,6 +21,12 @@ impl Model for NodeSet {
 }
 
 impl NodeSet {
+    pub(crate) fn from_flags(flags: Vec<bool>) -> NodeSet
+        ensures { result ≡ flags.items }
+    {
+        NodeSet { flags }
+    }
+
     /// Whether the node is in the set. A number past the last node is in no set.
     pub fn contains(&self, node: usize) -> bool
         ensures { result ≡ has self.now node }
