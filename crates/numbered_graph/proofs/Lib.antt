@@ -2,3 +2,15 @@ pub mod PathFacts
 pub mod SetFacts
 pub mod WalkFacts
 pub mod WalkingFacts
+pub mod ListParts
+pub mod SearchOpening
+pub mod SearchJoining
+pub mod SearchPassing
+pub mod SearchClosing
+pub mod SearchEnds
+pub mod SearchMeeting
+pub mod Kept
+pub mod Numbers
+pub mod RankFacts
+pub mod ListingFacts
+pub mod RootFacts

@@ -1,10 +1,12 @@
 -- Paths joined, made longer, and closed sets.
-use Rattle.std.proofs.Common.{◌≡◌, ℕ, ◌<◌, Bool, true, List, [], ◌∷◌, ◌++◌, length, Contains, refl, sym, subst, ◌∙◌}
+use Rattle.std.proofs.Common.{◌≡◌, ℕ, ◌<◌, Bool, true, false, List, [], ◌∷◌, ◌++◌, length, replicate, ◌↔◌, Contains, refl, sym, subst, ◌∙◌}
 use Rattle.numbered_graph.specs.declared.link.Link.{Link}
 use Rattle.numbered_graph.specs.declared.direction.Direction.{Direction}
 use Rattle.numbered_graph.specs.declared.direction.Direction.TheVariants.{Forward, Reverse}
 use Rattle.numbered_graph.specs.Links.{link_at, near_at, far_at}
-use Rattle.numbered_graph.specs.Paths.{IsPath, Reaches, AreMutual, LeadsOn, IsReached}
+use Rattle.std.proofs.lemmas.List.{get_or-replicate}
+use Rattle.numbered_graph.specs.Sets.{has}
+use Rattle.numbered_graph.specs.Paths.{any_link, IsPath, Reaches, AreMutual, LeadsOn, IsReached}
 
 module _ (links : List Link) where
   -- a path over links that pass one test, where those pass another one too
@@ -47,6 +49,10 @@ module _ {links : List Link} {p : ℕ → Bool} where
 
   pub Reaches-weaker : {q : ℕ → Bool} → ((j : ℕ) → j < length links → p j ≡ true → q j ≡ true) → {a b : ℕ} → Reaches links p a b → Reaches links q a b
   Reaches-weaker {q} weaker {a} {b} h = record { path = h.path; leads = IsPath-weaker links p q weaker a h.path b h.leads }
+
+-- each link passes a flag that is set for all
+pub Reaches-by_all : (links : List Link) (a b : ℕ) → Reaches links (has (replicate (length links) true)) a b ↔ Reaches links any_link a b
+Reaches-by_all links a b = (Reaches-weaker (λ j lt h. refl), Reaches-weaker (λ j lt h. get_or-replicate (length links) j true false lt))
 
 -- one link more in a direction
 pub LeadsOn-more : (d : Direction) (links : List Link) (p : ℕ → Bool) (a j : ℕ) → j < length links → p j ≡ true → LeadsOn d links p a (near_at d links j) → LeadsOn d links p a (far_at d links j)

@@ -6,6 +6,8 @@ use Rattle.std.proofs.lemmas.Grind.{common_steps}
 use Rattle.std.proofs.lemmas.List.Elements.{recursion_from_All, All-contains, Contains-get_or}
 use Rattle.std.proofs.lemmas.List.Sums.{count_by-le-length, sum_by-set}
 use Rattle.std.proofs.lemmas.List.{get_or-set_same, get_or-set_other, length-set}
+use Rattle.std.proofs.lemmas.Bool.Decides.{Decides-eqb}
+use Rattle.std.proofs.lemmas.Map.Made.{IsDistinct-from_AllPairs}
 use Rattle.std.proofs.lemmas.Map.Steps.{length-le_from_distinct_below}
 use Rattle.list_facts.proofs.Quantifiers.{list_any_cases}
 use Rattle.numbered_graph.specs.Sets.{has}
@@ -46,18 +48,7 @@ count_by-lt flags i lt h =
     let same = length-set flags i true in
     omega arith
 
-AllPairs-first : (x : ℕ) (xs : List ℕ) → AllPairs (λ a b. a ≢ b) (x ∷ xs) → All (λ y. eqb x y ≡ false) xs
-AllPairs-first x xs h k d lt = ne_eqb x (get_or xs k d) (h 0 (suc k) d (omega arith) (omega arith))
-
-AllPairs-rest : (x : ℕ) (xs : List ℕ) → AllPairs (λ a b. a ≢ b) (x ∷ xs) → AllPairs (λ a b. a ≢ b) xs
-AllPairs-rest x xs h i j d lt within = h (suc i) (suc j) d (omega arith) (omega arith)
-
-IsDistinct-from_pairs : (xs : List ℕ) → AllPairs (λ a b. a ≢ b) xs → IsDistinct eqb xs
-unfolding IsDistinct
-IsDistinct-from_pairs [] h = tt
-IsDistinct-from_pairs (x ∷ xs) h = (recursion_from_All (λ y. eqb x y ≡ false) xs (AllPairs-first x xs h), IsDistinct-from_pairs xs (AllPairs-rest x xs h))
-
 -- distinct numbers below n are no more than n
 pub length-le_from_pairs : (xs : List ℕ) (n : ℕ) → AllPairs (λ a b. a ≢ b) xs → ((x : ℕ) → Contains xs x → x < n) → length xs ≤ n
 length-le_from_pairs xs n distinct below =
-    length-le_from_distinct_below xs n (IsDistinct-from_pairs xs distinct) (λ q h. let c = list_any_cases (eqb q) xs h in subst (λ x. x < n) (sym (eqb-true q c.0 c.2)) (below c.0 c.1))
+    length-le_from_distinct_below xs n (IsDistinct-from_AllPairs Decides-eqb xs distinct) (λ q h. let c = list_any_cases (eqb q) xs h in subst (λ x. x < n) (sym (eqb-true q c.0 c.2)) (below c.0 c.1))

@@ -5,3 +5,8 @@ pub mod Sets
 pub mod Paths
 pub mod Walks
 pub mod Walking
+pub mod Ranks
+pub mod Searches
+pub mod Listings
+pub mod Places
+pub mod Roots

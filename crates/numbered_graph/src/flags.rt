@@ -1,6 +1,6 @@
-//! A flag for each of several things.
+//! A flag for each of several things, and lists of those whose flag is set.
 
-ghost use Rattle.std.specs.Prelude.{◌≡◌, IfOk, replicate};
+ghost use Rattle.std.specs.Prelude.{◌≡◌, ◌++◌, ◌∷◌, [], IfOk, OnOk, replicate, if◌then◌else◌};
 
 use std::alloc::{AllocError, Global};
 
@@ -9,4 +9,14 @@ pub fn flags_of(alloc: Global, flag: bool, count: usize) -> Result<Vec<bool>, Al
     ensures { IfOk result (λ v. v.items ≡ replicate count flag) }
 {
     vec![in alloc; flag; count]
+}
+
+/// Puts the number at the end of the list where the flag is set.
+pub fn push_if(numbers: &mut Vec<usize>, number: usize, flag: bool) -> Result<(), AllocError>
+    ensures { OnOk result (numbers.new.items ≡ (if flag then numbers.old.items ++ number ∷ [] else numbers.old.items)) }
+{
+    if flag {
+        numbers.push(number)?;
+    }
+    Ok(())
 }
