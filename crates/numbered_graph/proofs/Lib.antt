@@ -14,3 +14,5 @@ pub mod Numbers
 pub mod RankFacts
 pub mod ListingFacts
 pub mod RootFacts
+pub mod RunFacts
+pub mod CycleFacts

@@ -21,7 +21,7 @@ pub numbers-rising : (n : ℕ) → AllPairs (λ x y. x < y) (numbers_below n)
 numbers-rising zero = λ i j d lt small. absurd (omega arith)
 numbers-rising (suc n) = all_pairs_push (λ x y. x < y) (numbers_below n) n (numbers-rising n) (numbers-small n)
 
-push_or : (b : Bool) (xs : List ℕ) (y : ℕ) → xs ++ cond b (y ∷ []) [] ≡ cond b (xs ++ y ∷ []) xs
+pub push_or : (b : Bool) (xs : List ℕ) (y : ℕ) → xs ++ cond b (y ∷ []) [] ≡ cond b (xs ++ y ∷ []) xs
 push_or true xs y = refl
 push_or false xs y = append-nil xs
 

@@ -10,3 +10,4 @@ pub mod Searches
 pub mod Listings
 pub mod Places
 pub mod Roots
+pub mod Cycles

@@ -1,6 +1,6 @@
 //! A flag for each of several things, and lists of those whose flag is set.
 
-ghost use Rattle.std.specs.Prelude.{◌≡◌, ◌++◌, ◌∷◌, [], IfOk, OnOk, replicate, if◌then◌else◌};
+ghost use Rattle.std.specs.Prelude.{◌≡◌, ◌≤◌, ◌++◌, ◌∷◌, [], All, IfOk, OnOk, replicate, if◌then◌else◌};
 
 use std::alloc::{AllocError, Global};
 
@@ -19,4 +19,17 @@ pub fn push_if(numbers: &mut Vec<usize>, number: usize, flag: bool) -> Result<()
         numbers.push(number)?;
     }
     Ok(())
+}
+
+/// The greatest of the numbers, or 0.
+pub fn highest(numbers: &[usize]) -> usize
+    ensures { All (λ n. n ≤ result) numbers.now }
+{
+    let mut top = 0;
+    for number in numbers {
+        if *number > top {
+            top = *number;
+        }
+    }
+    top
 }

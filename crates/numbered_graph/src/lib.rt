@@ -3,6 +3,7 @@
 
 mod chains;
 mod components;
+mod cycle_lists;
 mod direction;
 mod flags;
 mod graph;
@@ -15,6 +16,7 @@ mod roots;
 mod walk;
 
 pub use crate::components::component_ranks;
+pub use crate::cycle_lists::cycles;
 pub use crate::direction::Direction;
 pub use crate::graph::Graph;
 pub use crate::link::{Link, are_below, are_within};

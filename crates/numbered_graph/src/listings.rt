@@ -54,7 +54,7 @@ pub fn listed_members(
 }
 
 // The nodes by rank, and within a rank by firm rank.
-fn in_order(
+pub(crate) fn in_order(
     alloc: Global,
     ranks: &[usize],
     firm_ranks: &[usize],

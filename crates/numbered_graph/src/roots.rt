@@ -9,7 +9,7 @@ ghost use Rattle.numbered_graph.specs.Sets.{has};
 
 use crate::components::component_ranks;
 use crate::direction::Direction;
-use crate::flags::{flags_of, push_if};
+use crate::flags::{flags_of, highest, push_if};
 use crate::graph::Graph;
 use crate::node_set::NodeSet;
 use std::alloc::{AllocError, Global};
@@ -87,18 +87,6 @@ fn entered_ranks(
         }
     }
     Ok(entered)
-}
-
-fn highest(numbers: &[usize]) -> usize
-    ensures { All (λ n. n ≤ result) numbers.now }
-{
-    let mut top = 0;
-    for number in numbers {
-        if *number > top {
-            top = *number;
-        }
-    }
-    top
 }
 
 // The members of the set whose rank is not entered.
