@@ -23,6 +23,6 @@ is_open s rule = has_premises s rule.premises && not (s rule.conclusion)
 abbrev pub IsClosed : List Rule → FeatureSet → Type 0
 IsClosed rules s = (r : Rule) → Contains rules r → has_premises s r.premises ≡ true → s r.conclusion ≡ true
 
--- the feature is in every closed set
+-- the feature is in every closed set; each set is a test of features, and what is on is the meet of all that are closed
 abbrev pub IsOn : List Rule → FeatureValue → Type 0
 IsOn rules f = (s : FeatureSet) → IsClosed rules s → s f ≡ true

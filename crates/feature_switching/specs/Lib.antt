@@ -1,3 +1,4 @@
+pub mod ErrorTexts
 pub mod Errors
 pub mod Extras
 pub mod OnLines

@@ -23,4 +23,4 @@ HasRequired on package_id target = (name : Text) → Contains target.required_fe
 
 -- a binary is available where its required features are on
 abbrev pub IsAvailable : (FeatureValue → Type 0) → Binary → Type 0
-IsAvailable on b = HasRequired on b.package_id b.target
+IsAvailable on b = HasRequired on b.owner.id b.target

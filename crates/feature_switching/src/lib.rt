@@ -6,8 +6,6 @@ mod extras;
 mod features;
 mod select_error;
 mod switching;
-#[cfg(test)]
-mod tests;
 
 pub use crate::features::FeaturesOn;
 pub use crate::select_error::SelectError;

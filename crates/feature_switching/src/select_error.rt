@@ -1,9 +1,11 @@
 //! Why a selection is refused.
 
 ghost use Rattle.std.specs.Prelude.{◌≡◌};
+ghost use Rattle.std.specs.Fmt.{WritesOnOk};
 ghost use Rattle.feature_switching.specs.declared.select_error.SelectError.TheVariants.{Memory};
+ghost use Rattle.feature_switching.specs.ErrorTexts.{fault_line, fault_lines, more_fault_lines};
 
-use filter_texts::ParseSingleError;
+use filter_texts::{ParseSingleError, SourceSpan};
 use record_rules::RecordError;
 use std::alloc::{AllocError, AllocFailed};
 use std::fmt;
@@ -27,6 +29,11 @@ pub enum SelectError {
 }
 
 impl fmt::Display for SelectError {
+    ghost use Rattle.std.specs.Prelude.{Some};
+    ghost use Rattle.feature_switching.specs.ErrorTexts.{refusal_text};
+
+    ghost output = { λ e. Some (refusal_text e) };
+
     fn fmt<W: fmt::Write>(&self, f: &mut fmt::Formatter<W>) -> fmt::Result {
         match self {
             SelectError::Record(error) => write!(f, "record: {error}"),
@@ -39,20 +46,45 @@ impl fmt::Display for SelectError {
     }
 }
 
-/// A line for each fault, with its place and length in the text.
+/// A line for each fault, parted by line feeds.
 fn write_faults<W: fmt::Write>(
     f: &mut fmt::Formatter<W>,
     place: usize,
     errors: &[ParseSingleError],
-) -> fmt::Result {
-    for (number, error) in errors.iter().enumerate() {
-        if number > 0 {
-            f.write_str("\n")?;
-        }
-        let span = error.span();
-        write!(f, "filter {place}: {error} ({}, {})", span.offset, span.len)?;
+) -> fmt::Result
+    ensures { WritesOnOk W.write_str_gives f.old result (fault_lines place errors.now) f.new }
+{
+    let Some((first, others)) = errors.split_first() else {
+        return Ok(());
+    };
+    write_fault(f, place, first)?;
+    write_more_faults(f, place, others)
+}
+
+fn write_more_faults<W: fmt::Write>(
+    f: &mut fmt::Formatter<W>,
+    place: usize,
+    errors: &[ParseSingleError],
+) -> fmt::Result
+    ensures { WritesOnOk W.write_str_gives f.old result (more_fault_lines place errors.now) f.new }
+{
+    for error in errors {
+        f.write_str("\n")?;
+        write_fault(f, place, error)?;
     }
     Ok(())
+}
+
+/// The fault, with where it lies in the text and how long it is.
+fn write_fault<W: fmt::Write>(
+    f: &mut fmt::Formatter<W>,
+    place: usize,
+    error: &ParseSingleError,
+) -> fmt::Result
+    ensures { WritesOnOk W.write_str_gives f.old result (fault_line place error.now) f.new }
+{
+    let SourceSpan { offset, len } = error.span();
+    write!(f, "filter {place}: {error} ({offset}, {len})")
 }
 
 impl From<RecordError> for SelectError {

@@ -8,8 +8,6 @@ mod filter_text;
 mod parse_error;
 mod reach;
 mod test_filter;
-#[cfg(test)]
-mod tests;
 
 pub use crate::compile::{FilterRefusal, compile_filters};
 pub use crate::parse_error::{ParseSingleError, SourceSpan};

@@ -3,8 +3,6 @@
 #![tactic(auto)]
 
 mod sorting;
-#[cfg(test)]
-mod tests;
 mod writing;
 
 pub use crate::sorting::{copy_texts, sorted_pairs, sorted_texts};

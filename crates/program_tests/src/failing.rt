@@ -1,50 +1,41 @@
 //! Runs whose streams fail.
 
-use crate::files::FILES;
-use crate::memory_files::MemoryFiles;
+use crate::files::TwoFiles;
 use crate::streams::{FailingStream, UnflushedStream};
-use std::test::Fail;
 use test_select::run;
 
-const TESTS: [&str; 8] = [
+const TESTS: [&str; 6] = [
     "test_select",
     "tests",
     "--record",
     "record.json",
     "--listings",
     "listings.json",
-    "--choice",
-    "x.json",
 ];
 
 /// What was taken is a beginning of the report.
 #[test]
-fn an_output_that_fails(rt: HostRuntime) -> Result<(), Fail> {
+fn an_output_that_fails(rt: HostRuntime) {
     let alloc = rt.alloc();
     for left in [0, 1, 3, 5] {
-        let mut files = MemoryFiles::new(alloc, &FILES);
         let mut out = FailingStream::new(alloc, left);
         let mut err = Vec::new(alloc);
-        let status = run(alloc, &TESTS, &mut files, &mut out, &mut err);
+        let status = run(alloc, &TESTS, &mut TwoFiles, &mut out, &mut err);
         assert_eq!(rt; err.as_slice(), b"cannot write\n".as_slice());
         assert!(rt; b"a t1\nb t2\n".as_slice().starts_with(out.taken()));
         assert_eq!(rt; status, 1);
     }
-    Ok(())
 }
 
 #[test]
-fn an_output_that_is_not_flushed(rt: HostRuntime) -> Result<(), Fail> {
+fn an_output_that_is_not_flushed(rt: HostRuntime) {
     let alloc = rt.alloc();
     for words in [TESTS.as_slice(), &["test_select", "--help"]] {
-        let mut files = MemoryFiles::new(alloc, &FILES);
-        let mut out = UnflushedStream;
         let mut err = Vec::new(alloc);
-        let status = run(alloc, words, &mut files, &mut out, &mut err);
+        let status = run(alloc, words, &mut TwoFiles, &mut UnflushedStream, &mut err);
         assert_eq!(rt; err.as_slice(), b"cannot write\n".as_slice());
         assert_eq!(rt; status, 1);
     }
-    Ok(())
 }
 
 const STATUSES: [(&[&str], usize, u8); 5] = [
@@ -60,10 +51,9 @@ const STATUSES: [(&[&str], usize, u8); 5] = [
 fn a_standard_error_that_fails(rt: HostRuntime) {
     let alloc = rt.alloc();
     for (words, left, want) in STATUSES {
-        let mut files = MemoryFiles::new(alloc, &FILES);
         let mut out = FailingStream::new(alloc, left);
         let mut err = FailingStream::new(alloc, 0);
-        let status = run(alloc, words, &mut files, &mut out, &mut err);
+        let status = run(alloc, words, &mut TwoFiles, &mut out, &mut err);
         assert_eq!(rt; status, want);
     }
 }

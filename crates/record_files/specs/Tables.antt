@@ -25,7 +25,7 @@ table_view table = record { answers = answered table; unknown_counts = table.unk
 abbrev pub IsAscending : List (Text × Bool) → Type 0
 IsAscending answers = IsStrictlySortedBy text_cmp (map (λ e. e.0) answers)
 
--- the answer to a spec; null is none
+-- the answer to a spec; null is no answer, but a wrong value
 abbrev pub answer_of : Text → Data → Result Bool Fault
 answer_of spec d = flag_of key.Answers d
 

@@ -8,10 +8,10 @@ use Rattle.feature_account.specs.Lines.{is_member}
 use Rattle.test_lister.specs.declared.binary.BuildPlatform.{BuildPlatform}
 use Rattle.test_lister.specs.declared.binary.BuildPlatform.TheVariants as platform
 
--- a target of a package, which is built into a test binary under an id of its own
+-- a target of a package, its owner, which is built into a test binary under an id of its own
 pub record Binary : Type 0 where
   pub id : Text
-  pub package_id : Text
+  pub owner : Package
   pub target : Target
 
 -- how nextest calls the kinds of targets
@@ -56,7 +56,7 @@ may_have_tests BuildScript = false
 
 -- the binary of a package's target
 abbrev pub binary_of : Package → Target → Binary
-binary_of p t = record { id = binary_id p.name t.kind t.name; package_id = p.id; target = t }
+binary_of p t = record { id = binary_id p.name t.kind t.name; owner = p; target = t }
 
 -- the binaries of a package: one for each target that is tested
 abbrev pub binaries_of : Package → List Binary

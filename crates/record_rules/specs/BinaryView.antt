@@ -3,6 +3,6 @@ use Rattle.std.specs.Prelude.{string_bytes}
 use Rattle.record_rules.specs.Binaries.{Binary}
 use Rattle.record_rules.specs.declared.binaries.TestBinary.{TestBinary}
 
--- the id, and the parts of the record that the binary points to
+-- the id, and the package and the target that the binary points to
 abbrev pub binary_view : TestBinary → Binary
-binary_view b = record { id = string_bytes b.id; package_id = b.row.now.id; target = b.target.now }
+binary_view b = record { id = string_bytes b.id; owner = b.row.now; target = b.target.now }

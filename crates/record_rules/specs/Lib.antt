@@ -1,4 +1,5 @@
 pub mod Binaries
 pub mod BinaryOrder
 pub mod BinaryView
+pub mod ErrorTexts
 pub mod RecordRules

@@ -8,8 +8,6 @@ mod id_rules;
 mod package_rules;
 mod record_error;
 mod record_rules;
-#[cfg(test)]
-mod tests;
 mod thin;
 
 pub use crate::record_error::{RecordError, RecordRule};

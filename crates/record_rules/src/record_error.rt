@@ -31,6 +31,11 @@ pub enum RecordRule {
 }
 
 impl fmt::Display for RecordRule {
+    ghost use Rattle.std.specs.Prelude.{Some};
+    ghost use Rattle.record_rules.specs.ErrorTexts.{rule_text};
+
+    ghost output = { λ rule. Some (rule_text rule) };
+
     fn fmt<W: fmt::Write>(&self, f: &mut fmt::Formatter<W>) -> fmt::Result {
         f.write_str(match self {
             RecordRule::PackageIds => "K1",
@@ -59,6 +64,11 @@ pub enum RecordError {
 }
 
 impl fmt::Display for RecordError {
+    ghost use Rattle.std.specs.Prelude.{Some};
+    ghost use Rattle.record_rules.specs.ErrorTexts.{error_text};
+
+    ghost output = { λ error. Some (error_text error) };
+
     fn fmt<W: fmt::Write>(&self, f: &mut fmt::Formatter<W>) -> fmt::Result {
         match self {
             RecordError::Broken { rule, place } => write!(f, "rule {rule} at {place}"),

@@ -1,71 +1,40 @@
-//! What the errors of a selection print.
+//! What errors print that no row shows.
 
-use selection_cases::{Refusal, error_of};
 use std::alloc::{AllocError, Global};
+use std::fmt::Display;
+use std::process::Abort;
 use std::test::Fail;
+use test_lister::AskError;
 use test_select::{
-    ListingFault, ParseSingleError, RecordError, RecordRule, SelectError, SourceSpan,
+    BuildPlatform, ListFault, ListingFault, ParseSingleError, ReadError, RecordError, SelectError,
+    SourceSpan,
 };
 
-const PRINTED: [(Refusal<'static>, &str); 8] = [
-    (Refusal::NotYet, "record: not yet"),
-    (
-        Refusal::Broken(RecordRule::LinkLines, 12),
-        "record: rule K5 at 12",
-    ),
-    (Refusal::UnknownExtra(0), "choice: unknown extra 0"),
-    (
-        Refusal::Unsupported(0, (0, 7)),
-        "filter 0: unsupported expression (0, 7)",
-    ),
-    (
-        Refusal::NoPackageMatch(3, (8, 2)),
-        "filter 3: operator didn't match any packages (8, 2)",
-    ),
-    (Refusal::Lister("a::b"), "lister: a::b"),
-    (
-        Refusal::BadListing("a", ListingFault::LineFeed),
-        "listing of a: line feed",
-    ),
-    (
-        Refusal::BadListing("é", ListingFault::RepeatedName),
-        "listing of é: repeated name",
-    ),
-];
-
-#[test]
-fn one_line_each(rt: HostRuntime) -> Result<(), Fail> {
-    let alloc = rt.alloc();
-    for (refusal, want) in PRINTED {
-        let error = error_of(alloc, refusal)?;
-        let text = format!(in alloc; "{error}")?;
-        assert_eq!(rt; text.as_str(), want);
-    }
-    let text = format!(in alloc; "{}", SelectError::Memory)?;
-    assert_eq!(rt; text.as_str(), "out of memory");
+fn expect_text<E: Display>(rt: &impl Abort, alloc: Global, error: &E, want: &str) -> Result<(), Fail> {
+    let text = format!(in alloc; "{error}")?;
+    assert_eq!(rt; text.as_str(), want);
     Ok(())
 }
 
-const RULES: [(RecordRule, &str); 9] = [
-    (RecordRule::PackageIds, "rule K1 at 0"),
-    (RecordRule::LinkEnds, "rule K3 at 0"),
-    (RecordRule::LinkLines, "rule K5 at 0"),
-    (RecordRule::Members, "rule K7 at 0"),
-    (RecordRule::Targets, "rule K11 at 0"),
-    (RecordRule::FeatureNames, "rule K13 at 0"),
-    (RecordRule::BinaryIds, "rule K14 at 0"),
-    (RecordRule::BinaryIdTexts, "rule K15 at 0"),
-    (RecordRule::RequiredFeatures, "rule K16 at 0"),
-];
+#[test]
+fn want_of_memory(rt: HostRuntime) -> Result<(), Fail> {
+    let alloc = rt.alloc();
+    expect_text(&rt, alloc, &SelectError::Memory, "out of memory")?;
+    expect_text(&rt, alloc, &RecordError::Memory, "out of memory")?;
+    expect_text(&rt, alloc, &ReadError::Memory, "out of memory")?;
+    expect_text(&rt, alloc, &AskError::Memory, "out of memory")
+}
 
 #[test]
-fn each_rule_by_its_code(rt: HostRuntime) -> Result<(), Fail> {
-    for (rule, want) in RULES {
-        let error = RecordError::Broken { rule, place: 0 };
-        let text = format!(in rt.alloc(); "{error}")?;
-        assert_eq!(rt; text.as_str(), want);
-    }
-    Ok(())
+fn errors_of_asking(rt: HostRuntime) -> Result<(), Fail> {
+    let alloc = rt.alloc();
+    expect_text(&rt, alloc, &AskError::Lister(2), "no listing for binary 2")?;
+    let line_feed = AskError::BadListing(0, ListingFault::LineFeed);
+    expect_text(&rt, alloc, &line_feed, "bad listing for binary 0: line feed")?;
+    let repeated = AskError::BadListing(7, ListingFault::RepeatedName);
+    expect_text(&rt, alloc, &repeated, "bad listing for binary 7: repeated name")?;
+    expect_text(&rt, alloc, &ListFault, "no listing")?;
+    expect_text(&rt, alloc, &BuildPlatform::Host, "host")
 }
 
 fn two_faults(alloc: Global) -> Result<SelectError, AllocError> {
@@ -77,11 +46,8 @@ fn two_faults(alloc: Global) -> Result<SelectError, AllocError> {
 
 #[test]
 fn a_line_for_each_fault(rt: HostRuntime) -> Result<(), Fail> {
-    let alloc = rt.alloc();
-    let error = two_faults(alloc)?;
-    let text = format!(in alloc; "{error}")?;
+    let error = two_faults(rt.alloc())?;
     let want = "filter 1: operator didn't match any packages (8, 2)\n\
         filter 1: unsupported expression (14, 0)";
-    assert_eq!(rt; text.as_str(), want);
-    Ok(())
+    expect_text(&rt, rt.alloc(), &error, want)
 }

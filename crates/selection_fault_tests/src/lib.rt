@@ -1,14 +1,16 @@
-//! Tests of `test_select` by its public calls: records, choices, texts, listers and writers that a
-//! selection or its report ends with.
+//! Tests of selections over listers and writers that fail, and of what errors print: what no row can
+//! say.
 #![tactic(auto)]
 
-#[cfg(test)]
-mod broken_records;
 #[cfg(test)]
 mod error_texts;
 #[cfg(test)]
 mod listers;
 #[cfg(test)]
-mod refusals;
-#[cfg(test)]
 mod reports;
+#[cfg(test)]
+mod sorts;
+#[cfg(test)]
+mod three_packages;
+#[cfg(test)]
+mod writers;

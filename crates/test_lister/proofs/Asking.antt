@@ -1,10 +1,10 @@
 -- One call more, or the last one, after some ids were answered.
-use Rattle.std.proofs.Common.{◌≡◌, ℕ, ◌+◌, ◌<◌, ◌≤◌, List, [], ◌∷◌, ◌++◌, length, get_or, take, map, refl, sym, ◌∙◌, ap, subst, inl, inr, ⊎_elim, Some, append_assoc, append-nil, take_all, arith}
+use Rattle.std.proofs.Common.{◌≡◌, ℕ, ◌+◌, ◌<◌, ◌≤◌, List, [], ◌∷◌, ◌++◌, length, All, get_or, take, map, refl, sym, ◌∙◌, ap, subst, inl, inr, ⊎_elim, Some, append_assoc, append-nil, take_all, arith}
 use Rattle.std.proofs.lemmas.List.{take_more, map-append, length-map, get_or-map}
 use Rattle.std.proofs.lemmas.List.Elements.{All-more}
 use Rattle.test_lister.specs.Listers.{Shown, Asked, Failed, largest, one_more}
 use Rattle.test_lister.specs.Listings.{IsWellFormed, HasFault}
-use Rattle.test_lister.specs.Asking.{HoldsWellFormed, Answered, FailedAt, FaultyAt}
+use Rattle.test_lister.specs.Asking.{HoldsWellFormed, Answered, FailedAt, FaultyAt, AskedSome}
 use Rattle.test_lister.specs.declared.fault.ListingFault.{ListingFault}
 
 pub answered_none : (s : Shown) → Answered s [] [] s
@@ -13,6 +13,26 @@ answered_none s = record {
   not_full = λ lt. absurd (omega arith);
   held = refl;
   well_formed = λ k d lt. absurd (omega arith);
+}
+
+-- before anything was asked
+pub asked_nothing : (s : Shown) (ids : List (List ℕ)) → AskedSome s ids s
+asked_nothing s ids = record {
+  count = 0;
+  tested = 0;
+  last_untested = omega arith;
+  asked = record { asked = sym (append-nil s.asked); failures = refl; listings = refl };
+  well_formed = λ k d lt. absurd (omega arith);
+}
+
+-- once all were answered
+pub asked_all : (s t : Shown) (ids : List (List ℕ)) (answers : List (List (List ℕ))) → Answered s ids answers t → AskedSome s ids t
+asked_all s t ids answers h = record {
+  count = length ids;
+  tested = length ids;
+  last_untested = omega arith;
+  asked = subst (λ xs. Asked s xs t) (sym (take_all (length ids) ids (omega arith))) h.asked;
+  well_formed = subst (All (HoldsWellFormed s)) (sym (take_all (length ids) ids (omega arith))) h.well_formed;
 }
 
 -- the id at place i
@@ -50,6 +70,16 @@ module _ (ids : List (List ℕ)) (i : ℕ) (id : List ℕ) (within : i < length 
         failures = f.failures ∙ ap one_more so_far.asked.failures;
         listings = f.listings ∙ so_far.asked.listings;
       };
+      well_formed = so_far.well_formed;
+    }
+
+    -- memory ran out before the last listing was tested or kept
+    pub asked_some : Asked t (id ∷ []) u → AskedSome s ids u
+    asked_some b = record {
+      count = i + 1;
+      tested = i;
+      last_untested = omega arith;
+      asked = asked_more s t u so_far.asked b;
       well_formed = so_far.well_formed;
     }
 

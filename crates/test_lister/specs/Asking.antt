@@ -1,5 +1,5 @@
 -- What it is to ask for several listings, one after another.
-use Rattle.std.specs.Prelude.{◌≡◌, ℕ, ◌+◌, ◌<◌, List, length, take, map, All, slice_index_or, [], Some, Result, Ok, Err, Vec, String}
+use Rattle.std.specs.Prelude.{◌≡◌, ℕ, ◌+◌, ◌<◌, ◌≤◌, List, length, take, map, All, slice_index_or, [], Some, Result, Ok, Err, Vec, String}
 use Rattle.std.specs.Global.{Global}
 use Rattle.list_facts.specs.Texts.{texts}
 use Rattle.test_lister.specs.Listers.{Shown, Asked, Failed, largest}
@@ -37,9 +37,17 @@ pub record FaultyAt (old : Shown) (ids : List (List ℕ)) (i : ℕ) (fault : Lis
   pub faulty : HoldsFaulty old fault (slice_index_or ids i [])
   pub well_formed : All (HoldsWellFormed old) (take i ids)
 
--- what asking for the listings of these ids does; once memory has run out, some beginning of the ids was asked
+-- a beginning of the ids was asked for, no call failed, and the listings of these, but maybe the last one's, are well-formed
+pub record AskedSome (old : Shown) (ids : List (List ℕ)) (new : Shown) : Type 0 where
+  pub count : ℕ
+  pub tested : ℕ
+  pub last_untested : count ≤ tested + 1
+  pub asked : Asked old (take count ids) new
+  pub well_formed : All (HoldsWellFormed old) (take tested ids)
+
+-- what asking for the listings of these ids does, also where memory runs out
 abbrev pub ListsEach : Shown → List (List ℕ) → Result (Vec (Vec (String Global) Global) Global) AskError → Shown → Type 0
 ListsEach old ids (Ok listings) new = Answered old ids (map (λ listing. texts listing.items) listings.items) new
 ListsEach old ids (Err (Lister i)) new = FailedAt old ids i new
 ListsEach old ids (Err (BadListing i fault)) new = FaultyAt old ids i fault new
-ListsEach old ids (Err Memory) new = (k : ℕ) × Asked old (take k ids) new
+ListsEach old ids (Err Memory) new = AskedSome old ids new

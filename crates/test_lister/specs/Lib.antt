@@ -1,5 +1,6 @@
+pub mod Asking
+pub mod Faults
+pub mod FileListers
 pub mod Listers
 pub mod Listings
-pub mod Asking
-pub mod FileListers
 pub mod Platforms

@@ -4,6 +4,7 @@ ghost use Rattle.std.specs.Prelude.{◌≡◌};
 ghost use Rattle.test_lister.specs.declared.fault.AskError.TheVariants.{Memory};
 
 use std::alloc::{AllocError, AllocFailed};
+use std::fmt;
 use thiserror::Error;
 
 /// A lister has no answer, for a reason that it does not tell.
@@ -24,15 +25,29 @@ impl<T: Drop> From<AllocFailed<T>> for ListFault {
 }
 
 /// What is wrong with a listing.
-#[derive(Clone, Copy, Debug, PartialEq, Eq, Error)]
+#[derive(Clone, Copy, Debug, PartialEq, Eq)]
 pub enum ListingFault {
     /// A name holds a line feed.
-    #[error("line feed")]
     LineFeed,
     /// A name stands twice.
-    #[error("repeated name")]
     RepeatedName,
 }
+
+impl fmt::Display for ListingFault {
+    ghost use Rattle.std.specs.Prelude.{Some};
+    ghost use Rattle.test_lister.specs.Faults.{fault_text};
+
+    ghost output = { λ fault. Some (fault_text fault) };
+
+    fn fmt<W: fmt::Write>(&self, f: &mut fmt::Formatter<W>) -> fmt::Result {
+        f.write_str(match self {
+            ListingFault::LineFeed => "line feed",
+            ListingFault::RepeatedName => "repeated name",
+        })
+    }
+}
+
+impl std::error::Error for ListingFault {}
 
 /// Why not all binaries have a listing. A number is the place of the binary.
 #[derive(Clone, Copy, Debug, PartialEq, Eq, Error)]

@@ -8,8 +8,6 @@ mod fault;
 mod file_lister;
 mod lister;
 mod listing;
-#[cfg(test)]
-mod tests;
 
 pub use crate::ask::ask_each;
 pub use crate::binary::{BinaryInfo, BuildPlatform};

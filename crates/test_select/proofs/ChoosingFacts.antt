@@ -7,7 +7,8 @@ use Rattle.list_facts.specs.Texts.{texts}
 use Rattle.list_facts.proofs.Membership.{Contains-none, Contains-first, Contains-rest, Contains-cons_cases, Contains-append_left, Contains-append_right, Contains-append_cases, Contains-map, Contains-map_cases, Contains-filter, Contains-filter_cases}
 use Rattle.workspace_record.specs.Records.{Text}
 use Rattle.test_lister.specs.Listers.{Shown}
-use Rattle.test_lister.specs.Asking.{Answered}
+use Rattle.test_lister.specs.Asking.{Answered, AskedSome}
+use Rattle.test_lister.proofs.Asking.{asked_all}
 use Rattle.record_rules.specs.Binaries.{Binary}
 use Rattle.record_rules.specs.BinaryView.{binary_view}
 use Rattle.record_rules.specs.declared.binaries.TestBinary.{TestBinary}
@@ -15,6 +16,9 @@ use Rattle.filter_texts.specs.Compiled.{any_matches}
 use Rattle.filter_texts.specs.declared.test_filter.TestFilter.{TestFilter}
 use Rattle.test_select.specs.Choosing.{under, chosen_of, chosen_each, ids_of, IsMatched, IsCarriedOut}
 use Rattle.test_select.specs.Selections.{Selected}
+use Rattle.test_select.specs.Told.{Told, told_by, told_of}
+use Rattle.test_lister.specs.declared.binary.BinaryInfo.{BinaryInfo}
+use Rattle.list_facts.proofs.Lists.{map-map}
 
 -- one pair more of two lists
 module _ {A B C : Type 0} (f : A × B → List C) where
@@ -28,24 +32,32 @@ module _ {A B C : Type 0} (f : A × B → List C) where
   pub pairs_more : (xs : List A) (ys : List B) (i : ℕ) (d : A) (e : B) → i < length xs → i < length ys → flat_map f (zip (take (i + 1) xs) (take (i + 1) ys)) ≡ flat_map f (zip (take i xs) (take i ys)) ++ f (get_or xs i d, get_or ys i e)
   pairs_more xs ys i d e lt le = rw (add-one i) (pairs_suc xs ys i d e lt le)
 
+-- the ids that are told are the ids of the binaries
+pub ids_told : (infos : List BinaryInfo) (bs : List Binary) → map told_by infos ≡ map told_of bs → map (λ (i : BinaryInfo). i.id.now) infos ≡ ids_of bs
+ids_told infos bs h = sym (map-map (λ (t : Told). t.id) told_by infos) ∙ ap (map (λ (t : Told). t.id)) h ∙ map-map (λ (t : Told). t.id) told_of bs
+
+-- all ids were asked, under the name that they were told by
+pub begun_all : (old new : Shown) (told ids : List Text) (answers : List (List Text)) → told ≡ ids → Answered old told answers new → AskedSome old ids new
+begun_all old new told ids answers same h = subst (λ all. AskedSome old all new) same (asked_all old new told answers h)
+
 some_exact : {X : Type 0} {x y : X} → Some x ≡ Some y → x ≡ y
 some_exact e = cc
 
 module _ (filters : List TestFilter) where
   abbrev matches_name : Binary → String Global → Bool
-  matches_name b name = any_matches filters b.package_id (string_bytes name)
+  matches_name b name = any_matches filters b.owner.id (string_bytes name)
 
-  chosen_cases : (b : Binary) (names : List (String Global)) (pair : Text × Text) → Contains (chosen_of filters b names) pair → (b.id ≡ pair.0) × Contains (texts names) pair.1 × IsTrue (any_matches filters b.package_id pair.1)
+  chosen_cases : (b : Binary) (names : List (String Global)) (pair : Text × Text) → Contains (chosen_of filters b names) pair → (b.id ≡ pair.0) × Contains (texts names) pair.1 × IsTrue (any_matches filters b.owner.id pair.1)
   chosen_cases b names pair h =
       let n = Contains-map_cases (under b) (filter (matches_name b) names) pair h in
       let r = Contains-filter_cases (matches_name b) names n.0 n.1 in
       let name : string_bytes n.0 ≡ pair.1 = ap (λ p. p.1) n.2 in
-      (ap (λ p. p.0) n.2, subst (Contains (texts names)) name (Contains-map string_bytes names n.0 r.0), subst (λ t. IsTrue (any_matches filters b.package_id t)) name r.1)
+      (ap (λ p. p.0) n.2, subst (Contains (texts names)) name (Contains-map string_bytes names n.0 r.0), subst (λ t. IsTrue (any_matches filters b.owner.id t)) name r.1)
 
-  is_chosen : (b : Binary) (names : List (String Global)) (pair : Text × Text) → b.id ≡ pair.0 → Contains (texts names) pair.1 → IsTrue (any_matches filters b.package_id pair.1) → Contains (chosen_of filters b names) pair
+  is_chosen : (b : Binary) (names : List (String Global)) (pair : Text × Text) → b.id ≡ pair.0 → Contains (texts names) pair.1 → IsTrue (any_matches filters b.owner.id pair.1) → Contains (chosen_of filters b names) pair
   is_chosen b names pair id inside holds =
       let n = Contains-map_cases string_bytes names pair.1 inside in
-      let passes : IsTrue (matches_name b n.0) = subst (λ t. IsTrue (any_matches filters b.package_id t)) (sym n.2) holds in
+      let passes : IsTrue (matches_name b n.0) = subst (λ t. IsTrue (any_matches filters b.owner.id t)) (sym n.2) holds in
       let same : under b n.0 ≡ pair = λ i. (id i, n.2 i) in
       subst (Contains (chosen_of filters b names)) same (Contains-map (under b) (filter (matches_name b) names) n.0 (Contains-filter (matches_name b) names n.0 n.1 passes))
 
@@ -83,7 +95,7 @@ module _ (filters : List TestFilter) where
         ⊎_elim
         (λ e.
         let names : m.names ≡ texts l.items = some_exact (sym m.listing ∙ sym (ap (λ (x : Binary). listing_of x.id) e) ∙ sym here) in
-        Contains-append_left (chosen_of filters view l.items) (chosen_each filters bs ls) pair (is_chosen view l.items pair (ap (λ x. x.id) e ∙ m.id) (subst (λ ns. Contains ns pair.1) names m.listed) (subst (λ (x : Binary). IsTrue (any_matches filters x.package_id pair.1)) (sym e) m.holds)))
+        Contains-append_left (chosen_of filters view l.items) (chosen_each filters bs ls) pair (is_chosen view l.items pair (ap (λ x. x.id) e ∙ m.id) (subst (λ ns. Contains ns pair.1) names m.listed) (subst (λ (x : Binary). IsTrue (any_matches filters x.owner.id pair.1)) (sym e) m.holds)))
         (λ i. Contains-append_right (chosen_of filters view l.items) (chosen_each filters bs ls) pair (rest.1 (record { binary = m.binary; is_asked = i; id = m.id; names = m.names; listing = m.listing; listed = m.listed; holds = m.holds })))
         (Contains-cons_cases view (map binary_view bs) m.binary m.is_asked) in
         (there, back)

@@ -57,9 +57,9 @@ module _ (q : Question) (on : List FeatureValue) (are_on : AreOn q.workspace q.c
     kept_iff kept found b =
         let there : Contains kept b → IsAvailableBinary q b × IsLetThrough q b = λ h.
         let r = (found b).0 h in
-        (record { declared = r.0; available = available_in (λ f. (are_on.members f).0) b r.1.0 }, (stand.may_hold b.package_id).0 r.1.1) in
+        (record { declared = r.0; available = available_in (λ f. (are_on.members f).0) b r.1.0 }, (stand.may_hold b.owner.id).0 r.1.1) in
         let back : (IsAvailableBinary q b × IsLetThrough q b) → Contains kept b = λ h.
-        (found b).1 (h.0.declared, (available_in (λ f. (are_on.members f).1) b h.0.available, (stand.may_hold b.package_id).1 h.1)) in
+        (found b).1 (h.0.declared, (available_in (λ f. (are_on.members f).1) b h.0.available, (stand.may_hold b.owner.id).1 h.1)) in
         (there, back)
 
     -- They are put in the order of their ids.
@@ -103,5 +103,5 @@ module _ (q : Question) (on : List FeatureValue) (are_on : AreOn q.workspace q.c
         };
         ids = asked_ids;
         binaries = sorted_iff;
-        holds = λ b test. stand.holds b.package_id test;
+        holds = λ b test. stand.holds b.owner.id test;
       }

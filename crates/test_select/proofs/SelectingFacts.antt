@@ -1,5 +1,5 @@
 -- From a plan that was carried out to the answer of the question.
-use Rattle.std.proofs.Common.{◌≡◌, ◌<◌, length, All, true, List, take, sym, subst, ◌↔◌, Result, Ok, Err}
+use Rattle.std.proofs.Common.{◌≡◌, ◌<◌, length, All, true, List, take, sym, subst, ◌↔◌, inr, Result, Ok, Err}
 use Rattle.list_facts.specs.Ascending.{IsAscendingOf, text_cmp}
 use Rattle.list_facts.proofs.Ascending.{one_ascending, text_total, text_exact}
 use Rattle.workspace_record.specs.Records.{Text, Link, Workspace}
@@ -51,7 +51,7 @@ module _ (q : Question) where
         } in
         let back : IsChosen q old.listing_of pair → IsMatched filters asked old.listing_of pair = λ h. record {
           binary = h.binary;
-          is_asked = (plan.binaries h.binary).1 (h.available, texts_may_hold _ _ _ _ h.binary.package_id pair.1 h.holds);
+          is_asked = (plan.binaries h.binary).1 (h.available, texts_may_hold _ _ _ _ h.binary.owner.id pair.1 h.holds);
           id = h.id;
           names = h.names;
           listing = h.listing;
@@ -81,4 +81,4 @@ module _ (q : Question) where
     answers_question (Err (BadFilter place faults)) new h = absurd h
     answers_question (Err (Lister id)) new h = record { answered = plan.answered; ids = ids_of asked; asked = plan.ids; place = h.place; at = h.at; failed = h.failed }
     answers_question (Err (BadListing id fault)) new h = record { answered = plan.answered; ids = ids_of asked; asked = plan.ids; place = h.place; at = h.at; faulty = h.faulty }
-    answers_question (Err Memory) new h = λ ids are. (h.0, subst (λ all. Asked old (take h.0 all) new) (one_asked (ids_of asked) ids plan.ids are) h.1)
+    answers_question (Err Memory) new h = inr (record { answered = plan.answered; ids = ids_of asked; asked = plan.ids; begun = h })

@@ -9,7 +9,7 @@ use Rattle.std.specs.List.Sorted.{IsStrictlySortedBy}
 use Rattle.list_facts.specs.Ascending.{pair_cmp}
 use Rattle.workspace_record.specs.Records.{Text}
 use Rattle.test_lister.specs.Listers.{Shown, Asked, largest}
-use Rattle.test_lister.specs.Asking.{HoldsWellFormed, FailedAt, FaultyAt}
+use Rattle.test_lister.specs.Asking.{HoldsWellFormed, FailedAt, FaultyAt, AskedSome}
 use Rattle.test_lister.specs.declared.fault.ListingFault.{ListingFault}
 use Rattle.record_rules.specs.Binaries.{Binary}
 use Rattle.filter_texts.specs.Compiled.{any_matches}
@@ -24,7 +24,7 @@ under b name = (b.id, string_bytes name)
 
 -- the names of a binary's tests of which some filter is true, each under the binary's id
 abbrev pub chosen_of : List TestFilter → Binary → List (String Global) → List (Text × Text)
-chosen_of filters b names = map (under b) (filter (λ name. any_matches filters b.package_id (string_bytes name)) names)
+chosen_of filters b names = map (under b) (filter (λ name. any_matches filters b.owner.id (string_bytes name)) names)
 
 -- the chosen tests of each binary, whose listing stands at the same place
 abbrev pub chosen_each : List TestFilter → List TestBinary → List (Vec (String Global) Global) → List (Text × Text)
@@ -42,7 +42,7 @@ pub record IsMatched (filters : List TestFilter) (asked : List Binary) (listing_
   pub names : List Text
   pub listing : listing_of binary.id ≡ Some names
   pub listed : Contains names pair.1
-  pub holds : IsTrue (any_matches filters binary.package_id pair.1)
+  pub holds : IsTrue (any_matches filters binary.owner.id pair.1)
 
 -- each binary was asked, each listing is well-formed, and the matched tests are those that are chosen
 pub record IsCarriedOut (filters : List TestFilter) (asked : List Binary) (old : Shown) (selection : Selected) (new : Shown) : Type 0 where
@@ -73,4 +73,4 @@ CarriesOut filters asked old (Err (UnknownExtra place)) new = ⊥
 CarriesOut filters asked old (Err (Filter place faults)) new = ⊥
 CarriesOut filters asked old (Err (Lister id)) new = FailsAt (ids_of asked) old (string_bytes id) new
 CarriesOut filters asked old (Err (BadListing id fault)) new = IsFaultyAt (ids_of asked) old (string_bytes id) fault new
-CarriesOut filters asked old (Err Memory) new = (k : ℕ) × Asked old (take k (ids_of asked)) new
+CarriesOut filters asked old (Err Memory) new = AskedSome old (ids_of asked) new

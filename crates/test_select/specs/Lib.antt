@@ -3,5 +3,7 @@ pub mod Failures
 pub mod Kept
 pub mod Plans
 pub mod Questions
+pub mod Runs
 pub mod Selecting
 pub mod Selections
+pub mod Told

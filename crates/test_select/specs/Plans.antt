@@ -23,7 +23,7 @@ use Rattle.test_select.specs.declared.plan.Plan.{Plan}
 
 -- a binary is available, and some test there may match
 abbrev pub MayMatch : (FeatureValue → Type 0) → List TestFilter → Binary → Type 0
-MayMatch on filters b = IsAvailable on b × IsTrue (any_may_match filters b.package_id)
+MayMatch on filters b = IsAvailable on b × IsTrue (any_may_match filters b.owner.id)
 
 -- what compiling the texts of a question comes to
 abbrev pub CompilesFor : Workspace → (Link → Type 0) → List Text → Result (Vec TestFilter Global) SelectError → Type 0
@@ -41,7 +41,7 @@ module _ (q : Question) where
     pub answered : IsAnswered q
     pub ids : IsAsked q (map (λ b. b.id) asked)
     pub binaries : (b : Binary) → Contains asked b ↔ (IsAvailableBinary q b × IsLetThrough q b)
-    pub holds : (b : Binary) (test : Text) → IsTrue (any_matches filters b.package_id test) ↔ TextsHold q b test
+    pub holds : (b : Binary) (test : Text) → IsTrue (any_matches filters b.owner.id test) ↔ TextsHold q b test
 
   -- what planning comes to
   abbrev pub Plans : Result Plan SelectError → Type 0

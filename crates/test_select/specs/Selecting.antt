@@ -1,10 +1,10 @@
 -- Which tests are chosen, which binaries are asked for theirs, and what a selection comes to.
-use Rattle.std.specs.Prelude.{◌≡◌, ℕ, ◌<◌, List, [], ◌∷◌, length, take, All, Contains, slice_index_or, Option, Some, None, Result, Ok, Err, ◌↔◌, string_bytes}
+use Rattle.std.specs.Prelude.{◌≡◌, ℕ, ◌<◌, List, [], ◌∷◌, length, take, All, Contains, slice_index_or, Option, Some, None, Result, Ok, Err, ◌↔◌, ◌⊎◌, string_bytes}
 use Rattle.std.specs.List.Sorted.{IsStrictlySortedBy}
 use Rattle.list_facts.specs.Ascending.{text_cmp, pair_cmp}
 use Rattle.workspace_record.specs.Records.{Text}
 use Rattle.test_lister.specs.Listers.{Shown, Asked, largest}
-use Rattle.test_lister.specs.Asking.{HoldsWellFormed, FailedAt, FaultyAt}
+use Rattle.test_lister.specs.Asking.{HoldsWellFormed, FailedAt, FaultyAt, AskedSome}
 use Rattle.test_lister.specs.declared.fault.ListingFault.{ListingFault}
 use Rattle.record_rules.specs.Binaries.{Binary, binaries}
 use Rattle.record_rules.specs.RecordRules.{IsChecked}
@@ -27,11 +27,11 @@ module _ (q : Question) where
 
   -- one of the texts holds of the test in the binary
   abbrev pub TextsHold : Binary → Text → Type 0
-  TextsHold b test = SomeTextHolds q.workspace (IsInContext q.workspace) (IsFollowed q) (given_texts q.texts) b.package_id test
+  TextsHold b test = SomeTextHolds q.workspace (IsInContext q.workspace) (IsFollowed q) (given_texts q.texts) b.owner.id test
 
   -- some answers about its tests let the binary through one of the texts
   abbrev pub IsLetThrough : Binary → Type 0
-  IsLetThrough b = SomeTextMayHold q.workspace (IsInContext q.workspace) (IsFollowed q) (given_texts q.texts) b.package_id
+  IsLetThrough b = SomeTextMayHold q.workspace (IsInContext q.workspace) (IsFollowed q) (given_texts q.texts) b.owner.id
 
   -- the test of a binary: it is available, its listing holds the test, and one of the texts holds
   pub record IsChosen (listing_of : Text → Option (List Text)) (pair : Text × Text) : Type 0 where
@@ -94,7 +94,14 @@ module _ (q : Question) where
     pub at : slice_index_or ids place [] ≡ id
     pub faulty : FaultyAt old ids place fault new
 
-  -- what a selection comes to, and what it asks the lister: nothing where the question is refused, a beginning of the ids where memory runs out
+  -- memory ran out once the question was known to be answered: a beginning of its ids was asked for
+  pub record StopsWithin (old new : Shown) : Type 0 where
+    pub answered : IsAnswered
+    pub ids : List Text
+    pub asked : IsAsked ids
+    pub begun : AskedSome old ids new
+
+  -- what a selection comes to, and what it asks the lister: nothing where the question is refused; where memory runs out nothing either, or a beginning of the ids
   abbrev pub Answers : Shown → Result Selected SelectError → Shown → Type 0
   Answers old (Ok selection) new = Selects old selection new
   Answers old (Err (Record e)) new = IsRefused q.workspace e × (new ≡ old)
@@ -102,4 +109,4 @@ module _ (q : Question) where
   Answers old (Err (Filter place faults)) new = RefusesText place faults.items × (new ≡ old)
   Answers old (Err (Lister id)) new = FailsFor old (string_bytes id) new
   Answers old (Err (BadListing id fault)) new = FaultyFor old (string_bytes id) fault new
-  Answers old (Err Memory) new = (ids : List Text) → IsAsked ids → (k : ℕ) × Asked old (take k ids) new
+  Answers old (Err Memory) new = (new ≡ old) ⊎ StopsWithin old new

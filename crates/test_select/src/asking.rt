@@ -3,9 +3,9 @@
 ghost use Rattle.std.specs.Prelude.{◌≡◌, ◌<◌, ◌++◌, IfOk, OnOk, [], length, map, slice_index_or, string_bytes};
 ghost use Rattle.list_facts.specs.Ascending.{IsAscendingOf, pair_cmp};
 ghost use Rattle.list_facts.specs.Texts.{texts, pair_of};
-ghost use Rattle.record_rules.specs.Binaries.{platform_of};
 ghost use Rattle.record_rules.specs.BinaryView.{binary_view};
 ghost use Rattle.test_select.specs.Choosing.{CarriesOut, chosen_of, chosen_each, ids_of};
+ghost use Rattle.test_select.specs.Told.{told_by, told_of};
 
 use crate::plan::Plan;
 use crate::selection::Selection;
@@ -37,7 +37,8 @@ pub(crate) fn carry_out(
 
 /// What the lister is told of each binary.
 fn infos<'a>(alloc: Global, asked: &'a [TestBinary<'_>]) -> Result<Vec<BinaryInfo<'a>>, AllocError>
-    ensures { IfOk result (λ v. map (λ b. b.id.now) v.items ≡ ids_of (map binary_view asked.entry.now)) }
+    ensures told { IfOk result (λ v. map told_by v.items ≡ map told_of (map binary_view asked.entry.now)) }
+    ensures ids { IfOk result (λ v. map (λ b. b.id.now) v.items ≡ ids_of (map binary_view asked.entry.now)) }
 {
     let mut infos: Vec<BinaryInfo<'a>> = Vec::new(alloc);
     for binary in asked {
@@ -47,11 +48,7 @@ fn infos<'a>(alloc: Global, asked: &'a [TestBinary<'_>]) -> Result<Vec<BinaryInf
 }
 
 fn info_of<'a>(binary: &'a TestBinary<'_>) -> BinaryInfo<'a>
-    ensures id { result.id.now ≡ string_bytes binary.entry.now.id }
-    ensures package_id { result.package_id.now ≡ (binary_view binary.entry.now).package_id }
-    ensures name { result.name.now ≡ (binary_view binary.entry.now).target.name }
-    ensures kind { result.kind ≡ (binary_view binary.entry.now).target.kind }
-    ensures platform { result.platform ≡ platform_of (binary_view binary.entry.now).target.kind }
+    ensures { told_by result ≡ told_of (binary_view binary.entry.now) }
 {
     let (row, target) = (binary.row, binary.target);
     BinaryInfo {

@@ -1,7 +1,8 @@
 //! The files that the program is given, read one by one.
 
-ghost use Rattle.std.specs.Prelude.{◌≡◌, [], IfErr};
+ghost use Rattle.std.specs.Prelude.{◌≡◌, IfOk, IfErr, IsNone, IsSome, Ok};
 ghost use Rattle.test_select.specs.Failures.{status_of};
+ghost use Rattle.test_select.specs.Runs.{default_choice};
 
 use crate::command_line::TestsFiles;
 use crate::failure::Failure;
@@ -55,7 +56,8 @@ fn choice_in<'a>(
     name: Option<&'a str>,
     files: &mut dyn FileSource,
 ) -> Result<FeatureChoice, Failure<'a>>
-    ensures { IfErr result (λ f. status_of f ≡ 1) }
+    ensures absent { IfOk result (λ c. IsNone name.entry → c ≡ default_choice) }
+    ensures fails { IfErr result (λ f. IsSome name.entry × (status_of f ≡ 1)) }
 {
     let Some(name) = name else {
         return Ok(choice_of_defaults(alloc));
@@ -66,7 +68,7 @@ fn choice_in<'a>(
 
 /// The choice where no file is named.
 fn choice_of_defaults(alloc: Global) -> FeatureChoice
-    ensures { result ≡ record { standard = Standard.Default; extras = [] } }
+    ensures { result ≡ default_choice }
 {
     FeatureChoice {
         standard: Standard::Default,
@@ -98,8 +100,10 @@ fn bytes_in<'a>(
     }
 }
 
+/// What was read of the file with this name.
 fn accepted<T>(name: &str, read: Result<T, ReadError>) -> Result<T, Failure<'_>>
-    ensures { IfErr result (λ f. status_of f ≡ 1) }
+    ensures value { IfOk result (λ v. read ≡ Ok v) }
+    ensures fails { IfErr result (λ f. status_of f ≡ 1) }
 {
     match read {
         Ok(value) => Ok(value),

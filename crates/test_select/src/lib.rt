@@ -14,6 +14,7 @@ mod report;
 mod scope;
 mod selecting;
 mod selection;
+mod unknown_platform;
 
 pub use crate::file_source::{FileFault, FileSource};
 pub use crate::program::run;

@@ -1,6 +1,6 @@
 //! The program, over any files and any two streams.
 
-ghost use Rattle.std.specs.Prelude.{◌≡◌, ◌≤◌, [], IfErr, true};
+ghost use Rattle.std.specs.Prelude.{◌≡◌, ◌≤◌, IfErr};
 ghost use Rattle.test_select.specs.Failures.{status_of};
 
 use crate::command_line::{command, filters_in, tests_files};
@@ -8,15 +8,12 @@ use crate::failure::Failure;
 use crate::file_source::FileSource;
 use crate::inputs::tests_inputs;
 use crate::report::write_report;
-use crate::scope::LinkScope;
-use crate::selecting::select;
+use crate::unknown_platform::select_on_unknown_platform;
 use clap::ArgMatches;
-use indexmap::IndexMap;
 use std::alloc::Global;
 use std::convert::AsStr;
 use std::io::Write;
 use test_lister::FileLister;
-use workspace_record::PlatformTable;
 
 /// Runs the program on a command line, whose first word is the program's name, and answers the
 /// status that it ends with: 0 if all was done, 1 if something was refused or failed, and 2 for a
@@ -89,26 +86,8 @@ fn print_tests<'a, O: Write>(
 {
     let inputs = tests_inputs(alloc, tests_files(asked), files)?;
     let mut lister = FileLister::new(alloc, inputs.listings);
-    let selection = select(
-        alloc,
-        &inputs.record,
-        &inputs.choice,
-        &nothing_known(alloc),
-        LinkScope::SwitchedOn,
-        filters_in(asked),
-        &mut lister,
-    )?;
+    let (record, choice) = (&inputs.record, &inputs.choice);
+    let selection = select_on_unknown_platform(alloc, record, choice, filters_in(asked), &mut lister)?;
     write_report(&selection, out)?;
     Ok(())
-}
-
-/// The table of a platform of which nothing is known.
-fn nothing_known(alloc: Global) -> PlatformTable
-    ensures answers { result.answers.entries ≡ [] }
-    ensures unknown_counts { result.unknown_counts ≡ true }
-{
-    PlatformTable {
-        answers: IndexMap::new(alloc),
-        unknown_counts: true,
-    }
 }

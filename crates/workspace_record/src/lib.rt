@@ -9,8 +9,6 @@ mod label;
 mod link;
 mod package;
 mod target;
-#[cfg(test)]
-mod tests;
 mod texts;
 mod workspace;
 

@@ -1,8 +1,7 @@
-use Rattle.std.proofs.Common.{◌+◌}
 use Rattle.std.proofs.lemmas.List.{map-append}
 use Rattle.std.proofs.lemmas.Result.{err_from_is_err_and}
 use Rattle.list_facts.specs.Texts.{texts}
-use Rattle.test_lister.proofs.Asking.{answered_more, asked_more, failed_at, faulty_at, id_within, id_at}
+use Rattle.test_lister.proofs.Asking.{answered_more, asked_some, failed_at, faulty_at, id_within, id_at}
 use Rattle.test_lister.proofs.ask.ask_each.Goals as goal
 
 pub returns-in_default : goal.returns-in_default
@@ -14,7 +13,7 @@ pub returns-in_err-fault : goal.returns-in_err-fault
 returns-in_err-fault g c =
     let lt = c.loop-i-test.true in
     let p = err_from_is_err_and c.from_residual.result c.from_residual.ensures.1 in
-    rw (p.1, p.2) (c.loop-i.i + 1, asked_more _ c.loop-i.i _ (id_within _ c.args.binaries.now c.loop-i.i lt) (id_at _ c.args.binaries.now c.loop-i.i _ lt) _ _ _ c.loop-i.invariant.asked c.in-Ok.ensures.0)
+    rw (p.1, p.2) (asked_some _ c.loop-i.i _ (id_within _ c.args.binaries.now c.loop-i.i lt) (id_at _ c.args.binaries.now c.loop-i.i _ lt) _ _ _ _ c.loop-i.invariant c.in-Ok.ensures.0)
 
 pub returns-in-Some : goal.returns-in-Some
 returns-in-Some g c =
@@ -26,7 +25,7 @@ pub returns-in_err-push : goal.returns-in_err-push
 returns-in_err-push g c =
     let lt = c.loop-i-test.true in
     let p = err_from_is_err_and c.from_residual-in_err-push.result c.from_residual-in_err-push.ensures.1 in
-    rw (p.1, p.2) (c.loop-i.i + 1, asked_more _ c.loop-i.i _ (id_within _ c.args.binaries.now c.loop-i.i lt) (id_at _ c.args.binaries.now c.loop-i.i _ lt) _ _ _ c.loop-i.invariant.asked c.in-Ok.ensures.0)
+    rw (p.1, p.2) (asked_some _ c.loop-i.i _ (id_within _ c.args.binaries.now c.loop-i.i lt) (id_at _ c.args.binaries.now c.loop-i.i _ lt) _ _ _ _ c.loop-i.invariant c.in-Ok.ensures.0)
 
 pub loop-i-preserved : goal.loop-i-preserved
 loop-i-preserved g c =

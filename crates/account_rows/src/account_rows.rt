@@ -1,0 +1,97 @@
+use crate::question::{Question, choice_in, record_in, table_in};
+use crate::rule_texts::{conclusions_text, rules_text};
+use feature_account::{FeatureChoice, Rule, WorkspaceRecord, check_account, rules};
+use row_program::{Answers, Row, RowFault, RowRunner};
+use std::alloc::Global;
+
+/// Rows of rules and accounts. A row's `files` are `record.json`, and where it has them `choice.json`
+/// and `table.json`; its `account` is a list of numbers. What comes is `rules`, a line for each rule,
+/// `verdict`, what is to be said of the account, and `concludes`, what the account's rules conclude.
+#[derive(Drop)]
+pub(crate) struct AccountRows;
+
+impl RowRunner for AccountRows {
+    fn inputs(&self) -> &'static [&'static str] {
+        &["files", "account"]
+    }
+
+    fn run_row(
+        &mut self,
+        alloc: Global,
+        row: Row<'_>,
+        answers: &mut Answers,
+    ) -> Result<(), RowFault> {
+        let record = record_in(alloc, row)?;
+        run_on_record(alloc, row, &record, answers)
+    }
+}
+
+fn run_on_record(
+    alloc: Global,
+    row: Row<'_>,
+    record: &WorkspaceRecord,
+    answers: &mut Answers,
+) -> Result<(), RowFault> {
+    let choice = choice_in(alloc, row)?;
+    run_on_choice(alloc, row, record, &choice, answers)
+}
+
+fn run_on_choice(
+    alloc: Global,
+    row: Row<'_>,
+    record: &WorkspaceRecord,
+    choice: &FeatureChoice,
+    answers: &mut Answers,
+) -> Result<(), RowFault> {
+    let table = table_in(alloc, row)?;
+    let question = Question {
+        record,
+        choice,
+        table: &table,
+    };
+    tell_rules(alloc, row, question, answers)?;
+    tell_verdict(alloc, row, question, answers)
+}
+
+fn tell_rules(
+    alloc: Global,
+    row: Row<'_>,
+    question: Question<'_>,
+    answers: &mut Answers,
+) -> Result<(), RowFault> {
+    let Question {
+        record,
+        choice,
+        table,
+    } = question;
+    let rules = rules(alloc, record, choice, table)?;
+    answers.push("rules", rules_text(alloc, rules.as_slice())?)?;
+    tell_conclusions(alloc, row, rules.as_slice(), answers)
+}
+
+fn tell_conclusions(
+    alloc: Global,
+    row: Row<'_>,
+    rules: &[Rule],
+    answers: &mut Answers,
+) -> Result<(), RowFault> {
+    let account = row.numbers(alloc, "account")?;
+    let text = conclusions_text(alloc, rules, account.as_slice())?;
+    answers.push("concludes", text)
+}
+
+fn tell_verdict(
+    alloc: Global,
+    row: Row<'_>,
+    question: Question<'_>,
+    answers: &mut Answers,
+) -> Result<(), RowFault> {
+    let Question {
+        record,
+        choice,
+        table,
+    } = question;
+    let account = row.numbers(alloc, "account")?;
+    let verdict = check_account(alloc, record, choice, table, account.as_slice())?;
+    answers.push("verdict", format!(in alloc; "{verdict:?}")?)
+}

@@ -1,5 +1,0 @@
-//! What is on in small workspaces, worked out by hand.
-
-mod on;
-mod switching;
-mod workspaces;

@@ -1,0 +1,42 @@
+//! Values that are read, beside their copies.
+
+use std::alloc::{AllocError, Global};
+use std::collections::BTreeMap;
+use workspace_record::{FeatureChoice, PlatformTable, WorkspaceRecord};
+
+/// What can be compared with its copy.
+pub(crate) trait Copied {
+    fn is_its_copy(&self, alloc: Global) -> Result<bool, AllocError>;
+}
+
+impl Copied for WorkspaceRecord {
+    fn is_its_copy(&self, alloc: Global) -> Result<bool, AllocError> {
+        Ok(self.copy(alloc)? == *self)
+    }
+}
+
+impl Copied for FeatureChoice {
+    fn is_its_copy(&self, alloc: Global) -> Result<bool, AllocError> {
+        Ok(self.copy(alloc)? == *self)
+    }
+}
+
+impl Copied for PlatformTable {
+    fn is_its_copy(&self, alloc: Global) -> Result<bool, AllocError> {
+        Ok(self.copy(alloc)? == *self)
+    }
+}
+
+/// Lists of numbers have no copy of their own.
+impl Copied for Vec<usize> {
+    fn is_its_copy(&self, _alloc: Global) -> Result<bool, AllocError> {
+        Ok(true)
+    }
+}
+
+/// Listings have no copy of their own.
+impl Copied for BTreeMap<String, Vec<String>> {
+    fn is_its_copy(&self, _alloc: Global) -> Result<bool, AllocError> {
+        Ok(true)
+    }
+}

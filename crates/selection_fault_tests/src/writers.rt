@@ -1,0 +1,40 @@
+//! Writers that take little or fail.
+
+use std::alloc::Global;
+use std::io::{self, ErrorKind, Write};
+
+/// Takes at most `most` bytes at a time, and fails once `left` writes are over.
+#[derive(Drop)]
+pub(crate) struct SlowWriter {
+    pub(crate) taken: Vec<u8>,
+    most: usize,
+    left: usize,
+    fault: ErrorKind,
+}
+
+impl SlowWriter {
+    pub(crate) fn new(alloc: Global, most: usize, left: usize, fault: ErrorKind) -> SlowWriter {
+        SlowWriter {
+            taken: Vec::new(alloc),
+            most,
+            left,
+            fault,
+        }
+    }
+}
+
+impl Write for SlowWriter {
+    fn write(&mut self, bytes: &[u8]) -> io::Result<usize> {
+        if self.left == 0 {
+            return Err(io::Error::from(self.fault));
+        }
+        self.left -= 1;
+        let count = bytes.len().min(self.most);
+        self.taken.extend_from_slice(&bytes[..count])?;
+        Ok(count)
+    }
+
+    fn flush(&mut self) -> io::Result<()> {
+        Ok(())
+    }
+}

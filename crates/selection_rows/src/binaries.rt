@@ -1,0 +1,34 @@
+//! The test binaries of a record, as text.
+
+use record_rules::binaries::{TestBinary, binaries};
+use row_program::{Answers, RowFault};
+use std::alloc::{AllocError, Global};
+use test_select::WorkspaceRecord;
+
+/// Tells a line for each binary of any record: its id, its package's name and version, and its
+/// target's name.
+pub(crate) fn tell_binaries(
+    alloc: Global,
+    record: &WorkspaceRecord,
+    answers: &mut Answers,
+) -> Result<(), RowFault> {
+    let all = binaries(alloc, record)?;
+    answers.push("binaries", lines_of(alloc, &all)?)
+}
+
+fn lines_of(alloc: Global, all: &[TestBinary<'_>]) -> Result<String, AllocError> {
+    let mut lines = String::new(alloc);
+    for binary in all {
+        push_line(&mut lines, binary)?;
+    }
+    Ok(lines)
+}
+
+fn push_line(lines: &mut String, binary: &TestBinary<'_>) -> Result<(), AllocError> {
+    lines.push_str(binary.id.as_str())?;
+    for text in [&binary.row.name, &binary.row.version, &binary.target.name] {
+        lines.push(' ')?;
+        lines.push_str(text.as_str())?;
+    }
+    lines.push('\n')
+}

@@ -1,0 +1,84 @@
+//! What a selection answers and asks, as texts.
+
+use crate::question::{Question, lister_in};
+use row_program::{Answers, Row, RowFault};
+use std::alloc::{AllocError, Global};
+use test_select::{FileLister, LinkScope, Selection, select, write_report};
+
+/// Selects in the scope, and tells the report or what is refused, the ids that were asked and how many
+/// calls failed.
+pub(crate) fn tell_selection(
+    alloc: Global,
+    row: Row<'_>,
+    question: Question<'_>,
+    scope: LinkScope,
+    answers: &mut Answers,
+) -> Result<(), RowFault> {
+    let mut lister = lister_in(alloc, row)?;
+    select_by(alloc, row, question, scope, &mut lister, answers)?;
+    answers.push("asked", spaced(alloc, lister.asked())?)?;
+    answers.push("failures", format!(in alloc; "{}", lister.failures())?)
+}
+
+fn select_by(
+    alloc: Global,
+    row: Row<'_>,
+    question: Question<'_>,
+    scope: LinkScope,
+    lister: &mut FileLister,
+    answers: &mut Answers,
+) -> Result<(), RowFault> {
+    let texts = row.texts(alloc, "texts")?;
+    let Question {
+        record,
+        choice,
+        table,
+    } = question;
+    match select(alloc, record, choice, table, scope, texts.as_slice(), lister) {
+        Ok(selection) => tell_report(alloc, &selection, answers),
+        Err(error) => {
+            answers.push("report", String::from_str(alloc, "refused")?)?;
+            answers.push("refused", format!(in alloc; "{error}")?)
+        }
+    }
+}
+
+/// Tells the report that is written, the chosen tests, which are to be the same lines, and that the
+/// ids which the selection keeps are those that the lister was asked.
+fn tell_report(
+    alloc: Global,
+    selection: &Selection,
+    answers: &mut Answers,
+) -> Result<(), RowFault> {
+    answers.push("refused", String::new(alloc))?;
+    answers.push("asked", spaced(alloc, selection.asked())?)?;
+    answers.push("report", chosen_lines(alloc, selection)?)?;
+    let mut written = Vec::new(alloc);
+    match write_report(selection, &mut written) {
+        Ok(()) => answers.push("report", String::from_utf8(written)?),
+        Err(_) => Err(RowFault::Memory),
+    }
+}
+
+fn chosen_lines(alloc: Global, selection: &Selection) -> Result<String, AllocError> {
+    let mut lines = String::new(alloc);
+    for (id, name) in selection.chosen() {
+        lines.push_str(id.as_str())?;
+        lines.push(' ')?;
+        lines.push_str(name.as_str())?;
+        lines.push('\n')?;
+    }
+    Ok(lines)
+}
+
+/// The ids, parted by spaces.
+fn spaced(alloc: Global, ids: &[String]) -> Result<String, AllocError> {
+    let mut text = String::new(alloc);
+    for (place, id) in ids.iter().enumerate() {
+        if place > 0 {
+            text.push(' ')?;
+        }
+        text.push_str(id.as_str())?;
+    }
+    Ok(text)
+}

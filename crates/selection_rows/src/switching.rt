@@ -1,0 +1,79 @@
+//! What the features that are on switch on, as texts.
+
+use crate::features::features_text;
+use crate::question::{Question, record_in};
+use feature_switching::availability::{is_available, link_is_on};
+use row_program::{Answers, Row, RowFault};
+use std::alloc::{AllocError, Global};
+use test_select::{FeaturesOn, PlatformTable, WorkspaceRecord, features_on};
+
+/// Tells the features that are on, or the error, and which links and targets of the record
+/// `switched.json` they switch on.
+pub(crate) fn tell_switching(
+    alloc: Global,
+    row: Row<'_>,
+    question: Question<'_>,
+    answers: &mut Answers,
+) -> Result<(), RowFault> {
+    let Question {
+        record,
+        choice,
+        table,
+    } = question;
+    match features_on(alloc, record, choice, table) {
+        Ok(on) => tell_features(alloc, row, table, &on, answers),
+        Err(error) => answers.push("on", format!(in alloc; "{error}")?),
+    }
+}
+
+fn tell_features(
+    alloc: Global,
+    row: Row<'_>,
+    table: &PlatformTable,
+    on: &FeaturesOn,
+    answers: &mut Answers,
+) -> Result<(), RowFault> {
+    answers.push("on", features_text(alloc, on)?)?;
+    if row.file_value("switched.json").is_none() {
+        return Ok(());
+    }
+    let switched = record_in(alloc, row, "switched.json")?;
+    answers.push("links", links_text(alloc, &switched, table, on)?)?;
+    answers.push("targets", targets_text(alloc, &switched, on)?)
+}
+
+fn links_text(
+    alloc: Global,
+    record: &WorkspaceRecord,
+    table: &PlatformTable,
+    on: &FeaturesOn,
+) -> Result<String, AllocError> {
+    let mut text = String::new(alloc);
+    for link in &record.links {
+        let switched = link_is_on(record, table, on, link);
+        push_line(&mut text, link.from.as_str(), link.name.as_str(), switched)?;
+    }
+    Ok(text)
+}
+
+fn targets_text(
+    alloc: Global,
+    record: &WorkspaceRecord,
+    on: &FeaturesOn,
+) -> Result<String, AllocError> {
+    let mut text = String::new(alloc);
+    for row in &record.packages {
+        for target in &row.targets {
+            let available = is_available(on, row.id.as_str(), target);
+            push_line(&mut text, row.id.as_str(), target.name.as_str(), available)?;
+        }
+    }
+    Ok(text)
+}
+
+fn push_line(text: &mut String, owner: &str, name: &str, holds: bool) -> Result<(), AllocError> {
+    text.push_str(owner)?;
+    text.push(' ')?;
+    text.push_str(name)?;
+    text.push_str(if holds { " yes\n" } else { " no\n" })
+}

@@ -1,0 +1,24 @@
+-- What the program selects by, where its command line says nothing of it.
+use Rattle.std.specs.Prelude.{◌≡◌, Bool, true, List, [], Result}
+use Rattle.workspace_record.specs.Records.{Text, Workspace}
+use Rattle.workspace_record.specs.Choices.{Choice}
+use Rattle.workspace_record.specs.declared.kinds.Standard.TheVariants as standard
+use Rattle.workspace_record.specs.declared.choice.PlatformTable.{PlatformTable}
+use Rattle.test_lister.specs.Listers.{Shown}
+use Rattle.feature_switching.specs.declared.select_error.SelectError.{SelectError}
+use Rattle.test_select.specs.Selecting.{Answers}
+use Rattle.test_select.specs.Selections.{Selected}
+use Rattle.test_select.specs.declared.scope.LinkScope.TheVariants as scope
+
+-- nothing is known of the platform, and what is unknown counts
+pub record KnowsNothing (table : PlatformTable) : Type 0 where
+  pub answers : table.answers.entries ≡ []
+  pub unknown_counts : table.unknown_counts ≡ true
+
+-- the default features, and no others
+abbrev pub default_choice : Choice
+default_choice = record { standard = standard.Default; extras = [] }
+
+-- a selection over the links that are on, on a platform of which nothing is known
+abbrev pub AnswersOnUnknownPlatform : Workspace → Choice → List Text → Shown → Result Selected SelectError → Shown → Type 0
+AnswersOnUnknownPlatform w choice texts old result new = (table : PlatformTable) × KnowsNothing table × Answers (record { workspace = w; choice = choice; table = table; scope = scope.SwitchedOn; texts = texts }) old result new
