@@ -1,8 +1,8 @@
 -- Cycles by keys that rise along links in a direction.
-use Rattle.std.proofs.Common.{◌≡◌, ◌≢◌, ℕ, ◌+◌, ◌-◌, ◌<◌, ◌≤◌, Bool, true, eqb, List, [], ◌∷◌, length, get_or, map, filter, flat_map, refl, sym, subst, ap, ◌∙◌, ◌↔◌, Contains, All, AllPairs, IsPermutation, arith}
+use Rattle.std.proofs.Common.{◌≡◌, ◌≢◌, ℕ, ◌<◌, ◌≤◌, Bool, eqb, List, [], ◌∷◌, length, get_or, map, filter, flat_map, refl, sym, subst, ap, ◌∙◌, Contains, All, AllPairs, IsPermutation, arith}
 use Rattle.std.proofs.lemmas.Bool.Decides.{Decides-eqb, nat_tests}
 use Rattle.std.proofs.lemmas.List.{get_or-map}
-use Rattle.std.proofs.lemmas.List.Elements.{All-contains, All-filter, Contains-get_or}
+use Rattle.std.proofs.lemmas.List.Elements.{All-contains, Contains-get_or}
 use Rattle.std.proofs.lemmas.List.Sorted.{All-permutation, Contains-permutation}
 use Rattle.std.proofs.lemmas.Map.Keys.{IsDistinct-IsPermutation}
 use Rattle.std.proofs.lemmas.Map.Made.{AllPairs-from_IsDistinct, IsDistinct-from_AllPairs}
@@ -11,14 +11,14 @@ use Rattle.numbered_graph.specs.declared.link.Link.{Link}
 use Rattle.numbered_graph.specs.declared.direction.Direction.{Direction}
 use Rattle.numbered_graph.specs.declared.direction.Direction.TheVariants.{Forward, Reverse}
 use Rattle.numbered_graph.specs.Links.{AreWithin, link_at}
-use Rattle.numbered_graph.specs.Paths.{any_link, IsPath, Reaches, AreMutual, LeadsOn}
+use Rattle.numbered_graph.specs.Paths.{any_link, IsPath, AreMutual, LeadsOn}
 use Rattle.numbered_graph.specs.Ranks.{AreRanks}
-use Rattle.numbered_graph.specs.Listings.{numbers_below, IsInOrder}
+use Rattle.numbered_graph.specs.Listings.{numbers_below}
 use Rattle.numbered_graph.specs.Cycles.{IsOnCycle, AreCycles, AreRuns, AreLevels, key_of}
 use Rattle.numbered_graph.specs.Sets.{has}
 use Rattle.numbered_graph.proofs.Kept.{AllPairs-filter}
 use Rattle.numbered_graph.proofs.Numbers.{numbers-small, numbers-all, numbers-apart}
-use Rattle.numbered_graph.proofs.PathFacts.{Reaches-link, Reaches-trans, AreMutual-sym}
+use Rattle.numbered_graph.proofs.PathFacts.{Reaches-link, Reaches-trans}
 use Rattle.numbered_graph.proofs.RankFacts.{level, mutual_at}
 
 key_same : (d : Direction) (top a b : ℕ) → a ≤ top → b ≤ top → key_of d top a ≡ key_of d top b → a ≡ b

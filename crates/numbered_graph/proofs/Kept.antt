@@ -1,5 +1,5 @@
 -- Where the elements that a filter keeps stood before.
-use Rattle.std.proofs.Common.{◌≡◌, ℕ, zero, suc, ◌+◌, ◌<◌, ◌≤◌, Bool, true, false, cond, List, [], ◌∷◌, length, get_or, filter, refl, sym, subst, AllPairs, arith}
+use Rattle.std.proofs.Common.{◌≡◌, ℕ, zero, suc, ◌<◌, Bool, true, false, cond, List, [], ◌∷◌, length, get_or, filter, refl, sym, subst, AllPairs, arith}
 
 -- the place of the i-th kept element, where the first element is kept or not
 abbrev at : Bool → ℕ → (ℕ → ℕ) → ℕ

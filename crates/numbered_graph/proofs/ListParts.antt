@@ -1,8 +1,7 @@
 -- What holds of the parts of a list, and pairs in order.
-use Rattle.std.proofs.Common.{◌≡◌, ℕ, ◌+◌, ◌-◌, ◌<◌, ◌≤◌, List, [], ◌∷◌, ◌++◌, length, get_or, take, subst, sym, ap, ◌∙◌, All, AllPairs, arith}
+use Rattle.std.proofs.Common.{◌≡◌, ℕ, ◌+◌, ◌-◌, ◌<◌, List, [], ◌∷◌, ◌++◌, length, get_or, take, subst, sym, ap, ◌∙◌, All, AllPairs, arith}
 use Rattle.std.proofs.lemmas.List.{length-append, get_or_append_left, get_or-append-add, get_or_push, length_push, take_all, take_more, take_at}
-use Rattle.std.proofs.lemmas.Bool.{cases_eq}
-use Rattle.std.proofs.Common.{refl, ⊎_elim, inl, inr}
+use Rattle.std.proofs.Common.{refl}
 
 module _ {X : Type 0} where
   pub All-left : (P : X → Type 0) (xs ys : List X) → All P (xs ++ ys) → All P xs

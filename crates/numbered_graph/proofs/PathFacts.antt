@@ -1,5 +1,5 @@
 -- Paths joined, made longer, and closed sets.
-use Rattle.std.proofs.Common.{◌≡◌, ℕ, ◌<◌, Bool, true, false, List, [], ◌∷◌, ◌++◌, length, replicate, ◌↔◌, Contains, refl, sym, subst, ◌∙◌}
+use Rattle.std.proofs.Common.{◌≡◌, ℕ, ◌<◌, Bool, true, false, List, [], ◌∷◌, ◌++◌, length, replicate, ◌↔◌, Contains, refl, sym, subst}
 use Rattle.numbered_graph.specs.declared.link.Link.{Link}
 use Rattle.numbered_graph.specs.declared.direction.Direction.{Direction}
 use Rattle.numbered_graph.specs.declared.direction.Direction.TheVariants.{Forward, Reverse}

@@ -1,5 +1,5 @@
 -- Roots of a set, by ranks that links enter.
-use Rattle.std.proofs.Common.{◌≡◌, ◌≢◌, ℕ, ◌<◌, Bool, true, false, not, ◌&&◌, List, length, get_or, filter, sym, subst, ◌∙◌, ⊎_elim, ◌↔◌, Contains, All, true≢false, arith}
+use Rattle.std.proofs.Common.{◌≡◌, ℕ, ◌<◌, Bool, true, false, not, ◌&&◌, List, length, get_or, filter, sym, subst, ◌∙◌, ⊎_elim, ◌↔◌, Contains, true≢false}
 use Rattle.std.proofs.lemmas.Bool.{cases_Bool, cases_eq, and_parts, and_from, not-true, not_from_false}
 use Rattle.std.proofs.lemmas.List.Elements.{All-contains}
 use Rattle.list_facts.proofs.Membership.{Contains-filter, Contains-filter_cases}
@@ -10,7 +10,7 @@ use Rattle.numbered_graph.specs.Links.{AreWithin, near_at, far_at}
 use Rattle.numbered_graph.specs.Paths.{any_link}
 use Rattle.numbered_graph.specs.Ranks.{AreRanks}
 use Rattle.numbered_graph.specs.Listings.{numbers_below}
-use Rattle.numbered_graph.specs.Roots.{is_inside, IsRoot, IsEntry, AreEntered}
+use Rattle.numbered_graph.specs.Roots.{IsRoot, AreEntered}
 use Rattle.numbered_graph.specs.Sets.{has}
 use Rattle.numbered_graph.proofs.Numbers.{numbers-small, numbers-all}
 use Rattle.numbered_graph.proofs.RankFacts.{level, mutual_at}
@@ -47,6 +47,7 @@ module _ {d : Direction} {nodes : ℕ} {links : List Link} {ranks : List ℕ} {s
           let c = Contains-filter_cases (λ u. has set u && not (has entered (get_or ranks u 0))) (numbers_below nodes) v inside in
           let parts = and_parts (has set v) (not (has entered (get_or ranks v 0))) c.1 in
           (parts.0, root_from v (All-contains (λ u. u < nodes) (numbers_below nodes) v (numbers-small nodes) c.0) (not-true (has entered (get_or ranks v 0)) parts.1))
+
       back : has set v ≡ true → IsRoot d links set v → Contains (filter (λ u. has set u && not (has entered (get_or ranks u 0))) (numbers_below nodes)) v
       back member root =
           let lt = subst (λ n. v < n) sized (has-within set v member) in

@@ -1,7 +1,7 @@
 -- Nodes cut where their key changes.
-use Rattle.std.proofs.Common.{◌≡◌, ◌≢◌, ℕ, ◌+◌, ◌-◌, ◌<◌, ◌≤◌, Bool, cond, List, [], ◌∷◌, ◌++◌, length, get_or, take, map, filter, flat_map, refl, sym, subst, ap, ◌∙◌, inl, inr, ⊎_elim, Contains, All, AllPairs, append-nil, arith}
+use Rattle.std.proofs.Common.{◌≡◌, ℕ, ◌+◌, ◌-◌, ◌<◌, ◌≤◌, Bool, cond, List, [], ◌∷◌, ◌++◌, length, get_or, take, filter, flat_map, sym, subst, ap, ◌∙◌, ⊎_elim, Contains, AllPairs, append-nil, arith}
 use Rattle.std.proofs.lemmas.Bool.{cases_lt}
-use Rattle.std.proofs.lemmas.List.{get_or-append-add, get_or-take, length-take-le, length-take, get_or_default}
+use Rattle.std.proofs.lemmas.List.{get_or-append-add, get_or-take, length-take-le, get_or_default}
 use Rattle.std.proofs.lemmas.List.Concat.{flat_map-append}
 use Rattle.std.proofs.lemmas.List.Elements.{All-push, All-contains, Contains-get_or, filter_more}
 use Rattle.std.proofs.lemmas.List.Quantifiers.{all_pairs_push}

@@ -1,5 +1,5 @@
 -- The last knot has no link left: it is a component, gets the next rank and leaves the path.
-use Rattle.std.proofs.Common.{◌≡◌, ◌≢◌, ℕ, suc, ◌+◌, ◌<◌, ◌≤◌, Bool, true, List, [], ◌∷◌, ◌++◌, length, get_or, take, refl, sym, subst, ap, ◌∙◌, ◌⊎◌, inl, inr, ⊎_elim, Contains, All, AllPairs, arith}
+use Rattle.std.proofs.Common.{◌≡◌, ◌≢◌, ℕ, ◌+◌, ◌<◌, ◌≤◌, Bool, true, List, [], ◌∷◌, ◌++◌, length, get_or, take, sym, subst, ◌∙◌, inl, inr, ⊎_elim, Contains, All, AllPairs, arith}
 use Rattle.std.proofs.lemmas.Bool.{cases_lt}
 use Rattle.std.proofs.lemmas.List.{get_or-take, length-take-le}
 use Rattle.std.proofs.lemmas.List.Elements.{All-push, All-take, All-weaker, All-contains, Contains-push}
@@ -92,11 +92,13 @@ module _ {links : List Link} {passes : ℕ → Bool} {nodes : ℕ} {s : Lists} (
     where
       seen_rank : (i : ℕ) → start ≤ i → get_or ranks (near_at Reverse links j) 0 ≡ s.closed + 1 → IsSeen s.places s.ranks s.starts (far_at Reverse links j) i → (0 < get_or ranks (far_at Reverse links j) 0) × (get_or ranks (far_at Reverse links j) 0 ≤ get_or ranks (near_at Reverse links j) 0)
       seen_rank i late rank = λ seen. ⊎_elim (λ r. let same = still_ranked (far_at Reverse links j) r in let most = h.ranked.most (far_at Reverse links j) in (omega arith, omega arith)) (λ k. let far_late = All-contains (λ a. a ≤ i → a ≤ k.0) s.starts start k.2 start_in late in let far_rank = knot_rank (far_at Reverse links j) k.0 k.1 far_late in (omega arith, omega arith)) seen
+
       in_knot : (get_or ranks (near_at Reverse links j) 0 ≡ s.closed + 1) × ((i : ℕ) × (start ≤ i) × (i < length s.path) × (get_or s.path i 0 ≡ near_at Reverse links j)) → (0 < get_or ranks (far_at Reverse links j) 0) × (get_or ranks (far_at Reverse links j) 0 ≤ get_or ranks (near_at Reverse links j) 0)
       in_knot k =
           let o = knot_open (near_at Reverse links j) k.1.0 k.1.2 k.1.3 in
           let past = knot_done (near_at Reverse links j) k.1.0 o k.1.1 in
           seen_rank k.1.0 k.1.1 k.0 (h.followed j k.1.0 lt ok o (omega arith))
+
       before : (get_or ranks (near_at Reverse links j) 0 ≡ get_or s.ranks (near_at Reverse links j) 0) × ((i : ℕ) → start ≤ i → i < length s.path → get_or s.path i 0 ≢ near_at Reverse links j) → (0 < get_or ranks (far_at Reverse links j) 0) × (get_or ranks (far_at Reverse links j) 0 ≤ get_or ranks (near_at Reverse links j) 0)
       before k =
           let old = h.ranked.back j lt ok (subst (λ m. 0 < m) k.0 ranked) in

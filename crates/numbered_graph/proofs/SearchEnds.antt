@@ -1,12 +1,11 @@
 -- Before the first node, and after the last one.
-use Rattle.std.proofs.Common.{◌≡◌, ℕ, zero, suc, ◌+◌, ◌<◌, ◌≤◌, Bool, true, List, [], ◌∷◌, length, get_or, replicate, refl, sym, subst, ◌∙◌, inl, inr, ⊎_elim, All, arith}
+use Rattle.std.proofs.Common.{◌≡◌, ℕ, zero, suc, ◌<◌, ◌≤◌, Bool, List, [], length, get_or, replicate, refl, subst, ⊎_elim, arith}
 use Rattle.std.proofs.lemmas.Bool.{cases_lt}
 use Rattle.std.proofs.lemmas.List.{length-replicate}
 use Rattle.numbered_graph.specs.declared.link.Link.{Link}
 use Rattle.numbered_graph.specs.declared.direction.Direction.TheVariants.{Reverse}
-use Rattle.numbered_graph.specs.Links.{link_at, near_at, far_at}
+use Rattle.numbered_graph.specs.Links.{near_at}
 use Rattle.numbered_graph.specs.Chains.{IsNextLink}
-use Rattle.numbered_graph.specs.Paths.{IsPath, Reaches}
 use Rattle.numbered_graph.specs.Ranks.{AreRanks}
 use Rattle.numbered_graph.specs.Searches.{Lists, IsOpen, Searches}
 use Rattle.numbered_graph.proofs.PathFacts.{IsPath-carries_back}

@@ -1,12 +1,10 @@
 -- All knots from the one of a place on become one.
-use Rattle.std.proofs.Common.{◌≡◌, ℕ, ◌<◌, ◌≤◌, Bool, true, List, [], ◌∷◌, ◌++◌, length, get_or, refl, sym, subst, inl, inr, ⊎_elim, All, AllPairs, arith}
+use Rattle.std.proofs.Common.{◌≡◌, ℕ, ◌<◌, ◌≤◌, Bool, List, [], ◌∷◌, ◌++◌, length, get_or, sym, subst, inl, inr, ⊎_elim, All, AllPairs, arith}
 use Rattle.std.proofs.lemmas.Bool.{cases_lt}
 use Rattle.std.proofs.lemmas.List.Elements.{All-append, All-weaker}
 use Rattle.numbered_graph.specs.declared.link.Link.{Link}
-use Rattle.numbered_graph.specs.declared.direction.Direction.TheVariants.{Reverse}
-use Rattle.numbered_graph.specs.Links.{near_at, far_at}
 use Rattle.numbered_graph.specs.Paths.{Reaches}
-use Rattle.numbered_graph.specs.Searches.{Lists, IsOpen, IsNoEarlier, IsSeen, JoinsAt, Searches}
+use Rattle.numbered_graph.specs.Searches.{Lists, IsNoEarlier, JoinsAt, Searches}
 use Rattle.numbered_graph.proofs.PathFacts.{Reaches-trans}
 use Rattle.numbered_graph.proofs.ListParts.{All-left, AllPairs-left}
 

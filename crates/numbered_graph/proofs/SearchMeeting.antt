@@ -1,12 +1,12 @@
 -- A link into the last knot is met: it comes from a new node, or from an open one.
-use Rattle.std.proofs.Common.{◌≡◌, ℕ, suc, ◌+◌, ◌<◌, ◌≤◌, Bool, true, List, [], ◌∷◌, ◌++◌, length, get_or, refl, sym, subst, ap, ◌∙◌, inl, inr, All, Contains, arith}
+use Rattle.std.proofs.Common.{◌≡◌, ℕ, ◌<◌, ◌≤◌, Bool, true, List, length, get_or, refl, sym, subst, ap, inr, arith}
 use Rattle.std.proofs.lemmas.List.{length_push, length-append}
-use Rattle.std.proofs.lemmas.List.Elements.{All-push, All-weaker, All-contains, Contains-push}
+use Rattle.std.proofs.lemmas.List.Elements.{All-push, All-weaker}
 use Rattle.numbered_graph.specs.declared.link.Link.{Link}
 use Rattle.numbered_graph.specs.declared.direction.Direction.TheVariants.{Reverse}
 use Rattle.numbered_graph.specs.Links.{near_at, far_at}
 use Rattle.numbered_graph.specs.Paths.{Reaches}
-use Rattle.numbered_graph.specs.Searches.{Lists, opened, IsOpen, IsNoEarlier, IsSeen, IsInLastKnot, JoinsAt, Meets, Searches}
+use Rattle.numbered_graph.specs.Searches.{Lists, opened, IsOpen, IsInLastKnot, JoinsAt, Meets, Searches}
 use Rattle.numbered_graph.proofs.PathFacts.{Reaches-link, Reaches-trans}
 use Rattle.numbered_graph.proofs.SearchOpening.{to_new, w_open, Searches-open}
 use Rattle.numbered_graph.proofs.SearchJoining.{Searches-join}

@@ -1,7 +1,7 @@
 -- A new node is put at the end of the path, as a knot of its own.
-use Rattle.std.proofs.Common.{◌≡◌, ◌≢◌, ℕ, suc, ◌+◌, ◌<◌, ◌≤◌, Bool, true, List, [], ◌∷◌, ◌++◌, length, get_or, set, refl, sym, subst, ap, ◌∙◌, inl, inr, ⊎_elim, Contains, All, AllPairs, arith}
+use Rattle.std.proofs.Common.{◌≡◌, ◌≢◌, ℕ, suc, ◌+◌, ◌<◌, ◌≤◌, Bool, true, List, [], ◌∷◌, ◌++◌, length, get_or, set, refl, sym, subst, ◌∙◌, inl, inr, ⊎_elim, Contains, AllPairs, arith}
 use Rattle.std.proofs.lemmas.Bool.{cases_eq, cases_lt}
-use Rattle.std.proofs.lemmas.List.{get_or-set_same, get_or-set_other, length-set, length_push, get_or_append_left, get_or_push, length-append}
+use Rattle.std.proofs.lemmas.List.{get_or-set_same, get_or-set_other, length-set, length_push, get_or_append_left, get_or_push}
 use Rattle.std.proofs.lemmas.List.Elements.{All-push, All-weaker, All-contains, Contains-push, Contains-append_left}
 use Rattle.std.proofs.lemmas.List.Quantifiers.{all_pairs_push}
 use Rattle.numbered_graph.specs.declared.link.Link.{Link}
@@ -92,15 +92,19 @@ module _ {links : List Link} {passes : ℕ → Bool} {nodes : ℕ} {s : Lists} (
       where
         size : length (s.path ++ w ∷ []) ≡ length s.path + 1
         size = length_push s.path w
+
         last_k : k ≡ length s.path → Reaches links passes (get_or (s.path ++ w ∷ []) i 0) (get_or (s.path ++ w ∷ []) k 0)
         last_k e =
             let late = All-contains (λ a. a ≤ k → a ≤ i) (s.starts ++ length s.path ∷ []) (length s.path) ne (Contains-push s.starts (length s.path)) (omega arith) in
             let same : i ≡ k = let z = size in omega arith in
             subst (λ m. Reaches links passes (get_or (s.path ++ w ∷ []) i 0) (get_or (s.path ++ w ∷ []) m 0)) same (Reaches-refl links passes (get_or (s.path ++ w ∷ []) i 0))
+
         small_k : k ≢ length s.path → k < length s.path
         small_k k_ne = let z = size in omega arith
+
         last_i : k ≢ length s.path → i ≡ length s.path → Reaches links passes (get_or (s.path ++ w ∷ []) i 0) (get_or (s.path ++ w ∷ []) k 0)
         last_i k_ne e = subst (λ m. Reaches links passes (get_or (s.path ++ w ∷ []) m 0) (get_or (s.path ++ w ∷ []) k 0)) (sym e) (subst (λ v. Reaches links passes v (get_or (s.path ++ w ∷ []) k 0)) (sym at_end) (subst (λ v. Reaches links passes w v) (sym (on_path k (small_k k_ne))) (leads k (small_k k_ne))))
+
         both : k ≢ length s.path → i ≢ length s.path → Reaches links passes (get_or (s.path ++ w ∷ []) i 0) (get_or (s.path ++ w ∷ []) k 0)
         both k_ne i_ne =
             let lt_i' : i < length s.path = let z = size in omega arith in

@@ -1,8 +1,6 @@
 -- The steps of a walk: a node is included, a link is taken, a node is left, a link is answered.
-use Rattle.std.proofs.Common.{◌≡◌, ◌≢◌, ℕ, suc, ◌+◌, ◌<◌, ◌≤◌, Bool, true, false, cond, ◌&&◌, ◌||◌, eqb, None, List, [], ◌∷◌, ◌++◌, length, get_or, set, map, replicate, refl, sym, subst, ap, ◌∙◌, ◌⊎◌, inl, inr, ⊎_elim, ◌↔◌, Contains, All, AllPairs, count_by, arith, true≢false}
-use Rattle.std.specs.List.{list_any}
-use Rattle.std.proofs.lemmas.Bool.{cases_Bool, cases_eq, cases_lt, eq-eqb, eqb-true, or_cases, or_left, or_right, and_parts, and_from, cond_both}
-use Rattle.std.proofs.lemmas.Bool.Decides.{nat_tests}
+use Rattle.std.proofs.Common.{◌≡◌, ◌≢◌, ℕ, suc, ◌+◌, ◌<◌, ◌≤◌, Bool, true, false, cond, ◌&&◌, ◌||◌, eqb, None, List, [], ◌∷◌, ◌++◌, length, get_or, set, replicate, refl, sym, subst, ap, ◌∙◌, ◌⊎◌, inl, inr, ⊎_elim, ◌↔◌, Contains, All, arith, true≢false}
+use Rattle.std.proofs.lemmas.Bool.{cases_eq, cases_lt, eq-eqb, eqb-true, or_cases, or_left, or_right, and_parts, and_from, cond_both}
 use Rattle.std.proofs.lemmas.List.{get_or-set_same, get_or-set_other, length-set, set-get_or, length_push, length-append, get_or_append_left, get_or_default, append-nil, map-append, length-map, get_or-replicate}
 use Rattle.std.proofs.lemmas.List.Elements.{All-push, All-weaker, Contains-push, Contains-append_left, Contains-push_cases, All-contains, Contains-get_or}
 use Rattle.std.proofs.lemmas.List.Quantifiers.{all_pairs_push}
@@ -17,7 +15,7 @@ use Rattle.numbered_graph.specs.Chains.{IsNextLink}
 use Rattle.numbered_graph.specs.Paths.{any_link, IsReached}
 use Rattle.numbered_graph.specs.Sets.{has}
 use Rattle.numbered_graph.specs.Walks.{Shown, shown_links, taken_links, is_accepted, IsIncluded, IsShowing, IsDue, AreListed, AreTaken, AreFollowed}
-use Rattle.numbered_graph.proofs.SetFacts.{has-within, has-set, has-set_elim, count_by-set_new, count_by-lt, length-le_from_pairs}
+use Rattle.numbered_graph.proofs.SetFacts.{has-set, has-set_elim, count_by-set_new, count_by-lt, length-le_from_pairs}
 use Rattle.numbered_graph.proofs.PathFacts.{IsReached-start, IsReached-more, IsReached-weaker, IsReached-closed}
 
 -- a node that was not reached joins the list
@@ -102,6 +100,7 @@ module _ {d : Direction} {n : ℕ} {links : List Link} {reached : List Bool} {or
       where
         here : (c < length links) × (c < get_or (set cursors v next) (near_at d links c) 0)
         here = (lt, subst (λ u. c < get_or (set cursors v next) u 0) (sym near_is) (let from_here = is_next.from_here in let there = cursor_there in omega arith))
+
         old : (i : ℕ) → (i < length links) × (i < get_or cursors (near_at d links i) 0) → (i < length links) × (i < get_or (set cursors v next) (near_at d links i) 0)
         old i k = (k.0, ⊎_elim (λ e. subst (λ u. i < get_or (set cursors v next) u 0) (sym e) (let below = subst (λ u. i < get_or cursors u 0) e k.1 in let from_here = is_next.from_here in let there = cursor_there in omega arith)) (λ ne. subst (λ m. i < m) (sym (get_or-set_other cursors v (near_at d links i) next 0 ne)) k.1) (cases_eq (near_at d links i) v))
 
@@ -110,6 +109,7 @@ module _ {d : Direction} {n : ℕ} {links : List Link} {reached : List Bool} {or
       where
         cases_order_of : (i : ℕ) → (i < c) ⊎ ((i ≡ c) ⊎ (c < i))
         cases_order_of i = ⊎_elim (λ l. inl l) (λ g. inr (⊎_elim (λ e. inl e) (λ ne. inr (omega arith)) (cases_eq i c))) (cases_lt i c)
+
         at_node : near_at d links j ≡ v → (j < c) ⊎ ((j ≡ c) ⊎ (c < j)) → Contains (taken ++ c ∷ []) j
         at_node e = λ o. ⊎_elim (λ l. Contains-append_left taken (c ∷ []) j ((h.each j).1 (small, subst (λ u. j < get_or cursors u 0) (sym e) (omega arith)))) (λ o2. ⊎_elim (λ same. subst (λ m. Contains (taken ++ c ∷ []) m) (sym same) (Contains-push taken c)) (λ g. absurd (is_next.none_between j (omega arith) (let there = cursor_there in let b = subst (λ u. j < get_or (set cursors v next) u 0) e before in omega arith) (e ∙ sym near_is))) o2) o
 

@@ -1,5 +1,5 @@
 -- What a walk keeps while it looks for the next link.
-use Rattle.std.proofs.Common.{◌≡◌, ℕ, suc, ◌+◌, ◌<◌, ◌≤◌, true, None, Some, Option, List, [], ◌∷◌, ◌++◌, length, get_or, set, Vec, Global, sym, subst, ap, ◌∙◌, arith}
+use Rattle.std.proofs.Common.{◌≡◌, ℕ, suc, ◌+◌, ◌<◌, ◌≤◌, true, None, Some, [], ◌∷◌, ◌++◌, length, get_or, set, Vec, Global, sym, subst, ap, ◌∙◌, arith}
 use Rattle.std.proofs.lemmas.List.{append-nil, get_or_read}
 use Rattle.numbered_graph.specs.declared.walk.Walk.TheInside.{Inside}
 use Rattle.numbered_graph.specs.Chains.{IsNextLink}

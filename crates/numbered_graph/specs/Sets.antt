@@ -1,5 +1,5 @@
 -- Sets of nodes as a flag for each node.
-use Rattle.std.specs.Prelude.{ℕ, List, Bool, true, false, not, ◌&&◌, ◌||◌, slice_index_or}
+use Rattle.std.specs.Prelude.{ℕ, List, Bool, false, not, ◌&&◌, ◌||◌, slice_index_or}
 use Rattle.numbered_graph.specs.declared.node_set.Operation.{Operation}
 use Rattle.numbered_graph.specs.declared.node_set.Operation.TheVariants.{Union, Intersection, Difference, SymmetricDifference}
 

@@ -1,5 +1,5 @@
 -- What a walk keeps, and what is seen of it.
-use Rattle.std.specs.Prelude.{ℕ, ◌+◌, ◌≤◌, length, vec_capacity}
+use Rattle.std.specs.Prelude.{◌+◌, ◌≤◌, length, vec_capacity}
 use Rattle.numbered_graph.specs.declared.walk.Walk.TheInside.{Inside}
 use Rattle.numbered_graph.specs.Walks.{WalkValue, taken_links, AreListed, AreTaken, AreFollowed}
 

@@ -1,5 +1,5 @@
 -- Walks that ask of each link whether it is accepted.
-use Rattle.std.specs.Prelude.{◌≡◌, ◌≢◌, ◌↔◌, ℕ, ◌<◌, ◌≤◌, Bool, true, false, ◌&&◌, ◌==◌, List, ◌++◌, map, length, slice_index, Contains, All, AllPairs, Option, count_by}
+use Rattle.std.specs.Prelude.{◌≡◌, ◌≢◌, ◌↔◌, ℕ, ◌<◌, ◌≤◌, Bool, true, ◌&&◌, ◌==◌, List, ◌++◌, map, length, slice_index, Contains, All, AllPairs, Option, count_by}
 use Rattle.std.specs.List.{list_any}
 use Rattle.std.specs.Option.{option_to_list}
 use Rattle.numbered_graph.specs.declared.link.Link.{Link}

@@ -97,7 +97,12 @@ fn step(graph: &Graph, passes: &[bool], search: &mut Search) -> Result<(), Alloc
         None => {
             search.closed.push(start)?;
             search.starts.truncate(search.starts.len() - 1);
-            close(&mut search.path, &mut search.ranks, start, search.closed.len());
+            close(
+                &mut search.path,
+                &mut search.ranks,
+                start,
+                search.closed.len(),
+            );
             Ok(())
         }
     }

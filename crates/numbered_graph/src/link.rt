@@ -40,7 +40,9 @@ impl Link {
 pub fn are_within(nodes: usize, links: &[Link]) -> bool
     ensures { IsTrue result ↔ AreWithin nodes links.now }
 {
-    links.iter().all(|link| link.from < nodes && link.to < nodes)
+    links
+        .iter()
+        .all(|link| link.from < nodes && link.to < nodes)
 }
 
 /// Whether each number is that of one of so many nodes: what a walk asks of its starts.

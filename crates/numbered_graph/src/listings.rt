@@ -69,11 +69,7 @@ pub(crate) fn in_order(
     Ok(order)
 }
 
-fn places_of(
-    alloc: Global,
-    ranks: &[usize],
-    firm_ranks: &[usize],
-) -> Result<Vec<Place>, AllocError>
+fn places_of(alloc: Global, ranks: &[usize], firm_ranks: &[usize]) -> Result<Vec<Place>, AllocError>
     requires { length firm_ranks.now ≡ length ranks.now }
     ensures { IfOk result (λ v. v.items ≡ map (place_of ranks.now firm_ranks.now) (numbers_below (length ranks.now))) }
 {

@@ -134,7 +134,12 @@ impl NodeSet {
         ensures sized { IfOk result (λ s. length s ≡ length self.now) }
         ensures members { IfOk result (λ s. (v : ℕ) → has s v ≡ differs (has self.now v) (has other.now v)) }
     {
-        let flags = join_flags(alloc, Operation::SymmetricDifference, &self.flags, &other.flags)?;
+        let flags = join_flags(
+            alloc,
+            Operation::SymmetricDifference,
+            &self.flags,
+            &other.flags,
+        )?;
         Ok(NodeSet { flags })
     }
 }

@@ -1,7 +1,7 @@
-use Rattle.std.proofs.Common.{◌≡◌, ℕ, ◌<◌, get_or, subst, sym, ap, arith}
+use Rattle.std.proofs.Common.{◌≡◌, ◌<◌, get_or, subst, sym, ap, arith}
 use Rattle.std.proofs.lemmas.List.{get_or_read}
 use Rattle.numbered_graph.specs.Sets.{has}
-use Rattle.numbered_graph.specs.Searches.{Lists, lists_of, Searches}
+use Rattle.numbered_graph.specs.Searches.{Lists, Searches}
 use Rattle.numbered_graph.proofs.SearchOpening.{there, kept_placed, Searches-open}
 use Rattle.numbered_graph.proofs.SearchEnds.{no_path}
 use Rattle.numbered_graph.proofs.components.explore.Goals as goal

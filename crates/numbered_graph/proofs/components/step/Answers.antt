@@ -1,7 +1,7 @@
-use Rattle.std.proofs.Common.{◌≡◌, ℕ, suc, ◌+◌, ◌-◌, ◌<◌, ◌≤◌, ◌++◌, ◌∷◌, [], length, get_or, take, All, AllPairs, Contains, subst, sym, ap, ◌∙◌, arith}
+use Rattle.std.proofs.Common.{◌≡◌, ℕ, ◌+◌, ◌-◌, ◌<◌, ◌≤◌, ◌++◌, ◌∷◌, [], length, get_or, take, All, AllPairs, Contains, subst, sym, ap, ◌∙◌, arith}
 use Rattle.std.proofs.lemmas.List.{get_or_read, length_push}
 use Rattle.std.proofs.lemmas.List.Elements.{All-push, All-weaker, All-contains, Contains-push}
-use Rattle.numbered_graph.specs.Searches.{lists_of, IsOpen, IsInLastKnot, RanksFrom, Searches}
+use Rattle.numbered_graph.specs.Searches.{IsOpen, RanksFrom}
 use Rattle.numbered_graph.proofs.ListParts.{split_last, AllPairs-last}
 use Rattle.numbered_graph.proofs.SearchMeeting.{open_within}
 use Rattle.numbered_graph.proofs.SearchClosing.{Searches-closed}

@@ -1,10 +1,10 @@
-use Rattle.std.proofs.Common.{◌≡◌, ℕ, ◌<◌, ◌≤◌, true, List, Vec, Global, length, get_or, map, filter, flat_map, replicate, sym, subst, ap, ◌∙◌, All, AllPairs, IsPermutation}
+use Rattle.std.proofs.Common.{◌≡◌, ℕ, ◌<◌, ◌≤◌, true, Vec, Global, length, get_or, map, filter, replicate, sym, subst, ap, ◌∙◌, All, AllPairs, IsPermutation}
 use Rattle.std.proofs.lemmas.List.{length-map}
 use Rattle.std.proofs.lemmas.List.Elements.{All-filter}
 use Rattle.std.proofs.lemmas.List.Sorted.{All-permutation}
-use Rattle.numbered_graph.specs.Listings.{numbers_below, IsInOrder}
+use Rattle.numbered_graph.specs.Listings.{numbers_below}
 use Rattle.numbered_graph.specs.Ranks.{AreRanks}
-use Rattle.numbered_graph.specs.Cycles.{AreCycles, AreRuns, AreLevels, key_of}
+use Rattle.numbered_graph.specs.Cycles.{AreRuns, AreLevels, key_of}
 use Rattle.numbered_graph.specs.Sets.{has}
 use Rattle.numbered_graph.proofs.Kept.{AllPairs-filter}
 use Rattle.numbered_graph.proofs.Numbers.{numbers-small}

@@ -1,4 +1,4 @@
-use Rattle.std.proofs.Common.{◌≡◌, ℕ, ◌+◌, ◌<◌, ◌≤◌, List, Vec, Global, ◌++◌, ◌∷◌, [], length, get_or, take, map, flat_map, sym, subst, ap, ◌∙◌, arith}
+use Rattle.std.proofs.Common.{◌≡◌, ℕ, ◌+◌, ◌<◌, List, Vec, Global, ◌∷◌, [], length, get_or, take, map, flat_map, sym, subst, ap, ◌∙◌, arith}
 use Rattle.std.proofs.lemmas.List.{map-append}
 use Rattle.numbered_graph.specs.Cycles.{AreRuns}
 use Rattle.numbered_graph.proofs.RunFacts.{flat_more, runs_more, cut_more}

@@ -1,4 +1,4 @@
-use Rattle.std.proofs.Common.{◌≡◌, ℕ, ◌<◌, length, get_or, map, refl, subst, sym, ap, ◌∙◌, IsPermutation, All, arith}
+use Rattle.std.proofs.Common.{◌≡◌, length, get_or, map, refl, subst, sym, ap, ◌∙◌, IsPermutation, All, arith}
 use Rattle.std.proofs.lemmas.List.Elements.{All-map}
 use Rattle.std.proofs.lemmas.List.Sorted.{IsPermutation-map, All-permutation, sorted_far, ranks_by}
 use Rattle.numbered_graph.specs.contracts.listings.PlaceOrd.TheImpl.Laws.{total-law}

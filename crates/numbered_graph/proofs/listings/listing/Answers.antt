@@ -1,5 +1,4 @@
-use Rattle.std.proofs.Common.{◌≡◌, true, length, replicate, subst, sym, ap, ◌∙◌, IsPermutation}
-use Rattle.numbered_graph.specs.Paths.{any_link}
+use Rattle.std.proofs.Common.{◌≡◌, true, length, replicate, subst, ap, ◌∙◌, IsPermutation}
 use Rattle.numbered_graph.specs.Ranks.{AreRanks}
 use Rattle.numbered_graph.specs.Sets.{has}
 use Rattle.numbered_graph.specs.Listings.{numbers_below, IsInOrder}

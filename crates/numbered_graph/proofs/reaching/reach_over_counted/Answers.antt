@@ -1,4 +1,4 @@
-use Rattle.std.proofs.Common.{◌≡◌, ℕ, ◌+◌, ◌<◌, Bool, false, None, Some, ◌++◌, ◌∷◌, [], ◌↔◌, IsTrue, All, List, length, get_or, refl, subst, sym, ap, ◌∙◌, arith}
+use Rattle.std.proofs.Common.{◌≡◌, ℕ, Bool, None, ◌++◌, ◌∷◌, [], ◌↔◌, IsTrue, All, length, refl, subst, sym, ap, ◌∙◌, arith}
 use Rattle.std.proofs.lemmas.List.Elements.{All-push}
 use Rattle.numbered_graph.specs.Graphs.{GraphValue}
 use Rattle.numbered_graph.specs.Paths.{IsReached}

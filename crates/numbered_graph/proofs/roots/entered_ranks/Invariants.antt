@@ -1,4 +1,4 @@
-use Rattle.std.proofs.Common.{◌≡◌, ◌<◌, length, All}
+use Rattle.std.proofs.Common.{◌<◌, length, All}
 use Rattle.numbered_graph.specs.Roots.{AreEntered}
 use Rattle.numbered_graph.proofs.roots.entered_ranks.Given as goal
 

@@ -1,5 +1,4 @@
-use Rattle.std.proofs.Common.{◌≡◌, ◌<◌, ◌&&◌, not, false, length, get_or, sym, ap, ◌∙◌, arith}
-use Rattle.std.proofs.lemmas.List.{get_or_read}
+use Rattle.std.proofs.Common.{◌&&◌, not, get_or}
 use Rattle.numbered_graph.specs.Sets.{has}
 use Rattle.numbered_graph.proofs.Numbers.{kept_more}
 use Rattle.numbered_graph.proofs.roots.not_entered.Goals as goal

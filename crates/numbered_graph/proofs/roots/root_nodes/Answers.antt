@@ -1,6 +1,5 @@
-use Rattle.std.proofs.Common.{◌≡◌, ℕ, ◌<◌, ◌↔◌, ◌&&◌, not, true, length, get_or, filter, replicate, Contains, AllPairs, subst, sym, ap, ◌∙◌}
+use Rattle.std.proofs.Common.{◌≡◌, ◌<◌, ◌↔◌, ◌&&◌, not, true, length, get_or, filter, replicate, Contains, AllPairs, subst, sym, ap, ◌∙◌}
 use Rattle.numbered_graph.specs.Listings.{numbers_below}
-use Rattle.numbered_graph.specs.Links.{AreWithin}
 use Rattle.numbered_graph.specs.Ranks.{AreRanks}
 use Rattle.numbered_graph.specs.Roots.{IsRoot, AreEntered}
 use Rattle.numbered_graph.specs.Sets.{has}

@@ -1,4 +1,4 @@
-use Rattle.std.proofs.Common.{◌≡◌, ℕ, ◌<◌, Some, ◌++◌, ◌∷◌, [], length, subst, sym, ap, ◌∙◌, arith}
+use Rattle.std.proofs.Common.{◌≡◌, ℕ, ◌<◌, Some, ◌++◌, ◌∷◌, [], length, subst, ap, ◌∙◌, arith}
 use Rattle.std.specs.Option.{option_to_list}
 use Rattle.numbered_graph.specs.declared.walk.Walk.TheInside.{Inside}
 use Rattle.numbered_graph.specs.Links.{far_at}

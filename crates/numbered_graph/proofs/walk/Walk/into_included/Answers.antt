@@ -1,4 +1,3 @@
-use Rattle.std.proofs.Common.{ap}
 use Rattle.numbered_graph.proofs.WalkFacts.{included_iff}
 use Rattle.numbered_graph.proofs.walk.Walk.into_included.Goals as goal
 

@@ -1,4 +1,4 @@
-use Rattle.std.proofs.Common.{◌≡◌, ◌≤◌, [], length, take, vec_capacity}
+use Rattle.std.proofs.Common.{◌≡◌, ◌≤◌, [], take, vec_capacity}
 use Rattle.numbered_graph.specs.Walks.{AreListed, AreFollowed}
 use Rattle.numbered_graph.proofs.walk.Walk.new.Given as goal
 

@@ -1,6 +1,5 @@
-use Rattle.std.proofs.Common.{◌≡◌, ◌+◌, ◌<◌, ◌≤◌, None, length, refl, subst, sym, ap, ◌∙◌, arith}
+use Rattle.std.proofs.Common.{◌+◌, ◌<◌, ◌≤◌, length, refl, subst, ap, ◌∙◌, arith}
 use Rattle.numbered_graph.specs.Walks.{WalkValue, taken_links, IsDue, IsShowing}
-use Rattle.numbered_graph.specs.Walking.{seen}
 use Rattle.numbered_graph.proofs.WalkingFacts.{looked_bound, all_shown, in_cursors, Stands-passed, is_due, room_left, more_bound, Stands-taken}
 use Rattle.numbered_graph.proofs.walk.Walk.take.Goals as goal
 
