@@ -1,0 +1,42 @@
+use Rattle.std.proofs.Common.{◌≡◌, ◌-◌, ◌<◌, get_or, subst, sym, arith}
+use Rattle.std.proofs.lemmas.List.{get_or_read}
+use Rattle.numbered_graph.specs.Sets.{has}
+use Rattle.numbered_graph.specs.Searches.{lists_of, IsOpen, Meets, Searches}
+use Rattle.numbered_graph.proofs.SearchMeeting.{met_open, Meets-open, met_join, Meets-join}
+use Rattle.numbered_graph.proofs.components.meet.Goals as goal
+
+pub returns-then-index-eq0-clause-searches : goal.returns-then-index-eq0-clause-searches
+returns-then-index-eq0-clause-searches c =
+    let s = c.args.search.now in
+    let within = subst (λ n. c.far-far.result < n) (sym c.requires.searches.sized.places_sized) c.far-far.ensures.node in
+    let new : get_or s.places.items c.far-far.result 0 ≡ 0 = let read = get_or_read s.places.items c.far-far.result c.index-2.result.now within c.index-2.ensures 0 in let none = c.if-index-eq0.true in omega arith in
+    subst (Searches c.args.graph.now.links (has c.args.passes.now) c.args.graph.now.nodes) (sym c.in_ok-open.ensures) (met_open c.requires.searches c.args.number c.requires.number c.if-not-passes-number.false c.requires.knot c.far-far.result c.far-far.ensures.value c.far-far.ensures.node new)
+
+pub returns-then-index-eq0-clause-met : goal.returns-then-index-eq0-clause-met
+returns-then-index-eq0-clause-met c =
+    let s = c.args.search.now in
+    let within = subst (λ n. c.far-far.result < n) (sym c.requires.searches.sized.places_sized) c.far-far.ensures.node in
+    let new : get_or s.places.items c.far-far.result 0 ≡ 0 = let read = get_or_read s.places.items c.far-far.result c.index-2.result.now within c.index-2.ensures 0 in let none = c.if-index-eq0.true in omega arith in
+    subst (Meets c.args.graph.now.links (has c.args.passes.now) c.args.number (lists_of s)) (sym c.in_ok-open.ensures) (Meets-open c.requires.searches c.args.number c.requires.number c.if-not-passes-number.false c.requires.knot c.far-far.result c.far-far.ensures.value c.far-far.ensures.node new)
+
+pub returns-clause-searches : goal.returns-clause-searches
+returns-clause-searches c =
+    let s = c.args.search.now in
+    let in_places = subst (λ n. c.far-far.result < n) (sym c.requires.searches.sized.places_sized) c.far-far.ensures.node in
+    let in_ranks = subst (λ n. c.far-far.result < n) (sym c.requires.searches.sized.ranks_sized) c.far-far.ensures.node in
+    let rank = get_or_read s.ranks.items c.far-far.result c.index.result.now in_ranks c.index.ensures 0 in
+    let place = get_or_read s.places.items c.far-far.result c.index-2.result.now in_places c.index-2.ensures 0 in
+    let again = get_or_read s.places.items c.far-far.result c.index-3.result.now in_places c.index-3.ensures 0 in
+    let is_open : IsOpen s.places.items s.ranks.items c.far-far.result (c.index-3.result.now - 1) = record { placed = let some = c.if-index-eq0.false in omega arith; unranked = let none = c.if-index-gt0.false in omega arith } in
+    met_join c.requires.searches c.args.number c.requires.number c.if-not-passes-number.false c.requires.knot c.far-far.result c.far-far.ensures.value (c.index-3.result.now - 1) is_open c.join.new.starts.items c.join.ensures
+
+pub returns-clause-met : goal.returns-clause-met
+returns-clause-met c =
+    let s = c.args.search.now in
+    let in_places = subst (λ n. c.far-far.result < n) (sym c.requires.searches.sized.places_sized) c.far-far.ensures.node in
+    let in_ranks = subst (λ n. c.far-far.result < n) (sym c.requires.searches.sized.ranks_sized) c.far-far.ensures.node in
+    let rank = get_or_read s.ranks.items c.far-far.result c.index.result.now in_ranks c.index.ensures 0 in
+    let place = get_or_read s.places.items c.far-far.result c.index-2.result.now in_places c.index-2.ensures 0 in
+    let again = get_or_read s.places.items c.far-far.result c.index-3.result.now in_places c.index-3.ensures 0 in
+    let is_open : IsOpen s.places.items s.ranks.items c.far-far.result (c.index-3.result.now - 1) = record { placed = let some = c.if-index-eq0.false in omega arith; unranked = let none = c.if-index-gt0.false in omega arith } in
+    Meets-join c.requires.searches c.args.number c.requires.number c.if-not-passes-number.false c.requires.knot c.far-far.result c.far-far.ensures.value (c.index-3.result.now - 1) is_open c.join.new.starts.items c.join.ensures

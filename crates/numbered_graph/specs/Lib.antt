@@ -1,0 +1,13 @@
+pub mod Links
+pub mod Chains
+pub mod Graphs
+pub mod Sets
+pub mod Paths
+pub mod Walks
+pub mod Walking
+pub mod Ranks
+pub mod Searches
+pub mod Listings
+pub mod Places
+pub mod Roots
+pub mod Cycles

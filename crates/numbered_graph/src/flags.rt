@@ -1,0 +1,35 @@
+//! A flag for each of several things, and lists of those whose flag is set.
+
+ghost use Rattle.std.specs.Prelude.{◌≡◌, ◌≤◌, ◌++◌, ◌∷◌, [], All, IfOk, OnOk, replicate, if◌then◌else◌};
+
+use std::alloc::{AllocError, Global};
+
+/// So many flags, all alike.
+pub fn flags_of(alloc: Global, flag: bool, count: usize) -> Result<Vec<bool>, AllocError>
+    ensures { IfOk result (λ v. v.items ≡ replicate count flag) }
+{
+    vec![in alloc; flag; count]
+}
+
+/// Puts the number at the end of the list where the flag is set.
+pub fn push_if(numbers: &mut Vec<usize>, number: usize, flag: bool) -> Result<(), AllocError>
+    ensures { OnOk result (numbers.new.items ≡ (if flag then numbers.old.items ++ number ∷ [] else numbers.old.items)) }
+{
+    if flag {
+        numbers.push(number)?;
+    }
+    Ok(())
+}
+
+/// The greatest of the numbers, or 0.
+pub fn highest(numbers: &[usize]) -> usize
+    ensures { All (λ n. n ≤ result) numbers.now }
+{
+    let mut top = 0;
+    for number in numbers {
+        if *number > top {
+            top = *number;
+        }
+    }
+    top
+}

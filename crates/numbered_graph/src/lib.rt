@@ -1,0 +1,28 @@
+//! Walks, components and orders over graphs whose nodes are numbers.
+#![tactic(auto)]
+
+mod chains;
+mod components;
+mod cycle_lists;
+mod direction;
+mod flags;
+mod graph;
+mod link;
+mod listings;
+mod looks;
+mod node_set;
+mod reaching;
+mod roots;
+mod walk;
+
+pub use crate::components::component_ranks;
+pub use crate::cycle_lists::cycles;
+pub use crate::direction::Direction;
+pub use crate::graph::Graph;
+pub use crate::link::{Link, are_below, are_within};
+pub use crate::listings::{listed_members, listing};
+pub use crate::looks::Looks;
+pub use crate::node_set::NodeSet;
+pub use crate::reaching::{reach, reach_over, reach_over_counted};
+pub use crate::roots::{links_inside, root_nodes};
+pub use crate::walk::Walk;

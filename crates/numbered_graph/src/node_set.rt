@@ -1,0 +1,185 @@
+//! Sets of numbered nodes.
+
+ghost use Rattle.std.specs.Prelude.{◌≡◌, ℕ, ◌<◌, ◌&&◌, ◌||◌, not, true, false, ◌↔◌, length, filter, replicate, All, Contains, IsTrue, IfOk, count_by};
+ghost use Rattle.numbered_graph.specs.Listings.{numbers_below};
+ghost use Rattle.numbered_graph.specs.Sets.{has, differs, joined};
+
+use crate::flags::flags_of;
+use std::alloc::{AllocError, Global};
+use std::marker::Model;
+
+/// A set of nodes, kept as a flag for each node of a graph.
+#[derive(Drop)]
+pub struct NodeSet {
+    flags: Vec<bool>,
+}
+
+impl Model for NodeSet {
+    ghost use Rattle.std.specs.Prelude.{List, Bool};
+
+    ghost Value = { List Bool };
+
+    ghost view = { λ s. s.flags.items };
+}
+
+#[derive(Clone, Copy)]
+enum Operation {
+    Union,
+    Intersection,
+    Difference,
+    SymmetricDifference,
+}
+
+impl NodeSet {
+    /// None of so many nodes.
+    pub fn none(alloc: Global, nodes: usize) -> Result<NodeSet, AllocError>
+        ensures { IfOk result (λ s. s ≡ replicate nodes false) }
+    {
+        let flags = flags_of(alloc, false, nodes)?;
+        Ok(NodeSet { flags })
+    }
+
+    /// All of so many nodes.
+    pub fn all(alloc: Global, nodes: usize) -> Result<NodeSet, AllocError>
+        ensures { IfOk result (λ s. s ≡ replicate nodes true) }
+    {
+        let flags = flags_of(alloc, true, nodes)?;
+        Ok(NodeSet { flags })
+    }
+
+    /// Those nodes of so many that are listed.
+    pub fn of(alloc: Global, nodes: usize, members: &[usize]) -> Result<NodeSet, AllocError>
+        requires { All (λ v. v < nodes) members.now }
+        ensures sized { IfOk result (λ s. length s ≡ nodes) }
+        ensures members { IfOk result (λ s. (v : ℕ) → IsTrue (has s v) ↔ Contains members.now v) }
+    {
+        let mut flags = flags_of(alloc, false, nodes)?;
+        for member in members {
+            flags[*member] = true;
+        }
+        Ok(NodeSet { flags })
+    }
+
+    pub(crate) fn from_flags(flags: Vec<bool>) -> NodeSet
+        ensures { result ≡ flags.items }
+    {
+        NodeSet { flags }
+    }
+
+    /// Whether the node is in the set. A number past the last node is in no set.
+    pub fn contains(&self, node: usize) -> bool
+        ensures { result ≡ has self.now node }
+    {
+        node < self.flags.len() && self.flags[node]
+    }
+
+    /// The number of nodes that could be in the set.
+    pub fn node_count(&self) -> usize
+        ensures { result ≡ length self.now }
+    {
+        self.flags.len()
+    }
+
+    /// How many nodes are in the set.
+    pub fn len(&self) -> usize
+        ensures { result ≡ count_by (λ b. b) self.now }
+    {
+        self.flags.iter().filter(|b| **b).count()
+    }
+
+    /// The nodes in the set, ascending.
+    pub fn members(&self, alloc: Global) -> Result<Vec<usize>, AllocError>
+        ensures { IfOk result (λ v. v.items ≡ filter (has self.now) (numbers_below (length self.now))) }
+    {
+        set_nodes(alloc, &self.flags)
+    }
+
+    /// The nodes that are in one of the two sets.
+    pub fn union(&self, alloc: Global, other: &NodeSet) -> Result<NodeSet, AllocError>
+        requires { length other.now ≡ length self.now }
+        ensures sized { IfOk result (λ s. length s ≡ length self.now) }
+        ensures members { IfOk result (λ s. (v : ℕ) → has s v ≡ (has self.now v || has other.now v)) }
+    {
+        let flags = join_flags(alloc, Operation::Union, &self.flags, &other.flags)?;
+        Ok(NodeSet { flags })
+    }
+
+    /// The nodes that are in both sets.
+    pub fn intersection(&self, alloc: Global, other: &NodeSet) -> Result<NodeSet, AllocError>
+        requires { length other.now ≡ length self.now }
+        ensures sized { IfOk result (λ s. length s ≡ length self.now) }
+        ensures members { IfOk result (λ s. (v : ℕ) → has s v ≡ (has self.now v && has other.now v)) }
+    {
+        let flags = join_flags(alloc, Operation::Intersection, &self.flags, &other.flags)?;
+        Ok(NodeSet { flags })
+    }
+
+    /// The nodes that are in this set and not in the other.
+    pub fn difference(&self, alloc: Global, other: &NodeSet) -> Result<NodeSet, AllocError>
+        requires { length other.now ≡ length self.now }
+        ensures sized { IfOk result (λ s. length s ≡ length self.now) }
+        ensures members { IfOk result (λ s. (v : ℕ) → has s v ≡ (has self.now v && not (has other.now v))) }
+    {
+        let flags = join_flags(alloc, Operation::Difference, &self.flags, &other.flags)?;
+        Ok(NodeSet { flags })
+    }
+
+    /// The nodes that are in exactly one of the two sets.
+    pub fn symmetric_difference(
+        &self,
+        alloc: Global,
+        other: &NodeSet,
+    ) -> Result<NodeSet, AllocError>
+        requires { length other.now ≡ length self.now }
+        ensures sized { IfOk result (λ s. length s ≡ length self.now) }
+        ensures members { IfOk result (λ s. (v : ℕ) → has s v ≡ differs (has self.now v) (has other.now v)) }
+    {
+        let flags = join_flags(
+            alloc,
+            Operation::SymmetricDifference,
+            &self.flags,
+            &other.flags,
+        )?;
+        Ok(NodeSet { flags })
+    }
+}
+
+fn set_nodes(alloc: Global, flags: &[bool]) -> Result<Vec<usize>, AllocError>
+    ensures { IfOk result (λ v. v.items ≡ filter (has flags.now) (numbers_below (length flags.now))) }
+{
+    let mut nodes = Vec::new(alloc);
+    for node in 0..flags.len() {
+        if flags[node] {
+            nodes.push(node)?;
+        }
+    }
+    Ok(nodes)
+}
+
+fn join_flags(
+    alloc: Global,
+    operation: Operation,
+    a: &[bool],
+    b: &[bool],
+) -> Result<Vec<bool>, AllocError>
+    requires { length b.now ≡ length a.now }
+    ensures sized { IfOk result (λ v. length v.items ≡ length a.now) }
+    ensures each { IfOk result (λ v. (k : ℕ) → has v.items k ≡ joined operation (has a.now k) (has b.now k)) }
+{
+    let mut flags = Vec::new(alloc);
+    for k in 0..a.len() {
+        flags.push(join(operation, a[k], b[k]))?;
+    }
+    Ok(flags)
+}
+
+fn join(operation: Operation, a: bool, b: bool) -> bool
+    ensures { result ≡ joined operation a b }
+{
+    match operation {
+        Operation::Union => a || b,
+        Operation::Intersection => a && b,
+        Operation::Difference => a && !b,
+        Operation::SymmetricDifference => a != b,
+    }
+}
