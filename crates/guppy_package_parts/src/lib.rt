@@ -1,0 +1,24 @@
+//! The parts of a package graph that speak of one row alone: ids of packages, where they come from and
+//! where they may go, what they build, and on which platforms a dependency is on.
+
+#![tactic(auto)]
+
+mod dependency_direction;
+mod dependency_kind;
+mod error;
+mod feature_warning;
+mod package_id;
+mod sorted_set;
+
+pub use crate::dependency_direction::DependencyDirection;
+pub use crate::dependency_kind::DependencyKind;
+pub use crate::error::Error;
+pub use crate::feature_warning::{FeatureBuildStage, FeatureGraphWarning};
+pub use crate::package_id::PackageId;
+pub use crate::sorted_set::SortedSet;
+pub use workspace_record::{
+    FeatureRecord as FeatureRow, LineKind, LineRecord as LineRow, LinkRecord as LinkRow,
+    MemberRecord as MemberRow, PackageInfo as PackageRowInfo, PackageRecord as PackageRow,
+    TargetInfo as TargetRowInfo, TargetKind, TargetRecord as TargetRow,
+    WorkspaceInfo as WorkspaceRow,
+};
