@@ -6,15 +6,19 @@
 mod dependency_direction;
 mod dependency_kind;
 mod error;
+mod external_source;
 mod feature_warning;
 mod package_id;
+mod package_source;
 mod sorted_set;
 
 pub use crate::dependency_direction::DependencyDirection;
 pub use crate::dependency_kind::DependencyKind;
 pub use crate::error::Error;
+pub use crate::external_source::{ExternalSource, GitReq};
 pub use crate::feature_warning::{FeatureBuildStage, FeatureGraphWarning};
 pub use crate::package_id::PackageId;
+pub use crate::package_source::PackageSource;
 pub use crate::sorted_set::SortedSet;
 pub use workspace_record::{
     FeatureRecord as FeatureRow, LineKind, LineRecord as LineRow, LinkRecord as LinkRow,
