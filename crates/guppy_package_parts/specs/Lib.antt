@@ -6,3 +6,14 @@ pub mod WarningViews
 pub mod SortedSets
 pub mod Sources
 pub mod SourceViews
+pub mod Publishing
+pub mod PublishView
+pub mod BuildTargets
+pub mod BuildTargetViews
+pub mod Ternaries
+pub mod Statuses
+pub mod PlatformViews
+pub mod Lines
+pub mod LineViews
+pub mod StatusViews
+pub mod RequirementViews

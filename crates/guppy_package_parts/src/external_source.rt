@@ -59,13 +59,13 @@ impl<'g> ExternalSource<'g> {
         ensures read { option_map external_view result ≡ external_of source.entry.now }
         ensures printed { IfSome result (λ s. external_text (external_view s) ≡ source.entry.now) }
     {
-        if let Some(registry) = source.strip_prefix("registry+") {
+        if let Some(registry) = source.strip_prefix(Self::REGISTRY_PLUS) {
             return Some(ExternalSource::Registry(registry));
         }
-        if let Some(registry) = source.strip_prefix("sparse+") {
+        if let Some(registry) = source.strip_prefix(Self::SPARSE_PLUS) {
             return Some(ExternalSource::Sparse(registry));
         }
-        match source.strip_prefix("git+") {
+        match source.strip_prefix(Self::GIT_PLUS) {
             Some(text) => git_source_of(text),
             None => None,
         }
@@ -93,13 +93,13 @@ fn git_request_of<'g>(text: &'g str) -> (&'g str, GitReq<'g>)
     ensures read { (result.0.now, request_view result.1) ≡ git_request text.entry.now }
     ensures printed { result.0.now ++ request_text (request_view result.1) ≡ text.entry.now }
 {
-    if let Some((repository, branch)) = text.split_once("?branch=") {
+    if let Some((repository, branch)) = text.split_once(ExternalSource::BRANCH_EQ) {
         return (repository, GitReq::Branch(branch));
     }
-    if let Some((repository, tag)) = text.split_once("?tag=") {
+    if let Some((repository, tag)) = text.split_once(ExternalSource::TAG_EQ) {
         return (repository, GitReq::Tag(tag));
     }
-    if let Some((repository, rev)) = text.split_once("?rev=") {
+    if let Some((repository, rev)) = text.split_once(ExternalSource::REV_EQ) {
         return (repository, GitReq::Rev(rev));
     }
     (text, GitReq::Default)
