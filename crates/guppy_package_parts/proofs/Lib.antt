@@ -1,6 +1,3 @@
-pub mod SetFacts
-pub mod TextParts
-pub mod RequestFacts
 pub mod TernaryFacts
 pub mod StatusFacts
 pub mod LineFacts

@@ -2,7 +2,7 @@ ghost use Rattle.std.specs.Prelude.{◌≡◌, ◌&&◌, MatchOption, [], false,
 ghost use Rattle.std.specs.List.{list_any};
 ghost use Rattle.std.specs.Str.{bytes_eq};
 ghost use Rattle.list_facts.specs.Texts.{texts};
-ghost use Rattle.guppy_package_parts.specs.DependencyKinds.{line_kind_of};
+ghost use Rattle.guppy_row_parts.specs.DependencyKinds.{line_kind_of};
 ghost use Rattle.guppy_package_parts.specs.Lines.{asks_defaults, asks_no_defaults, is_kind, lists};
 ghost use Rattle.guppy_package_parts.specs.LineViews.{is_in_part};
 ghost use Rattle.guppy_package_parts.specs.PlatformViews.{spec_view};
@@ -11,11 +11,12 @@ ghost use Rattle.guppy_package_parts.specs.Statuses.{is_never, kept_specs, statu
 ghost use Rattle.guppy_package_parts.specs.StatusViews.{status_view};
 ghost use Rattle.guppy_package_parts.specs.Ternaries.{greater};
 
-use crate::dependency_kind::DependencyKind;
+
 use crate::enabled_ternary::EnabledTernary;
 use crate::lines::{LineTest, Lines, Part};
 use crate::platform::{Platform, PlatformSpec};
 use crate::platform_status::PlatformStatus;
+use guppy_row_parts::DependencyKind;
 use workspace_record::{LineKind, LineRecord, LinkRecord};
 
 /// What a package requires of a dependency, in one section of its manifest.

@@ -5,7 +5,7 @@ ghost use Rattle.std.specs.List.{filter_map};
 ghost use Rattle.guppy_package_parts.specs.Lines.{line_at};
 ghost use Rattle.guppy_package_parts.specs.LineViews.{is_line_of, lines_of};
 
-use crate::texts::contains_text;
+use guppy_row_parts::contains_text;
 use workspace_record::{LineKind, LineRecord, LinkRecord};
 
 /// Which of the lines of one kind, all required or all optional.
