@@ -2,3 +2,4 @@ pub mod TernaryFacts
 pub mod StatusFacts
 pub mod LineFacts
 pub mod RequirementFacts
+pub mod EachOnce

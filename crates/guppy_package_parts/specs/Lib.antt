@@ -6,3 +6,5 @@ pub mod LineViews
 pub mod StatusViews
 pub mod RequirementViews
 pub mod Laws
+pub mod Names
+pub mod NameViews

@@ -35,3 +35,7 @@ IsLineAt links place = IsTrue (is_some (line_at links place))
 -- the lines that are named, in the order of their names
 abbrev pub lines_at : List Link → List (ℕ × ℕ) → List Line
 lines_at links places = filter_map (line_at links) places
+
+-- the lines of a kind
+abbrev pub lines_of_kind : LineKind → List Line → List Line
+lines_of_kind kind lines = filter (is_kind kind) lines

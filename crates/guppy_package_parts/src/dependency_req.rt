@@ -5,6 +5,8 @@ ghost use Rattle.list_facts.specs.Texts.{texts};
 ghost use Rattle.guppy_row_parts.specs.DependencyKinds.{line_kind_of};
 ghost use Rattle.guppy_package_parts.specs.Lines.{asks_defaults, asks_no_defaults, is_kind, lists};
 ghost use Rattle.guppy_package_parts.specs.LineViews.{is_in_part};
+ghost use Rattle.guppy_package_parts.specs.NameViews.{features_left};
+ghost use Rattle.guppy_package_parts.specs.Names.{features_of};
 ghost use Rattle.guppy_package_parts.specs.PlatformViews.{spec_view};
 ghost use Rattle.guppy_package_parts.specs.RequirementViews.{HasStatus, optional_value, requirement_lines, required_value};
 ghost use Rattle.guppy_package_parts.specs.Statuses.{is_never, kept_specs, status_of};
@@ -16,6 +18,7 @@ use crate::enabled_ternary::EnabledTernary;
 use crate::lines::{LineTest, Lines, Part};
 use crate::platform::{Platform, PlatformSpec};
 use crate::platform_status::PlatformStatus;
+use crate::requirement_features::RequirementFeatures;
 use guppy_row_parts::DependencyKind;
 use workspace_record::{LineKind, LineRecord, LinkRecord};
 
@@ -120,6 +123,14 @@ impl<'g> DependencyReq<'g> {
                 optional: PlatformStatus::Never,
             },
         }
+    }
+
+    /// The features that are asked for: the names in required lines ascending, each once, and then
+    /// those in optional lines likewise.
+    pub fn features(&self) -> RequirementFeatures<'g>
+        ensures { features_left result ≡ features_of (requirement_lines self.now) }
+    {
+        RequirementFeatures::of(self.lines, self.kind)
     }
 
     fn status_of_part(&self, part: Part<'g>) -> EnabledStatus<'g>

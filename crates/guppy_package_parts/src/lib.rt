@@ -9,11 +9,13 @@ pub mod laws;
 mod lines;
 mod platform;
 mod platform_status;
+mod requirement_features;
 
 pub use crate::dependency_req::{DependencyReq, EnabledStatus};
 pub use crate::enabled_ternary::EnabledTernary;
 pub use crate::platform::{Platform, PlatformSpec};
 pub use crate::platform_status::{PlatformEval, PlatformStatus, TargetSpecs};
+pub use crate::requirement_features::RequirementFeatures;
 pub use guppy_row_parts::{
     BuildTarget, BuildTargetId, BuildTargetKind, DependencyDirection, DependencyKind, Error,
     ExternalSource, FeatureBuildStage, FeatureGraphWarning, FeatureRow, GitReq, LineKind, LineRow,

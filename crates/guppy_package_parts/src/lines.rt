@@ -26,7 +26,7 @@ pub(crate) struct LineTest<'g> {
 }
 
 impl LineTest<'_> {
-    fn passes(&self, line: &LineRecord) -> bool
+    pub(crate) fn passes(&self, line: &LineRecord) -> bool
         ensures { result ≡ is_line_of self.now line.now }
     {
         let is_in_part = match self.part {
