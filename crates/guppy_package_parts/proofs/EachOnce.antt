@@ -1,12 +1,13 @@
 -- Names put in ascending order, each once: their first, and the part after one of them.
-use Rattle.std.proofs.Common.{◌≡◌, ℕ, ◌+◌, ◌<◌, length, get_or, take, map, String, Global, string_bytes, Bool, true, false, cond, ◌&&◌, List, [], ◌∷◌, ◌++◌, filter, Option, None, Some, refl, sym, ◌∙◌, ap, subst, Ordering, Less, Equal, Greater}
+use Rattle.std.proofs.Common.{◌≡◌, ℕ, ◌+◌, ◌<◌, length, get_or, take, map, String, Global, string_bytes, Bool, true, false, cond, ◌&&◌, List, [], ◌∷◌, ◌++◌, filter, Option, None, Some, refl, sym, ◌∙◌, ap, subst, inl, inr, ⊎_elim, ◌⊎◌, Contains, ◌↔◌, Ordering, Less, Equal, Greater}
 use Rattle.std.specs.BTreeSet.{insert_key}
 use Rattle.std.specs.List.{AllByRecursion}
 use Rattle.std.specs.List.Sorted.{IsStrictlySortedBy}
 use Rattle.std.specs.Ordering.{is_lt, match_ordering, ordering_reverse}
 use Rattle.std.proofs.lemmas.List.Kept.{IsStrictlySortedBy-filter}
-use Rattle.list_facts.specs.Ascending.{text_cmp}
-use Rattle.list_facts.proofs.Ascending.{text_exact, text_total}
+use Rattle.list_facts.specs.Ascending.{IsAscendingOf, text_cmp}
+use Rattle.list_facts.proofs.Ascending.{Contains-insert_key, Contains-insert_key_cases, text_exact, text_total}
+use Rattle.list_facts.proofs.Membership.{Contains-cons_cases, Contains-first, Contains-none, Contains-rest}
 use Rattle.std.proofs.lemmas.List.{map-append, take_more}
 use Rattle.list_facts.proofs.Lists.{filter-append, filter-filter, flat_map-append}
 use Rattle.list_facts.specs.Texts.{texts}
@@ -191,3 +192,19 @@ pub lowest_from-more_lines : (last : Option Text) (p : Line → Bool) (lines : L
 lowest_from-more_lines last p lines i line lt is =
     let parts : take (i + 1) lines ≡ take i lines ++ (line ∷ []) = take_more lines i line lt ∙ ap (λ l. take i lines ++ (l ∷ [])) (sym is) in
     sym (lowest_from-append None (filter (is_above last) (listed (filter p (take i lines)))) (filter (is_above last) (listed (filter p (line ∷ []))))) ∙ ap (lowest_from None) (sym (filter-append (is_above last) (listed (filter p (take i lines))) (listed (filter p (line ∷ []))))) ∙ ap (λ ts. lowest_from None (filter (is_above last) ts)) (sym (flat_map-append (λ l. l.features) (filter p (take i lines)) (filter p (line ∷ [])))) ∙ ap (λ ls. lowest_from None (filter (is_above last) (listed ls))) (sym (filter-append p (take i lines) (line ∷ [])) ∙ ap (filter p) (sym parts))
+
+-- what is put among others is there beside them, and nothing else
+members_put : (ks xs : List Text) (x : Text) → Contains (put_among ks xs) x ↔ (Contains xs x ⊎ Contains ks x)
+members_put ks [] x = (λ h. inr h, λ h. ⊎_elim (λ none. absurd (Contains-none x none)) (λ k. k) h)
+members_put ks (y ∷ xs) x =
+    let rest = members_put (insert_key text_cmp ks y) xs x in (
+      λ h. ⊎_elim (λ later. inl (Contains-rest y xs x later)) (λ k. ⊎_elim (λ e. inl (subst (λ z. Contains (y ∷ xs) z) e (Contains-first y xs))) (λ before. inr before) (Contains-cons_cases y ks x (Contains-insert_key_cases text_total text_exact ks y x k))) (rest.0 h),
+      λ h. rest.1 (⊎_elim (λ among. ⊎_elim (λ e. inr (Contains-insert_key text_total text_exact ks y x (subst (λ z. Contains (y ∷ ks) z) e (Contains-first y ks)))) (λ later. inl later) (Contains-cons_cases y xs x among)) (λ before. inr (Contains-insert_key text_total text_exact ks y x (Contains-rest y ks x before))) h),
+    )
+
+-- the names, each once, are their ascending list
+pub each_once_ascends : (names : List Text) → IsAscendingOf text_cmp names (each_once names)
+each_once_ascends names = record {
+  members = λ x. (λ h. ⊎_elim (λ among. among) (λ none. absurd (Contains-none x none)) ((members_put [] names x).0 h), λ h. (members_put [] names x).1 (inl h));
+  ascending = sorted-put_among [] names none_sorted;
+}

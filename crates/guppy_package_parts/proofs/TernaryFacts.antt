@@ -95,3 +95,8 @@ pub status_of-join : (xs ys : List (Text → Option Bool)) (specs : List (Option
 status_of-join xs ys [] = refl
 status_of-join xs ys (spec ∷ specs) =
     (λ i. greater (answer-join xs ys spec i) (status_of-join xs ys specs i)) ∙ greater_swap (spec_answer (AskedPlatforms xs) spec) (spec_answer (AskedPlatforms ys) spec) (status_of (AskedPlatforms xs) specs) (status_of (AskedPlatforms ys) specs)
+
+-- the step of a loop that keeps the greatest so far
+pub greatest_step : {X : Type 0} (f : X → EnabledTernary) (xs : List X) (i : ℕ) (x : X) (old answer : EnabledTernary) → i < length xs → x ≡ get_or xs i x → old ≡ greatest (map f (take i xs)) → answer ≡ f x → greater old answer ≡ greatest (map f (take (i + 1) xs))
+greatest_step f xs i x old answer lt is before e =
+    (λ j. greater (before j) ((e ∙ ap f is) j)) ∙ sym (greatest-map_more f xs i x lt)

@@ -1,6 +1,6 @@
 //! Laws that hold of every status, every question and every package id.
 
-ghost use Rattle.guppy_package_parts.specs.Laws.{AndIsMinimum, IdsAreLawful, OrIsMaximum, PlatformsJoin};
+ghost use Rattle.guppy_package_parts.specs.Laws.{AndIsMinimum, IdsAreLawful, NamesAscend, OrIsMaximum, PlatformsJoin};
 
 /// `&` on answers is the minimum of Disabled, Unknown and Enabled, in this order.
 pub fn and_is_minimum()
@@ -15,6 +15,11 @@ pub fn or_is_maximum()
 /// Two lists of platforms together have the greater of their two answers.
 pub fn platforms_join()
     ensures { PlatformsJoin }
+{}
+
+/// Names put in order, each once, are the ascending list of the same names.
+pub fn names_ascend()
+    ensures { NamesAscend }
 {}
 
 /// Equality of package ids is an equivalence, their order is total and tells just unequal ids apart,

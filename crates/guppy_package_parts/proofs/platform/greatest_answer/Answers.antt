@@ -1,10 +1,8 @@
-use Rattle.std.proofs.Common.{◌∙◌, ap, sym}
-use Rattle.guppy_package_parts.specs.Ternaries.{greater, ternary_of}
-use Rattle.guppy_package_parts.proofs.TernaryFacts.{greatest-map_more}
+use Rattle.std.proofs.Common.{◌∙◌, ap}
+use Rattle.guppy_package_parts.specs.Ternaries.{ternary_of}
+use Rattle.guppy_package_parts.proofs.TernaryFacts.{greatest_step}
 use Rattle.guppy_package_parts.proofs.platform.greatest_answer.Goals as goal
 
 pub loop-platform-preserved : goal.loop-platform-preserved
 loop-platform-preserved g c =
-    let spec = c.args.spec.now in
-    let answer = c.of.ensures ∙ ap ternary_of c.answer.ensures ∙ ap (λ p. ternary_of (g.P.Platform.answers p spec)) c.platform-item.is in
-    c.bitor-greatest.ensures ∙ (λ i. greater (c.loop-platform.invariant i) (answer i)) ∙ sym (greatest-map_more (λ p. ternary_of (g.P.Platform.answers p spec)) c.args.platforms.now c.loop-platform.platform-index _ c.loop-platform-test.true)
+    c.bitor-greatest.ensures ∙ greatest_step (λ p. ternary_of (g.P.Platform.answers p c.args.spec.now)) c.args.platforms.now c.loop-platform.platform-index c.platform-item.result _ _ c.loop-platform-test.true c.platform-item.is c.loop-platform.invariant (c.of.ensures ∙ ap ternary_of c.answer.ensures)
