@@ -1,0 +1,139 @@
+use crate::answer::Answer;
+use crate::fault::RowFault;
+use crate::row::Row;
+use serde_json::Value;
+use std::alloc::Global;
+use std::io::{self, Write};
+
+/// Runs rows of one sort.
+pub trait RowRunner {
+    /// The keys under which a row says what it is run on.
+    fn inputs(&self) -> &'static [&'static str];
+
+    /// Runs the row, and answers all that came of it.
+    fn run_row(&mut self, alloc: Global, row: Row<'_>) -> Result<Vec<Answer>, RowFault>;
+}
+
+/// Runs each row of a file of rows, and writes what differs from what is wanted: the row's name, the
+/// key, what was wanted and what came. The last line counts the rows, and those that differ.
+///
+/// Answers whether there were rows and none differs. A row differs too where it wants nothing, or has
+/// a key that is neither an input nor the key of an answer.
+pub fn run_rows<R: RowRunner, W: Write>(
+    alloc: Global,
+    file: &[u8],
+    runner: &mut R,
+    out: &mut W,
+) -> io::Result<bool> {
+    let Ok(value) = Value::from_slice(alloc, file) else {
+        writeln!(out, "the file of rows is not JSON")?;
+        return Ok(false);
+    };
+    let Some(rows) = value.as_array() else {
+        writeln!(out, "the file of rows is no list")?;
+        return Ok(false);
+    };
+    let rows = rows_of(alloc, rows.as_slice())?;
+    let mut differ = 0u64;
+    for row in &rows {
+        if !run_one(alloc, *row, runner, out)? {
+            differ = differ.saturating_add(1);
+        }
+    }
+    writeln!(out, "{} rows, {differ} differ", rows.len())?;
+    Ok(differ == 0 && !rows.is_empty())
+}
+
+/// The rows of the list, those of groups in the groups' places.
+fn rows_of<'a>(alloc: Global, values: &'a [Value]) -> io::Result<Vec<Row<'a>>> {
+    let mut rows = Vec::new(alloc);
+    for value in values {
+        match value.get("rows").and_then(Value::as_array) {
+            None => rows.push(Row::alone(value))?,
+            Some(inner) => {
+                for own in inner.as_slice() {
+                    rows.push(Row::of_group(own, value))?;
+                }
+            }
+        }
+    }
+    Ok(rows)
+}
+
+/// Runs one row, and answers whether it came as wanted.
+fn run_one<R: RowRunner, W: Write>(
+    alloc: Global,
+    row: Row<'_>,
+    runner: &mut R,
+    out: &mut W,
+) -> io::Result<bool> {
+    let name = row
+        .get("name")
+        .and_then(Value::as_str)
+        .unwrap_or("a row without a name");
+    match runner.run_row(alloc, row) {
+        Ok(answers) => told(alloc, name, row, runner.inputs(), &answers, out),
+        Err(fault) => {
+            writeln!(out, "{name}: {fault}")?;
+            Ok(false)
+        }
+    }
+}
+
+/// Writes each difference between what came and what the row wants.
+fn told<W: Write>(
+    alloc: Global,
+    name: &str,
+    row: Row<'_>,
+    inputs: &[&str],
+    answers: &[Answer],
+    out: &mut W,
+) -> io::Result<bool> {
+    let mut same = keys_are_known(name, row, inputs, answers, out)?;
+    let mut wants = false;
+    for answer in answers {
+        let Some(wanted) = row.get(answer.key) else {
+            continue;
+        };
+        wants |= !wanted.is_null();
+        if !answer.is_wanted(alloc, wanted).unwrap_or(false) {
+            same = false;
+            writeln!(out, "{name}: {}", answer.key)?;
+            writeln!(out, "  wanted {wanted}")?;
+            writeln!(out, "  came   {:?}", answer.text)?;
+        }
+    }
+    if !wants {
+        writeln!(out, "{name}: nothing is wanted")?;
+    }
+    Ok(same && wants)
+}
+
+/// Writes each key of the row and its group that nobody reads.
+fn keys_are_known<W: Write>(
+    name: &str,
+    row: Row<'_>,
+    inputs: &[&str],
+    answers: &[Answer],
+    out: &mut W,
+) -> io::Result<bool> {
+    let mut known = true;
+    for value in [Some(row.own()), row.group()].iter().flatten() {
+        let Some(members) = value.as_object() else {
+            continue;
+        };
+        for key in members.keys() {
+            if !is_known(key.as_str(), inputs, answers) {
+                known = false;
+                writeln!(out, "{name}: nobody reads `{key}`")?;
+            }
+        }
+    }
+    Ok(known)
+}
+
+fn is_known(key: &str, inputs: &[&str], answers: &[Answer]) -> bool {
+    ["name", "rows"].contains(&key)
+        || inputs.iter().any(|input| *input == key)
+        || answers.iter().any(|answer| answer.key == key)
+}

@@ -1,0 +1,45 @@
+use row_program::Row;
+use std::alloc::Global;
+use test_select::{FileFault, FileSource};
+
+/// The files of a row. At one that stands as null memory runs out.
+#[derive(Drop)]
+pub(crate) struct MemoryFiles<'a> {
+    row: Row<'a>,
+    asked: String,
+}
+
+impl<'a> MemoryFiles<'a> {
+    pub(crate) fn new(alloc: Global, row: Row<'a>) -> MemoryFiles<'a> {
+        MemoryFiles {
+            row,
+            asked: String::new(alloc),
+        }
+    }
+
+    /// The names that were asked for, in order, with a space after each.
+    pub(crate) fn into_asked(self) -> String {
+        self.asked
+    }
+
+    fn keep(&mut self, name: &str) -> Result<(), FileFault> {
+        if self.asked.push_str(name).is_err() || self.asked.push(' ').is_err() {
+            return Err(FileFault::Memory);
+        }
+        Ok(())
+    }
+}
+
+impl FileSource for MemoryFiles<'_> {
+    fn read(&mut self, alloc: Global, name: &str) -> Result<Vec<u8>, FileFault> {
+        self.keep(name)?;
+        match self.row.file_value(name) {
+            None => Err(FileFault::CannotRead),
+            Some(value) if value.is_null() => Err(FileFault::Memory),
+            Some(_) => match self.row.file(alloc, name) {
+                Ok(Some(text)) => Ok(text.into_bytes()),
+                _ => Err(FileFault::Memory),
+            },
+        }
+    }
+}
