@@ -84,7 +84,6 @@ pub greatest-append : (xs ys : List EnabledTernary) → greatest (xs ++ ys) ≡ 
 greatest-append [] ys = sym (greater-Disabled (greatest ys))
 greatest-append (x ∷ xs) ys = ap (greater x) (greatest-append xs ys) ∙ greater_assoc x (greatest xs) (greatest ys)
 
-
 answer-join : (xs ys : List (Text → Option Bool)) (spec : Option Text) → spec_answer (AskedPlatforms (xs ++ ys)) spec ≡ greater (spec_answer (AskedPlatforms xs) spec) (spec_answer (AskedPlatforms ys) spec)
 answer-join xs ys None = refl
 answer-join xs ys (Some spec) =

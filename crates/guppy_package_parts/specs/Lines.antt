@@ -1,5 +1,5 @@
 -- Lines of a manifest, told by what they say.
-use Rattle.std.specs.Prelude.{ℕ, Bool, true, not, List, length, nat_eq, filter, Option, slice_get, option_and_then, is_some, IsTrue}
+use Rattle.std.specs.Prelude.{ℕ, Bool, not, List, nat_eq, filter, Option, slice_get, option_and_then, is_some, IsTrue}
 use Rattle.std.specs.List.{list_any, filter_map}
 use Rattle.std.specs.Str.{bytes_eq}
 use Rattle.workspace_record.specs.Records.{Text, Line, Link}

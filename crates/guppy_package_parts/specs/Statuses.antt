@@ -5,7 +5,7 @@ use Rattle.std.specs.List.{list_any, filter_map}
 use Rattle.workspace_record.specs.Records.{Text, Line}
 use Rattle.guppy_package_parts.specs.Ternaries.{greatest, ternary_of}
 use Rattle.guppy_package_parts.specs.declared.enabled_ternary.EnabledTernary.{EnabledTernary}
-use Rattle.guppy_package_parts.specs.declared.enabled_ternary.EnabledTernary.TheVariants.{Disabled, Unknown, Enabled}
+use Rattle.guppy_package_parts.specs.declared.enabled_ternary.EnabledTernary.TheVariants.{Disabled, Enabled}
 
 -- of a `PlatformSpec`: no platform, any, or some, each by its answers
 pub data Asked : Type 0 where

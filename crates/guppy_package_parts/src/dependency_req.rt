@@ -13,7 +13,6 @@ ghost use Rattle.guppy_package_parts.specs.Statuses.{is_never, kept_specs, statu
 ghost use Rattle.guppy_package_parts.specs.StatusViews.{status_view};
 ghost use Rattle.guppy_package_parts.specs.Ternaries.{greater};
 
-
 use crate::enabled_ternary::EnabledTernary;
 use crate::lines::{LineTest, Lines, Part};
 use crate::platform::{Platform, PlatformSpec};

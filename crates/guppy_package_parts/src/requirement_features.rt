@@ -1,4 +1,4 @@
-ghost use Rattle.std.specs.Prelude.{◌≡◌, ◌∷◌, ◌&&◌, [], MatchOption, None, filter, option_map, string_bytes};
+ghost use Rattle.std.specs.Prelude.{◌≡◌, ◌∷◌, [], MatchOption, None, filter, option_map};
 ghost use Rattle.list_facts.specs.Texts.{texts};
 ghost use Rattle.guppy_package_parts.specs.LineViews.{is_in_half, is_line_of};
 ghost use Rattle.guppy_package_parts.specs.Lines.{lines_of_kind};
@@ -136,11 +136,7 @@ fn lowest_of<'g>(
 }
 
 // The lesser of two names, where the second is above the last one.
-fn lower_above<'g>(
-    last: Option<&'g str>,
-    least: Option<&'g str>,
-    name: &'g str,
-) -> Option<&'g str>
+fn lower_above<'g>(last: Option<&'g str>, least: Option<&'g str>, name: &'g str) -> Option<&'g str>
     ensures { option_map (λ t. t.now) result ≡ lower_above (option_map (λ t. t.now) last.entry) (option_map (λ t. t.now) least.entry) name.entry.now }
 {
     if is_above(last, name) {

@@ -84,7 +84,8 @@ fn orders_sets_of_texts(rt: HostRuntime) -> Result<(), Fail> {
     assert_eq!(rt; format!(in alloc; "{set}")?.as_str(), "a, ab, b");
     assert!(rt; set.contains(&text(alloc, "ab")?));
     assert!(rt; !set.contains(&text(alloc, "c")?));
-    assert_eq!(rt; set.len(), 3, "a set is read as a slice");
+    let names: &[String] = &set;
+    assert_eq!(rt; names.len(), 3, "a set is read as a slice");
     let none: SortedSet<String> = SortedSet::new(Vec::new(alloc));
     assert_eq!(rt; format!(in alloc; "{none}")?.as_str(), "");
     Ok(())

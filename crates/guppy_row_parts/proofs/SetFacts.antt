@@ -1,5 +1,5 @@
 -- Lists in ascending order, each element once, and what a search by halving finds in them.
-use Rattle.std.proofs.Common.{◌≡◌, ℕ, ◌+◌, ◌<◌, ◌≤◌, Bool, true, false, List, length, get_or, Result, Ok, Err, is_ok, All, Ordering, Less, Equal, Greater, refl, sym, ◌∙◌, ap, ⊎_elim, arith}
+use Rattle.std.proofs.Common.{◌≡◌, ℕ, ◌+◌, Bool, false, List, length, get_or, Result, Ok, Err, is_ok, Ordering, Less, Greater, sym, ◌∙◌, ap, ⊎_elim, arith}
 use Rattle.std.specs.Cmp.{IsTotalOrder}
 use Rattle.std.specs.Ordering.{eq_by_cmp, is_lt, is_eq, ordering_reverse}
 use Rattle.std.specs.List.{list_any}

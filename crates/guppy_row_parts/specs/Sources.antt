@@ -1,5 +1,5 @@
 -- Where packages come from, and how Cargo writes it.
-use Rattle.std.specs.Prelude.{ℕ, Bool, true, false, ◌||◌, List, [], ◌∷◌, ◌++◌, length, drop, nat_eq, codes, Option, Some, None, option_map, option_and_then, unwrap_or, if◌then◌else◌}
+use Rattle.std.specs.Prelude.{ℕ, Bool, true, false, ◌||◌, [], ◌∷◌, ◌++◌, length, drop, nat_eq, codes, Option, Some, None, option_map, option_and_then, unwrap_or, if◌then◌else◌}
 use Rattle.std.specs.List.{starts_with}
 use Rattle.std.specs.Option.{option_or}
 use Rattle.workspace_record.specs.Records.{Text}

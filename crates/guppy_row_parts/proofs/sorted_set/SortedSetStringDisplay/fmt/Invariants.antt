@@ -1,4 +1,4 @@
-use Rattle.std.proofs.Common.{◌++◌, map, take, string_bytes}
+use Rattle.std.proofs.Common.{map, take, string_bytes}
 use Rattle.std.specs.Fmt.{HasWritten, IsPlainFormatter}
 use Rattle.guppy_row_parts.specs.SortedSets.{joined_rest}
 use Rattle.guppy_row_parts.proofs.sorted_set.SortedSetStringDisplay.fmt.Given as goal
