@@ -1,6 +1,7 @@
 pub mod Equality
 pub mod Kinds
 pub mod Records
+pub mod LinesAt
 pub mod RecordEquality
 pub mod Features
 pub mod LabelView

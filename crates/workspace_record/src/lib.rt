@@ -7,6 +7,7 @@ mod feature;
 mod kinds;
 mod label;
 mod link;
+mod link_lines;
 mod package;
 mod target;
 mod texts;

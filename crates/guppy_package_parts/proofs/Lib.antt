@@ -1,0 +1,5 @@
+pub mod TernaryFacts
+pub mod StatusFacts
+pub mod LineFacts
+pub mod RequirementFacts
+pub mod EachOnce

@@ -1,0 +1,10 @@
+pub mod Ternaries
+pub mod Statuses
+pub mod PlatformViews
+pub mod Lines
+pub mod LineViews
+pub mod StatusViews
+pub mod RequirementViews
+pub mod Laws
+pub mod Names
+pub mod NameViews

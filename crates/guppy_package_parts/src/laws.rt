@@ -1,0 +1,29 @@
+//! Laws that hold of every status, every question and every package id.
+
+ghost use Rattle.guppy_package_parts.specs.Laws.{AndIsMinimum, IdsAreLawful, NamesAscend, OrIsMaximum, PlatformsJoin};
+
+/// `&` on answers is the minimum of Disabled, Unknown and Enabled, in this order.
+pub fn and_is_minimum()
+    ensures { AndIsMinimum }
+{}
+
+/// `|` on answers is their maximum.
+pub fn or_is_maximum()
+    ensures { OrIsMaximum }
+{}
+
+/// Two lists of platforms together have the greater of their two answers.
+pub fn platforms_join()
+    ensures { PlatformsJoin }
+{}
+
+/// Names put in order, each once, are the ascending list of the same names.
+pub fn names_ascend()
+    ensures { NamesAscend }
+{}
+
+/// Equality of package ids is an equivalence, their order is total and tells just unequal ids apart,
+/// and equal ids feed a hasher the same.
+pub fn ids_are_lawful()
+    ensures { IdsAreLawful }
+{}

@@ -1,0 +1,106 @@
+//! The lines that a status stands on.
+
+ghost use Rattle.std.specs.Prelude.{◌≡◌, ◌∷◌, [], MatchOption, filter, option_copied};
+ghost use Rattle.std.specs.List.{filter_map};
+ghost use Rattle.guppy_package_parts.specs.Lines.{line_at};
+ghost use Rattle.guppy_package_parts.specs.LineViews.{is_line_of, lines_of};
+
+use guppy_row_parts::contains_text;
+use workspace_record::{LineKind, LineRecord, LinkRecord};
+
+/// Which of the lines of one kind, all required or all optional.
+#[derive(Clone, Copy, Debug)]
+pub(crate) enum Part<'g> {
+    All,
+    AskingDefaults,
+    NotAskingDefaults,
+    Listing(&'g str),
+}
+
+/// A test of lines.
+#[derive(Clone, Copy, Debug)]
+pub(crate) struct LineTest<'g> {
+    pub(crate) kind: LineKind,
+    pub(crate) optional: bool,
+    pub(crate) part: Part<'g>,
+}
+
+impl LineTest<'_> {
+    pub(crate) fn passes(&self, line: &LineRecord) -> bool
+        ensures { result ≡ is_line_of self.now line.now }
+    {
+        let is_in_part = match self.part {
+            Part::All => true,
+            Part::AskingDefaults => line.default_features,
+            Part::NotAskingDefaults => !line.default_features,
+            Part::Listing(feature) => contains_text(&line.features, feature),
+        };
+        line.kind == self.kind && is_in_part && line.optional == self.optional
+    }
+}
+
+/// Lines of a record.
+#[derive(Clone, Copy, Debug)]
+pub(crate) enum Lines<'g> {
+    /// Those that pass a test.
+    Passing(&'g [LineRecord], LineTest<'g>),
+    /// Those named by the place of their link, and by their place in it.
+    Named(&'g [LinkRecord], &'g [(usize, usize)]),
+}
+
+impl<'g> Lines<'g> {
+    /// The first line and the others.
+    pub(crate) fn split_first(self) -> Option<(&'g LineRecord, Lines<'g>)>
+        ensures { MatchOption result (lines_of self.entry ≡ []) (λ p. lines_of self.entry ≡ p.0.now ∷ lines_of p.1) }
+    {
+        match self {
+            Lines::Passing(lines, test) => {
+                let (line, others) = first_passing(lines, test)?;
+                Some((line, Lines::Passing(others, test)))
+            }
+            Lines::Named(links, places) => {
+                let (line, others) = first_named(links, places)?;
+                Some((line, Lines::Named(links, others)))
+            }
+        }
+    }
+}
+
+fn first_passing<'g>(
+    lines: &'g [LineRecord],
+    test: LineTest<'g>,
+) -> Option<(&'g LineRecord, &'g [LineRecord])>
+    ensures { MatchOption result (filter (is_line_of test.entry) lines.entry.now ≡ []) (λ p. filter (is_line_of test.entry) lines.entry.now ≡ p.0.now ∷ filter (is_line_of test.entry) p.1.now) }
+{
+    let mut left = lines;
+    while let Some((line, others)) = left.split_first() {
+        if test.passes(line) {
+            return Some((line, others));
+        }
+        left = others;
+    }
+    None
+}
+
+fn first_named<'g>(
+    links: &'g [LinkRecord],
+    places: &'g [(usize, usize)],
+) -> Option<(&'g LineRecord, &'g [(usize, usize)])>
+    ensures { MatchOption result (filter_map (line_at links.entry.now) places.entry.now ≡ []) (λ p. filter_map (line_at links.entry.now) places.entry.now ≡ p.0.now ∷ filter_map (line_at links.entry.now) p.1.now) }
+{
+    let mut left = places;
+    while let Some((place, others)) = left.split_first() {
+        if let Some(line) = line_at(links, *place) {
+            return Some((line, others));
+        }
+        left = others;
+    }
+    None
+}
+
+fn line_at<'g>(links: &'g [LinkRecord], place: (usize, usize)) -> Option<&'g LineRecord>
+    ensures { option_copied result ≡ line_at links.entry.now place }
+{
+    let link = links.get(place.0)?;
+    link.lines.get(place.1)
+}

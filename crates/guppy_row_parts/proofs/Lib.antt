@@ -1,0 +1,3 @@
+pub mod SetFacts
+pub mod TextParts
+pub mod RequestFacts
