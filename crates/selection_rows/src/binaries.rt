@@ -25,10 +25,11 @@ fn lines_of(alloc: Global, all: &[TestBinary<'_>]) -> Result<String, AllocError>
 }
 
 fn push_line(lines: &mut String, binary: &TestBinary<'_>) -> Result<(), AllocError> {
+    let (row, target) = (binary.row, binary.target);
     lines.push_str(binary.id.as_str())?;
-    push_part(lines, binary.row.name.as_str())?;
-    push_part(lines, binary.row.version.as_str())?;
-    push_part(lines, binary.target.name.as_str())?;
+    push_part(lines, row.name.as_str())?;
+    push_part(lines, row.version.as_str())?;
+    push_part(lines, target.name.as_str())?;
     lines.push('\n')
 }
 
