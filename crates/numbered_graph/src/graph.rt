@@ -1,6 +1,6 @@
 //! Graphs over numbered nodes, with the links of each node at hand by both ends.
 
-ghost use Rattle.std.specs.Prelude.{◌≡◌, ℕ, ◌<◌, suc, length, slice_index, IfOk};
+ghost use Rattle.std.specs.Prelude.{◌≡◌, ℕ, ◌<◌, suc, length, slice_index, IfOk, IfSome, IfNone};
 ghost use Rattle.numbered_graph.specs.Links.{AreWithin, near_at, far_at};
 ghost use Rattle.numbered_graph.specs.Chains.{IsNextLink};
 
@@ -90,6 +90,34 @@ impl Graph {
         match direction {
             Direction::Forward => Vec::from_slice(alloc, &self.leaving.first),
             Direction::Reverse => Vec::from_slice(alloc, &self.entering.first),
+        }
+    }
+
+    /// The first link that is followed from the node.
+    pub fn first_link(&self, direction: Direction, node: usize) -> Option<usize>
+        requires { node < self.now.nodes }
+        ensures some { IfSome result (λ j. (j < length self.now.links) × IsNextLink direction self.now.links node 0 j) }
+        ensures none { IfNone result (IsNextLink direction self.now.links node 0 (length self.now.links)) }
+    {
+        let number = self.first_of(direction, node);
+        if number < self.links.len() {
+            Some(number)
+        } else {
+            None
+        }
+    }
+
+    /// The next link that is followed from the same node.
+    pub fn next_link(&self, direction: Direction, number: usize) -> Option<usize>
+        requires { number < length self.now.links }
+        ensures some { IfSome result (λ j. (j < length self.now.links) × IsNextLink direction self.now.links (near_at direction self.now.links number) (suc number) j) }
+        ensures none { IfNone result (IsNextLink direction self.now.links (near_at direction self.now.links number) (suc number) (length self.now.links)) }
+    {
+        let next = self.next_of(direction, number);
+        if next < self.links.len() {
+            Some(next)
+        } else {
+            None
         }
     }
 
