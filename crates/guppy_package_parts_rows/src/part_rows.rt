@@ -1,8 +1,8 @@
 use crate::platforms::platforms_of;
 use crate::printing::{enabled_text, publish_text, source_text, target_text};
 use guppy_package_parts::{
-    BuildTarget, DependencyKind, DependencyReq, ExternalSource, LinkRow, PackagePublish, PackageRow,
-    PackageSource,
+    BuildTarget, DependencyKind, DependencyReq, ExternalSource, LinkRow, PackagePublish,
+    PackageRow, PackageSource,
 };
 use record_files::read_record;
 use row_program::{Answer, Row, RowFault, RowRunner};
@@ -105,7 +105,10 @@ fn push_link(
     answers.push(Answer::new("present", format!(in alloc; "{is_present}")?))?;
     push_statuses(alloc, req, row, answers)?;
     let platforms = platforms_of(alloc, row)?;
-    let (required, enabled) = (req.status().required_on(&platforms), req.status().enabled_on(&platforms));
+    let (required, enabled) = (
+        req.status().required_on(&platforms),
+        req.status().enabled_on(&platforms),
+    );
     answers.push(Answer::new("required", format!(in alloc; "{required:?}")?))?;
     answers.push(Answer::new("enabled", format!(in alloc; "{enabled:?}")?))?;
     Ok(())
