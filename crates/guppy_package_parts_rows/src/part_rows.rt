@@ -1,8 +1,8 @@
 use crate::platforms::platforms_of;
 use crate::printing::{enabled_text, publish_text, source_text, target_text};
 use guppy_package_parts::{
-    BuildTarget, DependencyKind, DependencyReq, ExternalSource, LinkRow, PackagePublish, PackageRow,
-    PackageSource,
+    BuildTarget, DependencyKind, DependencyReq, ExternalSource, LinkRow, PackagePublish,
+    PackageRow, PackageSource,
 };
 use record_files::read_record;
 use row_program::{Answers, Row, RowFault, RowRunner};
@@ -108,7 +108,10 @@ fn push_link(
     answers.push("present", format!(in alloc; "{is_present}")?)?;
     push_statuses(alloc, req, row, answers)?;
     let platforms = platforms_of(alloc, row)?;
-    let (required, enabled) = (req.status().required_on(&platforms), req.status().enabled_on(&platforms));
+    let (required, enabled) = (
+        req.status().required_on(&platforms),
+        req.status().enabled_on(&platforms),
+    );
     answers.push("required", format!(in alloc; "{required:?}")?)?;
     answers.push("enabled", format!(in alloc; "{enabled:?}")?)?;
     Ok(())

@@ -15,11 +15,13 @@ pub(crate) fn source_text(
         None => String::from_str(alloc, "none"),
         Some(ExternalSource::Registry(registry)) => format!(in alloc; "registry {registry}"),
         Some(ExternalSource::Sparse(registry)) => format!(in alloc; "sparse {registry}"),
-        Some(ExternalSource::Git {
-            repository,
-            req,
-            resolved,
-        }) => {
+        Some(
+            ExternalSource::Git {
+                repository,
+                req,
+                resolved,
+            },
+        ) => {
             let request = request_text(alloc, req)?;
             format!(in alloc; "git {repository}, {request}, at {resolved}")
         }
@@ -43,7 +45,9 @@ pub(crate) fn publish_text(
     let never = publish.is_never();
     let crates_io = publish.can_publish_to_crates_io();
     let other = publish.can_publish_to("other");
-    format!(in alloc; "unrestricted {unrestricted}, never {never}, crates-io {crates_io}, other {other}")
+    format!(in alloc;
+        "unrestricted {unrestricted}, never {never}, crates-io {crates_io}, other {other}"
+    )
 }
 
 pub(crate) fn target_text(alloc: Global, target: BuildTarget<'_>) -> Result<String, RowFault> {
@@ -72,10 +76,7 @@ pub(crate) fn target_text(alloc: Global, target: BuildTarget<'_>) -> Result<Stri
 }
 
 /// Both halves of a status.
-pub(crate) fn enabled_text(
-    alloc: Global,
-    status: EnabledStatus<'_>,
-) -> Result<String, AllocError> {
+pub(crate) fn enabled_text(alloc: Global, status: EnabledStatus<'_>) -> Result<String, AllocError> {
     let required = status_text(alloc, status.required_status())?;
     let optional = status_text(alloc, status.optional_status())?;
     format!(in alloc; "{required}; {optional}")
