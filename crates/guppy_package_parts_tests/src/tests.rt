@@ -1,8 +1,9 @@
 ghost use Rattle.std.specs.Prelude.{◌↔◌, ◌<◌, All, IsTrue};
 
 use guppy_package_parts::{
-    DependencyDirection, DependencyKind, EnabledTernary, FeatureBuildStage, FeatureGraphWarning,
-    LineKind, LineRow, LinkRow, PackageId, Platform, PlatformSpec, PlatformStatus, SortedSet,
+    DependencyDirection, DependencyKind, EnabledTernary, Error, FeatureBuildStage,
+    FeatureGraphWarning, LineKind, LineRow, LinkRow, PackageId, Platform, PlatformSpec,
+    PlatformStatus, SortedSet,
 };
 use std::alloc::{AllocError, Global};
 use std::test::Fail;
@@ -142,5 +143,30 @@ fn names_kinds_and_directions(rt: HostRuntime) -> Result<(), Fail> {
     assert!(rt; EnabledTernary::Unknown & EnabledTernary::Enabled == EnabledTernary::Unknown);
     assert!(rt; EnabledTernary::Unknown | EnabledTernary::Enabled == EnabledTernary::Enabled);
     assert!(rt; !EnabledTernary::Unknown.is_known());
+    Ok(())
+}
+
+const ERRORS: [(Error, &str); 7] = [
+    (Error::UnknownPackageId, "unknown package ID"),
+    (Error::UnknownFeatureId, "unknown feature ID"),
+    (Error::UnknownWorkspacePath, "unknown workspace path"),
+    (Error::UnknownWorkspaceName, "unknown workspace name"),
+    (
+        Error::PackageGraphInternalError,
+        "internal error in a package graph",
+    ),
+    (
+        Error::FeatureGraphInternalError,
+        "internal error in a feature graph",
+    ),
+    (Error::Memory, "out of memory"),
+];
+
+#[test]
+fn prints_errors(rt: HostRuntime) -> Result<(), Fail> {
+    for (error, want) in ERRORS {
+        let text = format!(in rt.alloc(); "{error}")?;
+        assert_eq!(rt; text.as_str(), want);
+    }
     Ok(())
 }
