@@ -35,7 +35,7 @@ pub fn component_ranks(
     passes: &[bool],
 ) -> Result<Vec<usize>, AllocError>
     requires { length passes.now ≡ length graph.now.links }
-    ensures { IfOk result (λ r. AreRanks graph.now.links (has passes.now) graph.now.nodes r.items) }
+    ensures ranks { IfOk result (λ r. AreRanks graph.now.links (has passes.now) graph.now.nodes r.items) }
 {
     let nodes = graph.node_count();
     let mut search = Search {

@@ -19,7 +19,7 @@ pub fn cycles(
     graph: &Graph,
     direction: Direction,
 ) -> Result<Vec<Vec<usize>>, AllocError>
-    ensures { IfOk result (λ cs. AreCycles direction graph.now.links (map (λ c. c.items) cs.items)) }
+    ensures cycles { IfOk result (λ cs. AreCycles direction graph.now.links (map (λ c. c.items) cs.items)) }
 {
     let all = flags_of(alloc, true, graph.links().len())?;
     let ranks = component_ranks(alloc, graph, &all)?;

@@ -33,7 +33,7 @@ impl Graph {
     /// Takes time in proportion to nodes and links. `are_within` tests what is asked of the links.
     pub fn new(alloc: Global, nodes: usize, links: Vec<Link>) -> Result<Graph, AllocError>
         requires { AreWithin nodes links.items }
-        ensures { IfOk result (λ g. g ≡ record { nodes = nodes; links = links.items }) }
+        ensures made { IfOk result (λ g. g ≡ record { nodes = nodes; links = links.items }) }
     {
         let leaving = chains_of(alloc, nodes, &links, Direction::Forward)?;
         let entering = chains_of(alloc, nodes, &links, Direction::Reverse)?;
@@ -47,7 +47,7 @@ impl Graph {
 
     /// How many nodes there are.
     pub fn node_count(&self) -> usize
-        ensures { result ≡ self.now.nodes }
+        ensures count { result ≡ self.now.nodes }
     {
         self.nodes
     }

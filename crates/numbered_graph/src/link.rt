@@ -17,7 +17,7 @@ pub struct Link {
 impl Link {
     /// The end from which the link is followed in a direction.
     pub fn near(self, direction: Direction) -> usize
-        ensures { result ≡ near_of direction self }
+        ensures value { result ≡ near_of direction self }
     {
         match direction {
             Direction::Forward => self.from,
@@ -27,7 +27,7 @@ impl Link {
 
     /// The end to which the link is followed in a direction.
     pub fn far(self, direction: Direction) -> usize
-        ensures { result ≡ far_of direction self }
+        ensures value { result ≡ far_of direction self }
     {
         match direction {
             Direction::Forward => self.to,
@@ -38,7 +38,7 @@ impl Link {
 
 /// Whether both ends of each link are among so many nodes: what `Graph::new` asks for.
 pub fn are_within(nodes: usize, links: &[Link]) -> bool
-    ensures { IsTrue result ↔ AreWithin nodes links.now }
+    ensures answer { IsTrue result ↔ AreWithin nodes links.now }
 {
     links
         .iter()
@@ -47,7 +47,7 @@ pub fn are_within(nodes: usize, links: &[Link]) -> bool
 
 /// Whether each number is that of one of so many nodes: what a walk asks of its starts.
 pub fn are_below(nodes: usize, numbers: &[usize]) -> bool
-    ensures { IsTrue result ↔ All (λ v. v < nodes) numbers.now }
+    ensures answer { IsTrue result ↔ All (λ v. v < nodes) numbers.now }
 {
     numbers.iter().all(|number| *number < nodes)
 }

@@ -25,7 +25,7 @@ pub struct Place {
 /// links, up to one sort of the nodes.
 pub fn listing(alloc: Global, graph: &Graph, firm: &[bool]) -> Result<Vec<usize>, AllocError>
     requires { length firm.now ≡ length graph.now.links }
-    ensures { IfOk result (λ xs. IsListing graph.now.links (has firm.now) (λ v. nat_lt v graph.now.nodes) xs.items) }
+    ensures listing { IfOk result (λ xs. IsListing graph.now.links (has firm.now) (λ v. nat_lt v graph.now.nodes) xs.items) }
 {
     let all = flags_of(alloc, true, graph.links().len())?;
     let ranks = component_ranks(alloc, graph, &all)?;
@@ -42,7 +42,8 @@ pub fn listed_members(
 ) -> Result<Vec<usize>, AllocError>
     ensures value { IfOk result (λ xs. xs.items ≡ filter (has set.now) listing.now) }
     ensures listing { IfOk result (λ xs. (links : List Link) (firm members : ℕ → Bool) →
-        IsListing links firm members listing.now → IsListing links firm (λ v. members v && has set.now v) xs.items) }
+        IsListing links firm members listing.now
+        → IsListing links firm (λ v. members v && has set.now v) xs.items) }
 {
     let mut members = Vec::new(alloc);
     for node in listing {

@@ -27,7 +27,7 @@ impl<L: Ledger> Looks<L> {
         requires name { blank.name ≡ L.name }
         requires parts { blank.parts ≡ L.parts }
         requires some { 0 < blank.parts }
-        ensures { result ≡ 0 }
+        ensures none { result ≡ 0 }
     {
         let (book, share) = blank.open::<L>();
         Looks { book, share }

@@ -33,7 +33,7 @@ enum Operation {
 impl NodeSet {
     /// None of so many nodes.
     pub fn none(alloc: Global, nodes: usize) -> Result<NodeSet, AllocError>
-        ensures { IfOk result (λ s. s ≡ replicate nodes false) }
+        ensures members { IfOk result (λ s. s ≡ replicate nodes false) }
     {
         let flags = flags_of(alloc, false, nodes)?;
         Ok(NodeSet { flags })
@@ -41,7 +41,7 @@ impl NodeSet {
 
     /// All of so many nodes.
     pub fn all(alloc: Global, nodes: usize) -> Result<NodeSet, AllocError>
-        ensures { IfOk result (λ s. s ≡ replicate nodes true) }
+        ensures members { IfOk result (λ s. s ≡ replicate nodes true) }
     {
         let flags = flags_of(alloc, true, nodes)?;
         Ok(NodeSet { flags })
@@ -68,28 +68,28 @@ impl NodeSet {
 
     /// Whether the node is in the set. A number past the last node is in no set.
     pub fn contains(&self, node: usize) -> bool
-        ensures { result ≡ has self.now node }
+        ensures member { result ≡ has self.now node }
     {
         node < self.flags.len() && self.flags[node]
     }
 
     /// The number of nodes that could be in the set.
     pub fn node_count(&self) -> usize
-        ensures { result ≡ length self.now }
+        ensures count { result ≡ length self.now }
     {
         self.flags.len()
     }
 
     /// How many nodes are in the set.
     pub fn len(&self) -> usize
-        ensures { result ≡ count_by (λ b. b) self.now }
+        ensures count { result ≡ count_by (λ b. b) self.now }
     {
         self.flags.iter().filter(|b| **b).count()
     }
 
     /// The nodes in the set, ascending.
     pub fn members(&self, alloc: Global) -> Result<Vec<usize>, AllocError>
-        ensures { IfOk result (λ v. v.items ≡ filter (has self.now) (numbers_below (length self.now))) }
+        ensures members { IfOk result (λ v. v.items ≡ filter (has self.now) (numbers_below (length self.now))) }
     {
         set_nodes(alloc, &self.flags)
     }

@@ -16,7 +16,7 @@ use std::alloc::{AllocError, Global};
 
 /// The numbers of the links whose ends are both in the set, ascending.
 pub fn links_inside(alloc: Global, graph: &Graph, set: &NodeSet) -> Result<Vec<usize>, AllocError>
-    ensures { IfOk result (λ js. js.items ≡ filter (is_inside graph.now.links set.now) (numbers_below (length graph.now.links))) }
+    ensures inside { IfOk result (λ js. js.items ≡ filter (is_inside graph.now.links set.now) (numbers_below (length graph.now.links))) }
 {
     let mut inside = Vec::new(alloc);
     for number in 0..graph.links().len() {

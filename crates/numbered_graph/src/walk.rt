@@ -76,7 +76,7 @@ impl<'g> Walk<'g> {
         direction: Direction,
     ) -> Result<Walk<'g>, AllocError>
         requires { All (λ v. v < graph.now.nodes) starts.now }
-        ensures { IfOk result (λ w. w ≡ record { graph = graph.now; direction = direction; starts = starts.now; shown = []; waiting = None; looked = 0 }) }
+        ensures started { IfOk result (λ w. w ≡ record { graph = graph.now; direction = direction; starts = starts.now; shown = []; waiting = None; looked = 0 }) }
     {
         let nodes = graph.node_count();
         let mut reached = vec![in alloc; false; nodes]?;
@@ -126,7 +126,7 @@ impl<'g> Walk<'g> {
     /// Whether the link that was taken is accepted.
     pub fn answer(&mut self, number: usize, accepted: bool)
         requires { self.old.waiting ≡ Some number }
-        ensures { self.new ≡ record self.old { waiting = None; shown = self.old.shown ++ (number, accepted) ∷ [] } }
+        ensures answered { self.new ≡ record self.old { waiting = None; shown = self.old.shown ++ (number, accepted) ∷ [] } }
     {
         let far = self.graph.far(self.direction, number);
         push_within(&mut self.shown, (number, accepted));

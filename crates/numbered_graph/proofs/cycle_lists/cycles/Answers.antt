@@ -48,7 +48,7 @@ returns c =
     let levels = c.in_ok-levels.levels.items in
     let lists = map (λ (v : Vec ℕ Global). v.items) c.in_ok-cycles.cycles.items in
     let flags : c.deref.result.now ≡ replicate (length links) true = c.deref.ensures.value ∙ c.in_ok-all.ensures ∙ ap (λ ls. replicate (length ls) true) c.links.ensures.value in
-    let all = AreRanks-by_all links (has (replicate (length links) true)) nodes ranks (Reaches-by_all links) (subst (λ passes. AreRanks links (has passes) nodes ranks) flags c.in_ok-ranks.ensures) in
+    let all = AreRanks-by_all links (has (replicate (length links) true)) nodes ranks (Reaches-by_all links) (subst (λ passes. AreRanks links (has passes) nodes ranks) flags c.in_ok-ranks.ensures.ranks) in
     let top = c.in_ok-keys.ensures.0 in
     let most = subst (All (λ r. r ≤ top)) c.deref-2.ensures.value c.in_ok-keys.ensures.1 in
     let made = c.in_ok-keys.ensures.2 ∙ ap (map (key_of c.args.direction top)) c.deref-2.ensures.value in
@@ -57,4 +57,4 @@ returns c =
     let are_levels = subst (λ ks. AreLevels links ks (length links) levels) c.deref-5.ensures.value c.in_ok-levels.ensures.levels in
     let whole = c.in_ok-cycles.ensures.whole ∙ c.deref-9.ensures.value ∙ c.in_ok-members.ensures ∙ ap (filter (λ v. has c.deref-8.result.now (get_or c.deref-7.result.now v 0))) c.deref-6.ensures.value ∙ ap (λ fs. filter (λ v. has fs (get_or c.deref-7.result.now v 0)) order) c.deref-8.ensures.value ∙ ap (λ ks. filter (λ v. has levels (get_or ks v 0)) order) c.deref-7.ensures.value in
     let runs = subst (λ ks. AreRuns ks lists) c.deref-10.ensures.value c.in_ok-cycles.ensures.runs in
-    AreCycles-from_runs c.args.direction c.links.ensures.within all most made perm are_levels whole runs
+    record { cycles = AreCycles-from_runs c.args.direction c.links.ensures.within all most made perm are_levels whole runs }

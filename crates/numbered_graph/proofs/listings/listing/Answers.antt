@@ -12,10 +12,10 @@ returns c =
     let links = c.args.graph.now.links in
     let nodes = c.args.graph.now.nodes in
     let flags : c.deref.result.now ≡ replicate (length links) true = c.deref.ensures.value ∙ c.in_ok-all.ensures ∙ ap (λ ls. replicate (length ls) true) c.links.ensures.value in
-    let by_flags = subst (λ passes. AreRanks links (has passes) nodes c.in_ok-ranks.ranks.items) flags c.in_ok-ranks.ensures in
+    let by_flags = subst (λ passes. AreRanks links (has passes) nodes c.in_ok-ranks.ranks.items) flags c.in_ok-ranks.ensures.ranks in
     let all = AreRanks-by_all links (has (replicate (length links) true)) nodes c.in_ok-ranks.ranks.items (Reaches-by_all links) by_flags in
     let ranks = c.deref-2.ensures.value in
     let firm_ranks = c.deref-3.ensures.value in
     let perm = subst (λ n. IsPermutation (numbers_below n) c.in_ok-order.order.items) (ap length ranks ∙ all.sized) c.in_ok-order.ensures.each in
     let order = subst (λ rs. IsInOrder rs c.in_ok-firm_ranks.firm_ranks.items c.in_ok-order.order.items) ranks (subst (λ fs. IsInOrder c.deref-2.result.now fs c.in_ok-order.order.items) firm_ranks c.in_ok-order.ensures.order) in
-    IsListing-from_ranks all c.in_ok-firm_ranks.ensures perm order
+    record { listing = IsListing-from_ranks all c.in_ok-firm_ranks.ensures.ranks perm order }

@@ -11,7 +11,7 @@ pub loop-number-preserved : goal.loop-number-preserved
 loop-number-preserved g c =
     let before = c.loop-number.invariant in
     let flag = has c.args.passes.now c.in-Some.number in
-    let after = c.answer.ensures ∙ ap (λ (w : WalkValue). record w { waiting = None; shown = w.shown ++ (c.in-Some.number, flag) ∷ [] }) c.in-Some.ensures.kept in
+    let after = c.answer.ensures.answered ∙ ap (λ (w : WalkValue). record w { waiting = None; shown = w.shown ++ (c.in-Some.number, flag) ∷ [] }) c.in-Some.ensures.kept in
     let graph = ap (λ (w : WalkValue). w.graph) after ∙ before.graph in
     let looked = ap (λ (w : WalkValue). w.looked) after in
     record {

@@ -22,7 +22,7 @@ returns-clause-each c =
     let ranks = c.in_ok-ranks.ranks.items in
     let entered = c.in_ok-entered.entered.items in
     let flags : c.deref.result.now ≡ replicate (length links) true = c.deref.ensures.value ∙ c.in_ok-all.ensures ∙ ap (λ ls. replicate (length ls) true) c.links.ensures.value in
-    let all = AreRanks-by_all links (has (replicate (length links) true)) nodes ranks (Reaches-by_all links) (subst (λ passes. AreRanks links (has passes) nodes ranks) flags c.in_ok-ranks.ensures) in
+    let all = AreRanks-by_all links (has (replicate (length links) true)) nodes ranks (Reaches-by_all links) (subst (λ passes. AreRanks links (has passes) nodes ranks) flags c.in_ok-ranks.ensures.ranks) in
     let enters = subst (λ rs. AreEntered c.args.direction links rs set (length links) entered) c.deref-2.ensures.value c.in_ok-entered.ensures.entered in
     let kept = c.in_ok-roots.ensures ∙ ap (λ rs. filter (λ u. has set u && not (has c.deref-4.result.now (get_or rs u 0))) (numbers_below (length rs))) c.deref-3.ensures.value ∙ ap (λ es. filter (λ u. has set u && not (has es (get_or ranks u 0))) (numbers_below (length ranks))) c.deref-4.ensures.value ∙ ap (λ n. filter (λ u. has set u && not (has entered (get_or ranks u 0))) (numbers_below n)) all.sized in
     λ v. subst (λ xs. Contains xs v ↔ ((has set v ≡ true) × IsRoot c.args.direction links set v)) (sym kept) (roots_iff c.links.ensures.within all c.requires enters v)
