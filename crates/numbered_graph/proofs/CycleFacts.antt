@@ -35,6 +35,10 @@ begins_within : (nodes : ℕ) (links : List Link) → AreWithin nodes links → 
 begins_within nodes links within v [] w h lt = subst (λ u. u < nodes) (sym h) lt
 begins_within nodes links within v (j ∷ js) w h lt = subst (λ u. u < nodes) h.2 (within j (record { from = 0; to = 0 }) h.0).0
 
+-- a node on a cycle is one of the graph's
+pub on_cycle_within : (nodes : ℕ) (links : List Link) → AreWithin nodes links → (v : ℕ) → IsOnCycle links v → v < nodes
+on_cycle_within nodes links within v h = begins_within nodes links within v h.there.path (link_at links h.link).from h.there.leads (within h.link (record { from = 0; to = 0 }) h.within).0
+
 module _ (d : Direction) {nodes top : ℕ} {links : List Link} {ranks keys : List ℕ} (within : AreWithin nodes links) (all : AreRanks links any_link nodes ranks) (most : All (λ r. r ≤ top) ranks) (made : keys ≡ map (key_of d top) ranks) where
   in_ranks : (v : ℕ) → v < nodes → v < length ranks
   in_ranks v lt = subst (λ n. v < n) (sym all.sized) lt

@@ -1,5 +1,6 @@
 pub mod PathFacts
 pub mod SetFacts
+pub mod MemberFacts
 pub mod WalkFacts
 pub mod WalkingFacts
 pub mod ListParts

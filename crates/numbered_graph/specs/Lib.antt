@@ -11,3 +11,4 @@ pub mod Listings
 pub mod Places
 pub mod Roots
 pub mod Cycles
+pub mod ListedViews

@@ -1,6 +1,6 @@
 //! Cycles of a graph, in the order of its components.
 
-ghost use Rattle.std.specs.Prelude.{◌≡◌, ℕ, ◌<◌, ◌≤◌, length, map, filter, slice_index, All, AllPairs, IfOk};
+ghost use Rattle.std.specs.Prelude.{◌≡◌, ℕ, ◌<◌, ◌≤◌, length, map, filter, slice_index, All, AllPairs, Contains, IfOk};
 ghost use Rattle.std.specs.List.{flat_map};
 ghost use Rattle.numbered_graph.specs.Cycles.{AreCycles, AreLevels, AreRuns, IsRun, key_of};
 ghost use Rattle.numbered_graph.specs.Sets.{has};
@@ -20,6 +20,7 @@ pub fn cycles(
     direction: Direction,
 ) -> Result<Vec<Vec<usize>>, AllocError>
     ensures cycles { IfOk result (λ cs. AreCycles direction graph.now.links (map (λ c. c.items) cs.items)) }
+    ensures within { IfOk result (λ cs. (v : ℕ) → Contains (flat_map (λ c. c) (map (λ c. c.items) cs.items)) v → v < graph.now.nodes) }
 {
     let all = flags_of(alloc, true, graph.links().len())?;
     let ranks = component_ranks(alloc, graph, &all)?;

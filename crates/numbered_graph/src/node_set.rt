@@ -1,6 +1,6 @@
 //! Sets of numbered nodes.
 
-ghost use Rattle.std.specs.Prelude.{◌≡◌, ℕ, ◌<◌, ◌&&◌, ◌||◌, not, true, false, ◌↔◌, length, filter, replicate, All, Contains, IsTrue, IfOk, count_by};
+ghost use Rattle.std.specs.Prelude.{◌≡◌, ◌⊎◌, ℕ, ◌<◌, ◌&&◌, ◌||◌, not, true, false, ◌↔◌, length, filter, replicate, All, AllPairs, Contains, IsTrue, IfOk, count_by};
 ghost use Rattle.numbered_graph.specs.Listings.{numbers_below};
 ghost use Rattle.numbered_graph.specs.Sets.{has, differs, joined};
 
@@ -60,6 +60,15 @@ impl NodeSet {
         Ok(NodeSet { flags })
     }
 
+    /// Puts a node in, which wants no memory.
+    pub fn insert(&mut self, node: usize)
+        requires { node < length self.old }
+        ensures sized { length self.new ≡ length self.old }
+        ensures members { (v : ℕ) → IsTrue (has self.new v) ↔ (IsTrue (has self.old v) ⊎ (v ≡ node)) }
+    {
+        self.flags[node] = true;
+    }
+
     pub(crate) fn from_flags(flags: Vec<bool>) -> NodeSet
         ensures { result ≡ flags.items }
     {
@@ -90,6 +99,9 @@ impl NodeSet {
     /// The nodes in the set, ascending.
     pub fn members(&self, alloc: Global) -> Result<Vec<usize>, AllocError>
         ensures members { IfOk result (λ v. v.items ≡ filter (has self.now) (numbers_below (length self.now))) }
+        ensures ascending { IfOk result (λ v. AllPairs (λ x y. x < y) v.items) }
+        ensures each { IfOk result (λ v. (x : ℕ) → Contains v.items x ↔ IsTrue (has self.now x)) }
+        ensures within { IfOk result (λ v. All (λ x. x < length self.now) v.items) }
     {
         set_nodes(alloc, &self.flags)
     }
@@ -145,7 +157,10 @@ impl NodeSet {
 }
 
 fn set_nodes(alloc: Global, flags: &[bool]) -> Result<Vec<usize>, AllocError>
-    ensures { IfOk result (λ v. v.items ≡ filter (has flags.now) (numbers_below (length flags.now))) }
+    ensures members { IfOk result (λ v. v.items ≡ filter (has flags.now) (numbers_below (length flags.now))) }
+    ensures ascending { IfOk result (λ v. AllPairs (λ x y. x < y) v.items) }
+    ensures each { IfOk result (λ v. (x : ℕ) → Contains v.items x ↔ IsTrue (has flags.now x)) }
+    ensures within { IfOk result (λ v. All (λ x. x < length flags.now) v.items) }
 {
     let mut nodes = Vec::new(alloc);
     for node in 0..flags.len() {

@@ -30,6 +30,24 @@ pub fn reach(
     Ok(reached)
 }
 
+/// The same, with a count of the looks that it takes.
+pub fn reach_counted<L: Ledger>(
+    alloc: Global,
+    graph: &Graph,
+    starts: &[usize],
+    direction: Direction,
+    looks: &mut Looks<L>,
+) -> Result<NodeSet, AllocError>
+    requires { All (λ v. v < graph.now.nodes) starts.now }
+    ensures sized { IfOk result (λ r. length r ≡ graph.now.nodes) }
+    ensures reached { IfOk result (λ r. (v : ℕ) → IsTrue (has r v) ↔ IsReached direction graph.now.links any_link starts.now v) }
+    ensures looks { looks.new ≤ looks.old + (graph.now.nodes + length graph.now.links) }
+{
+    let passes = flags_of(alloc, true, graph.links().len())?;
+    let reached = reach_over_counted(alloc, graph, starts, direction, &passes, looks)?;
+    Ok(reached)
+}
+
 /// The same over the links whose flag is set.
 pub fn reach_over(
     alloc: Global,

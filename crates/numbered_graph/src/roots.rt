@@ -17,6 +17,7 @@ use std::alloc::{AllocError, Global};
 /// The numbers of the links whose ends are both in the set, ascending.
 pub fn links_inside(alloc: Global, graph: &Graph, set: &NodeSet) -> Result<Vec<usize>, AllocError>
     ensures inside { IfOk result (λ js. js.items ≡ filter (is_inside graph.now.links set.now) (numbers_below (length graph.now.links))) }
+    ensures within { IfOk result (λ js. All (λ j. j < length graph.now.links) js.items) }
 {
     let mut inside = Vec::new(alloc);
     for number in 0..graph.links().len() {
@@ -44,6 +45,7 @@ pub fn root_nodes(
     requires { length set.now ≡ graph.now.nodes }
     ensures ascending { IfOk result (λ xs. AllPairs (λ x y. x < y) xs.items) }
     ensures each { IfOk result (λ xs. (v : ℕ) → Contains xs.items v ↔ (IsTrue (has set.now v) × IsRoot direction graph.now.links set.now v)) }
+    ensures within { IfOk result (λ xs. All (λ v. v < graph.now.nodes) xs.items) }
 {
     let all = flags_of(alloc, true, graph.links().len())?;
     let ranks = component_ranks(alloc, graph, &all)?;

@@ -10,7 +10,7 @@ use Rattle.numbered_graph.proofs.Kept.{AllPairs-filter}
 use Rattle.numbered_graph.proofs.Numbers.{numbers-small}
 use Rattle.numbered_graph.proofs.PathFacts.{Reaches-by_all}
 use Rattle.numbered_graph.proofs.RankFacts.{AreRanks-by_all}
-use Rattle.numbered_graph.proofs.CycleFacts.{AreCycles-from_runs}
+use Rattle.numbered_graph.proofs.CycleFacts.{AreCycles-from_runs, on_cycle_within}
 use Rattle.numbered_graph.proofs.cycle_lists.cycles.Goals as goal
 
 pub on_levels-requires-clause-order : goal.on_levels-requires-clause-order
@@ -57,4 +57,5 @@ returns c =
     let are_levels = subst (λ ks. AreLevels links ks (length links) levels) c.deref-5.ensures.value c.in_ok-levels.ensures.levels in
     let whole = c.in_ok-cycles.ensures.whole ∙ c.deref-9.ensures.value ∙ c.in_ok-members.ensures ∙ ap (filter (λ v. has c.deref-8.result.now (get_or c.deref-7.result.now v 0))) c.deref-6.ensures.value ∙ ap (λ fs. filter (λ v. has fs (get_or c.deref-7.result.now v 0)) order) c.deref-8.ensures.value ∙ ap (λ ks. filter (λ v. has levels (get_or ks v 0)) order) c.deref-7.ensures.value in
     let runs = subst (λ ks. AreRuns ks lists) c.deref-10.ensures.value c.in_ok-cycles.ensures.runs in
-    record { cycles = AreCycles-from_runs c.args.direction c.links.ensures.within all most made perm are_levels whole runs }
+    let are = AreCycles-from_runs c.args.direction c.links.ensures.within all most made perm are_levels whole runs in
+    record { cycles = are; within = λ v inside. on_cycle_within nodes links c.links.ensures.within v ((are.each v).0 inside) }

@@ -1,9 +1,10 @@
-use Rattle.std.proofs.Common.{◌≡◌, ◌<◌, ◌↔◌, ◌&&◌, not, true, length, get_or, filter, replicate, Contains, AllPairs, subst, sym, ap, ◌∙◌}
+use Rattle.std.proofs.Common.{◌≡◌, ◌<◌, ◌↔◌, ◌&&◌, not, true, length, get_or, filter, replicate, Contains, All, AllPairs, subst, sym, ap, ◌∙◌}
 use Rattle.numbered_graph.specs.Listings.{numbers_below}
 use Rattle.numbered_graph.specs.Ranks.{AreRanks}
 use Rattle.numbered_graph.specs.Roots.{IsRoot, AreEntered}
 use Rattle.numbered_graph.specs.Sets.{has}
 use Rattle.numbered_graph.proofs.Kept.{AllPairs-filter}
+use Rattle.numbered_graph.proofs.MemberFacts.{filter_small}
 use Rattle.numbered_graph.proofs.Numbers.{numbers-rising}
 use Rattle.numbered_graph.proofs.PathFacts.{Reaches-by_all}
 use Rattle.numbered_graph.proofs.RankFacts.{AreRanks-by_all}
@@ -26,3 +27,9 @@ returns-clause-each c =
     let enters = subst (λ rs. AreEntered c.args.direction links rs set (length links) entered) c.deref-2.ensures.value c.in_ok-entered.ensures.entered in
     let kept = c.in_ok-roots.ensures ∙ ap (λ rs. filter (λ u. has set u && not (has c.deref-4.result.now (get_or rs u 0))) (numbers_below (length rs))) c.deref-3.ensures.value ∙ ap (λ es. filter (λ u. has set u && not (has es (get_or ranks u 0))) (numbers_below (length ranks))) c.deref-4.ensures.value ∙ ap (λ n. filter (λ u. has set u && not (has entered (get_or ranks u 0))) (numbers_below n)) all.sized in
     λ v. subst (λ xs. Contains xs v ↔ ((has set v ≡ true) × IsRoot c.args.direction links set v)) (sym kept) (roots_iff c.links.ensures.within all c.requires enters v)
+
+pub returns-clause-within : goal.returns-clause-within
+returns-clause-within c =
+    let n = length c.deref-3.result.now in
+    let small : All (λ v. v < n) c.in_ok-roots.roots.items = subst (All (λ v. v < n)) (sym c.in_ok-roots.ensures) (filter_small _ n) in
+    subst (λ m. All (λ v. v < m) c.in_ok-roots.roots.items) (ap (λ rs. length rs) c.deref-3.ensures.value ∙ c.in_ok-ranks.ensures.ranks.sized) small
