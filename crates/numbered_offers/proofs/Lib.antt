@@ -1,0 +1,11 @@
+pub mod OfferFacts
+pub mod RunFacts
+pub mod LeastFacts
+pub mod LinkFacts
+pub mod KeepFacts
+pub mod FlagFacts
+pub mod MadeFacts
+pub mod StepFacts
+pub mod EndFacts
+pub mod ViewFacts
+pub mod ReachFacts

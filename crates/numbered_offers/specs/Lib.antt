@@ -1,0 +1,9 @@
+pub mod Edges
+pub mod Runs
+pub mod Least
+pub mod Dues
+pub mod Graphs
+pub mod Keeping
+pub mod States
+pub mod OfferWalks
+pub mod Verdicts

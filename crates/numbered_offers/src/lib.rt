@@ -1,0 +1,19 @@
+//! Walks over graphs whose edges are offered to somebody who accepts or refuses them, some only where
+//! a third node is reached too.
+#![tactic(auto)]
+
+mod due;
+mod edge;
+pub mod laws;
+mod offer;
+mod offer_graph;
+mod offer_walk;
+mod resolving;
+mod state;
+
+pub use crate::due::Due;
+pub use crate::edge::{Edge, EdgeSort, are_edges_within};
+pub use crate::offer::{Offer, OfferKind};
+pub use crate::offer_graph::OfferGraph;
+pub use crate::offer_walk::OfferWalk;
+pub use crate::resolving::{reach_all, resolve_by, resolve_by_counted};

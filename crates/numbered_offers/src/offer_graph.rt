@@ -1,0 +1,114 @@
+//! Graphs of offers: nodes, and edges that are offered.
+
+ghost use Rattle.std.specs.Prelude.{◌≡◌, ◌<◌, ◌++◌, ◌∷◌, [], length, All, IfOk, OnOk, if◌then◌else◌};
+ghost use Rattle.numbered_offers.specs.Edges.{AreEdgesWithin, edge_at, edge_links, is_free_at};
+ghost use Rattle.numbered_offers.specs.Graphs.{all_links, dep_links, halves_of};
+
+use crate::edge::Edge;
+use numbered_graph::{Graph, Link};
+use std::alloc::{AllocError, Global};
+use std::marker::Model;
+
+/// So many nodes, numbered from 0, and a list of edges between them, told by their places in it.
+#[derive(Drop)]
+pub struct OfferGraph {
+    edges: Vec<Edge>,
+    halves: Vec<usize>,
+    graph: Graph,
+}
+
+impl Model for OfferGraph {
+    ghost use Rattle.numbered_offers.specs.Graphs.{OfferGraphValue, IsKept};
+
+    ghost Value = { OfferGraphValue };
+
+    ghost view = { λ g. record { nodes = g.graph.nodes; edges = g.edges.items } };
+
+    ghost invariant = { λ g. IsKept g.edges.items g.halves.items g.graph.nodes g.graph.links };
+}
+
+impl OfferGraph {
+    /// Takes time in proportion to nodes and edges. `are_edges_within` tests what is asked of the edges.
+    pub fn new(alloc: Global, nodes: usize, edges: Vec<Edge>) -> Result<OfferGraph, AllocError>
+        requires { AreEdgesWithin nodes edges.items }
+        ensures made { IfOk result (λ g. g ≡ record { nodes = nodes; edges = edges.items }) }
+    {
+        let halves = halves_in(alloc, &edges)?;
+        let mut links = links_of(alloc, &edges)?;
+        add_dep_links(&mut links, &edges, &halves)?;
+        let graph = Graph::new(alloc, nodes, links)?;
+        Ok(OfferGraph {
+            edges,
+            halves,
+            graph,
+        })
+    }
+
+    /// How many nodes there are.
+    pub fn node_count(&self) -> usize
+        ensures count { result ≡ self.now.nodes }
+    {
+        self.graph.node_count()
+    }
+
+    /// The edges, in the order of their numbers.
+    pub fn edges(&self) -> &[Edge]
+        ensures value { result.now ≡ self.now.edges }
+        ensures within { AreEdgesWithin self.now.nodes self.now.edges }
+    {
+        &self.edges
+    }
+
+    // The links over which the graph is walked.
+    pub(crate) fn graph(&self) -> &Graph
+        ensures { result.now ≡ record { nodes = self.now.nodes; links = all_links self.now.edges } }
+    {
+        &self.graph
+    }
+
+    // The edges with an optional half.
+    pub(crate) fn halves(&self) -> &[usize]
+        ensures { result.now ≡ halves_of self.now.edges }
+    {
+        &self.halves
+    }
+}
+
+fn halves_in(alloc: Global, edges: &[Edge]) -> Result<Vec<usize>, AllocError>
+    ensures { IfOk result (λ halves. halves.items ≡ halves_of edges.now) }
+{
+    let mut halves = Vec::new(alloc);
+    for (number, edge) in edges.iter().enumerate() {
+        push_if(&mut halves, number, edge.has_optional_half())?;
+    }
+    Ok(halves)
+}
+
+fn push_if(numbers: &mut Vec<usize>, number: usize, flag: bool) -> Result<(), AllocError>
+    ensures { OnOk result (numbers.new.items ≡ (if flag then numbers.old.items ++ number ∷ [] else numbers.old.items)) }
+{
+    if flag {
+        numbers.push(number)?;
+    }
+    Ok(())
+}
+
+fn links_of(alloc: Global, edges: &[Edge]) -> Result<Vec<Link>, AllocError>
+    ensures { IfOk result (λ links. links.items ≡ edge_links edges.now) }
+{
+    let mut links = Vec::new(alloc);
+    for edge in edges {
+        links.push(edge.link())?;
+    }
+    Ok(links)
+}
+
+fn add_dep_links(links: &mut Vec<Link>, edges: &[Edge], halves: &[usize]) -> Result<(), AllocError>
+    requires { All (λ e. e < length edges.now) halves.now }
+    ensures { OnOk result (links.new.items ≡ links.old.items ++ dep_links edges.now halves.now) }
+{
+    for number in halves {
+        links.push(edges[*number].dep_link())?;
+    }
+    Ok(())
+}

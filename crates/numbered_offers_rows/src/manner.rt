@@ -1,0 +1,43 @@
+//! How offers are answered.
+
+use numbered_offers::{Offer, OfferKind};
+use row_program::Row;
+
+/// How somebody answers who is asked about offers.
+#[derive(Clone, Copy)]
+pub(crate) enum Manner {
+    All,
+    Nothing,
+    /// Accepts the first offer alone.
+    Once,
+    /// Accepts every other offer, beginning with the first.
+    Alternate,
+    /// Refuses optional halves.
+    RequiredHalves,
+    /// Refuses required halves.
+    OptionalHalves,
+}
+
+/// The manner that a row names under `accepts`: all offers if it names none.
+pub(crate) fn manner_in(row: Row<'_>) -> Manner {
+    match row.get("accepts").and_then(|value| value.as_str()) {
+        Some("nothing") => Manner::Nothing,
+        Some("once") => Manner::Once,
+        Some("alternate") => Manner::Alternate,
+        Some("required halves") => Manner::RequiredHalves,
+        Some("optional halves") => Manner::OptionalHalves,
+        _ => Manner::All,
+    }
+}
+
+/// The answer to an offer, after so many others.
+pub(crate) fn answer_to(manner: Manner, offer: Offer, before: usize) -> bool {
+    match manner {
+        Manner::All => true,
+        Manner::Nothing => false,
+        Manner::Once => before == 0,
+        Manner::Alternate => before % 2 == 0,
+        Manner::RequiredHalves => offer.kind != OfferKind::Optional,
+        Manner::OptionalHalves => offer.kind != OfferKind::Required,
+    }
+}
