@@ -1,0 +1,6 @@
+pub mod PlaceFacts
+pub mod PathFacts
+pub mod Positions
+pub mod FoundFacts
+pub mod RepeatFacts
+pub mod KeptFacts
