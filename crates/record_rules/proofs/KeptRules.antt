@@ -1,28 +1,35 @@
 -- What a record that breaks no rule is like.
-use Rattle.std.proofs.Common.{◌≡◌, List, [], ◌∷◌, Option, Some, None, refl, subst, Contains, ⊎_elim, arith}
-use Rattle.std.specs.Option.{option_map_or}
-use Rattle.list_facts.proofs.Membership.{Contains-none, Contains-cons_cases}
-use Rattle.workspace_record.specs.Records.{Workspace}
+use Rattle.std.proofs.Common.{◌≡◌, ◌≢◌, ℕ, ◌<◌, List, length, get_or, Option, Some, None, AllPairs, Contains, sym, ◌∙◌, ◌⊎◌, ⊎_elim, ap, subst, arith}
+use Rattle.std.specs.Option.{option_or}
+use Rattle.std.specs.Str.{bytes_eq}
+use Rattle.std.proofs.lemmas.List.{get_or_default}
+use Rattle.std.proofs.lemmas.Slice.Eq.{bytes_eq-Decides}
+use Rattle.workspace_record.specs.Records.{Text, Workspace}
+use Rattle.package_rules.specs.Rules.{first_broken, package_rules, first_fault}
+use Rattle.package_rules.proofs.KeptFacts.{fault_iff, mapped_iff}
 use Rattle.record_rules.specs.Binaries.{Binary, binaries}
-use Rattle.record_rules.specs.RecordRules.{first_broken, first_fault, record_rules}
-use Rattle.record_rules.specs.declared.record_error.RecordRule.{RecordRule}
-use Rattle.record_rules.specs.declared.record_error.RecordRule.TheVariants.{BinaryIds}
-use Rattle.record_rules.proofs.FirstBad.{told_by}
+use Rattle.record_rules.specs.RecordRules.{further_broken, further_rules, fault_of}
 
-neither : {A B : Type 0} (f : A → B) (a : Option A) (b : Option B) → option_map_or (λ x. Some (f x)) a b ≡ None → (a ≡ None) × (b ≡ None)
-neither f None b e = (refl, e)
-neither f (Some x) b e = absurd cc
+neither : {A : Type 0} (a b : Option A) → option_or a b ≡ None → b ≡ None
+neither None b e = e
+neither (Some x) b e = absurd cc
 
--- where no rule has a first place that breaks it, each rule has none
-pub no_fault : (rules : List RecordRule) (w : Workspace) → first_fault rules w ≡ None → (rule : RecordRule) → Contains rules rule → first_broken rule w ≡ None
-no_fault [] w e rule inside = absurd (Contains-none rule inside)
-no_fault (r ∷ rules) w e rule inside =
-    let both = neither (λ place. (r, place)) (first_broken r w) (first_fault rules w) e in
-    ⊎_elim (λ same. subst (λ s. first_broken s w ≡ None) same both.0) (λ later. no_fault rules w both.1 rule later) (Contains-cons_cases r rules rule inside)
+three_ways : (i j : ℕ) → (i < j) ⊎ ((i ≡ j) ⊎ (j < i))
+three_ways i j = grind arith
 
-has_binary_ids : Contains record_rules BinaryIds
-has_binary_ids = (6, omega arith, refl)
+-- where no two elements have one text, what has the text is told by it
+module _ {X : Type 0} (f : X → Text) (xs : List X) (apart : AllPairs (λ a b. f a ≢ f b) xs) where
+  differ : (a b : X) (i j : ℕ) → i < j → j < length xs → get_or xs i a ≡ a → get_or xs j b ≡ b → f a ≡ f b → ⊥
+  differ a b i j lt within first second e =
+      apart i j a lt within (ap f first ∙ e ∙ ap f (sym second ∙ get_or_default xs j b a within))
+
+  pub told_by : (a b : X) → Contains xs a → Contains xs b → f a ≡ f b → a ≡ b
+  told_by a b first second e =
+      ⊎_elim (λ lt. absurd (differ a b first.0 second.0 lt second.1 first.2 second.2 e)) (λ rest. ⊎_elim (λ same. sym first.2 ∙ get_or_default xs first.0 a b first.1 ∙ subst (λ k. get_or xs k b ≡ b) (sym same) second.2) (λ lt. absurd (differ b a second.0 first.0 lt first.1 second.2 first.2 (sym e))) rest) (three_ways first.0 second.0)
 
 -- its binaries are told apart by their ids
-pub binaries_told_apart : (w : Workspace) → first_fault record_rules w ≡ None → (a b : Binary) → Contains (binaries w) a → Contains (binaries w) b → a.id ≡ b.id → a ≡ b
-binaries_told_apart w kept = told_by (λ b. b.id) (binaries w) (no_fault record_rules w kept BinaryIds has_binary_ids)
+pub binaries_told_apart : (w : Workspace) → fault_of w ≡ None → (a b : Binary) → Contains (binaries w) a → Contains (binaries w) b → a.id ≡ b.id → a ≡ b
+binaries_told_apart w kept =
+    let further = neither (first_fault (first_broken w.packages w.links w.workspace) package_rules) (first_fault (further_broken w) further_rules) kept in
+    let each = (fault_iff (further_broken w) further_rules).0 further in
+    told_by (λ b. b.id) (binaries w) ((mapped_iff (λ (b : Binary). b.id) bytes_eq (λ t. t) bytes_eq-Decides (binaries w)).0 each.1.0)

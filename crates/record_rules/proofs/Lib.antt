@@ -1,3 +1,1 @@
-pub mod FirstBad
 pub mod KeptRules
-pub mod Positions

@@ -1,7 +1,7 @@
 -- The rules that records keep, and the first place that breaks one.
-use Rattle.std.specs.Prelude.{◌≡◌, ℕ, ◌+◌, ◌==◌, Bool, true, false, not, ◌&&◌, ◌||◌, List, [], ◌∷◌, ◌++◌, Option, Some, None, is_none, Result, Ok, Err, map, position, codes, length, nat_eq, if◌then◌else◌}
+use Rattle.std.specs.Prelude.{◌≡◌, ℕ, ◌==◌, Bool, true, false, not, ◌&&◌, ◌||◌, List, [], ◌∷◌, Option, Some, None, is_none, Result, Ok, Err, map, position, codes, length, nat_eq}
 use Rattle.std.specs.List.{list_any, list_all, starts_with}
-use Rattle.std.specs.Option.{option_map, option_map_or}
+use Rattle.std.specs.Option.{option_or}
 use Rattle.std.specs.Str.{bytes_eq}
 use Rattle.workspace_record.specs.Records.{Text, Package, Line, Workspace}
 use Rattle.workspace_record.specs.declared.kinds.TargetKind.{TargetKind}
@@ -9,77 +9,54 @@ use Rattle.workspace_record.specs.declared.kinds.TargetKind.TheVariants.{Lib, Pr
 use Rattle.workspace_record.specs.declared.kinds.LineKind.{LineKind}
 use Rattle.workspace_record.specs.declared.kinds.LineKind.TheVariants.{Normal, Build, Dev}
 use Rattle.feature_account.specs.RuleList.{has_feature}
+use Rattle.package_rules.specs.Places.{first_repeat}
+use Rattle.package_rules.specs.Rules.{is_distinct, first_broken, package_rules, first_fault}
+use Rattle.package_rules.specs.declared.record_rule.RecordRule.{RecordRule}
+use Rattle.package_rules.specs.declared.record_rule.RecordRule.TheVariants.{PackageIds, Versions, LinkEnds, LinkNames, LinkLines, Requirements, Members, MemberNames, MemberPaths, DefaultMembers, Targets, OptionalLines, FeatureNames, BinaryIds, BinaryIdTexts, RequiredFeatures, Groups, Filters}
 use Rattle.record_rules.specs.Binaries.{binaries}
-use Rattle.record_rules.specs.declared.record_error.RecordRule.{RecordRule}
-use Rattle.record_rules.specs.declared.record_error.RecordRule.TheVariants.{PackageIds, LinkEnds, LinkLines, Members, Targets, FeatureNames, BinaryIds, BinaryIdTexts, RequiredFeatures}
 use Rattle.record_rules.specs.declared.record_error.RecordError.{RecordError}
 use Rattle.record_rules.specs.declared.record_error.RecordError.TheVariants.{Broken, NotYet, Memory}
-
--- the first place whose text fails the test, or stands among these or at an earlier place
-abbrev pub first_bad_after : (Text → Bool) → List Text → List Text → Option ℕ
-first_bad_after test seen [] = None
-first_bad_after test seen (x ∷ xs) =
-    if not (test x) || list_any (bytes_eq x) seen then Some 0 else option_map (λ i. i + 1) (first_bad_after test (seen ++ x ∷ []) xs)
-
--- the first place whose text fails the test, or stands at an earlier place
-abbrev pub first_bad : (Text → Bool) → List Text → Option ℕ
-first_bad test xs = first_bad_after test [] xs
-
--- the first place whose text stands at an earlier place
-abbrev pub first_repeat : List Text → Option ℕ
-first_repeat xs = first_bad (λ _. true) xs
-
--- no text stands at two places
-abbrev pub is_distinct : List Text → Bool
-is_distinct xs = is_none (first_repeat xs)
-
--- the id is that of a package
-abbrev pub is_package_id : Workspace → Text → Bool
-is_package_id w id = list_any (λ p. bytes_eq id p.id) w.packages
-
--- what must be distinct of a package's targets: a library or proc macro by its sort alone, a build script too, and another target by kind and name
-abbrev pub target_key : TargetKind → Text → Text
-target_key Lib name = codes "library"
-target_key ProcMacro name = codes "library"
-target_key Test name = codes "test/" ++ name
-target_key Bench name = codes "bench/" ++ name
-target_key Bin name = codes "bin/" ++ name
-target_key Example name = codes "example/" ++ name
-target_key BuildScript name = codes "build-script"
-
--- no two targets of the package have one key
-abbrev pub has_distinct_targets : Package → Bool
-has_distinct_targets p = is_distinct (map (λ t. target_key t.kind t.name) p.targets)
 
 -- no feature name of the package stands twice, and no optional name
 abbrev pub has_distinct_features : Package → Bool
 has_distinct_features p = is_distinct (map (λ f. f.name) p.features) && is_distinct p.optional
 
+-- each feature that a target of the package requires is one of its own
+abbrev pub has_required_features : Package → Bool
+has_required_features p = list_all (λ t. list_all (has_feature p) t.required_features) p.targets
+
 -- a space or a line feed
 abbrev pub is_blank : ℕ → Bool
 is_blank byte = (byte == 32) || (byte == 10)
 
--- the first place at which the record breaks the rule
-abbrev pub first_broken : RecordRule → Workspace → Option ℕ
-first_broken PackageIds w = first_repeat (map (λ p. p.id) w.packages)
-first_broken LinkEnds w = position (λ l. not (is_package_id w l.from && is_package_id w l.to)) w.links
-first_broken LinkLines w = position (λ l. length l.lines == 0) w.links
-first_broken Members w = first_bad (is_package_id w) (map (λ m. m.package_id) w.workspace.members)
-first_broken Targets w = position (λ p. not (has_distinct_targets p)) w.packages
-first_broken FeatureNames w = position (λ p. not (has_distinct_features p)) w.packages
-first_broken BinaryIds w = first_repeat (map (λ b. b.id) (binaries w))
-first_broken BinaryIdTexts w = position (λ b. list_any is_blank b.id) (binaries w)
-first_broken RequiredFeatures w = position (λ p. not (list_all (λ t. list_all (has_feature p) t.required_features) p.targets)) w.packages
+-- the first place at which the record breaks a rule on features or binaries
+abbrev pub further_broken : Workspace → RecordRule → Option ℕ
+further_broken w PackageIds = None
+further_broken w Versions = None
+further_broken w LinkEnds = None
+further_broken w LinkNames = None
+further_broken w LinkLines = None
+further_broken w Requirements = None
+further_broken w Members = None
+further_broken w MemberNames = None
+further_broken w MemberPaths = None
+further_broken w DefaultMembers = None
+further_broken w Targets = None
+further_broken w OptionalLines = None
+further_broken w FeatureNames = position (λ p. not (has_distinct_features p)) w.packages
+further_broken w BinaryIds = first_repeat bytes_eq (map (λ b. b.id) (binaries w))
+further_broken w BinaryIdTexts = position (λ b. list_any is_blank b.id) (binaries w)
+further_broken w RequiredFeatures = position (λ p. not (has_required_features p)) w.packages
+further_broken w Groups = None
+further_broken w Filters = None
 
--- the rules in the order in which they are tested
-abbrev pub record_rules : List RecordRule
-record_rules =
-    PackageIds ∷ (LinkEnds ∷ (LinkLines ∷ (Members ∷ (Targets ∷ (FeatureNames ∷ (BinaryIds ∷ (BinaryIdTexts ∷ (RequiredFeatures ∷ []))))))))
+-- the rules on features and binaries in the order in which they are tested
+abbrev pub further_rules : List RecordRule
+further_rules = FeatureNames ∷ (BinaryIds ∷ (BinaryIdTexts ∷ (RequiredFeatures ∷ [])))
 
--- the first of the rules that the record breaks, and the first place that breaks it
-abbrev pub first_fault : List RecordRule → Workspace → Option (RecordRule × ℕ)
-first_fault [] w = None
-first_fault (rule ∷ rules) w = option_map_or (λ place. Some (rule, place)) (first_broken rule w) (first_fault rules w)
+-- the first rule that the record breaks, and the first place that breaks it: rules on packages, links and members come before those on features and binaries
+abbrev pub fault_of : Workspace → Option (RecordRule × ℕ)
+fault_of w = option_or (first_fault (first_broken w.packages w.links w.workspace) package_rules) (first_fault (further_broken w) further_rules)
 
 -- the entry is neither of a dependency nor of an optional one
 abbrev pub is_thin_entry : Text → Bool
@@ -115,7 +92,7 @@ is_thin w =
 
 -- what a check of a record answers: nothing where the rules are kept and the record is served, the first broken rule, or that it is not served yet
 abbrev pub IsChecked : Workspace → Result (Unit {0}) RecordError → Type 0
-IsChecked w (Ok _) = (first_fault record_rules w ≡ None) × (is_thin w ≡ true)
-IsChecked w (Err (Broken rule place)) = first_fault record_rules w ≡ Some (rule, place)
-IsChecked w (Err NotYet) = (first_fault record_rules w ≡ None) × (is_thin w ≡ false)
+IsChecked w (Ok _) = (fault_of w ≡ None) × (is_thin w ≡ true)
+IsChecked w (Err (Broken rule place)) = fault_of w ≡ Some (rule, place)
+IsChecked w (Err NotYet) = (fault_of w ≡ None) × (is_thin w ≡ false)
 IsChecked w (Err Memory) = Unit {0}

@@ -2,12 +2,14 @@
 
 ghost use Rattle.std.specs.Prelude.{◌≡◌, ◌++◌, OnOk, IfOk, map, filter, string_bytes};
 ghost use Rattle.feature_account.specs.Lines.{is_member};
+ghost use Rattle.package_rules.specs.Found.{finds};
 ghost use Rattle.record_rules.specs.Binaries.{binary_id, may_have_tests, platform_of, binaries_of, binaries};
 ghost use Rattle.record_rules.specs.BinaryView.{binary_view};
 
-use feature_account::lines::is_member;
+use package_rules::text_sets::text_set;
 use std::alloc::{AllocError, Global};
 use std::cmp::Ordering;
+use std::collections::BTreeSet;
 use test_lister::BuildPlatform;
 use workspace_record::{PackageRecord, TargetKind, TargetRecord, WorkspaceRecord};
 
@@ -89,13 +91,31 @@ fn member_packages<'a>(
 ) -> Result<Vec<&'a PackageRecord>, AllocError>
     ensures { IfOk result (λ v. map (λ p. p.now) v.items ≡ filter (λ p. is_member record.now p.id) packages.entry.now) }
 {
-    let mut members: Vec<&'a PackageRecord> = Vec::new(alloc);
+    let ids = record.workspace.member_ids(alloc)?;
+    let members = text_set(alloc, &ids)?;
+    packages_among(alloc, &members, packages)
+}
+
+fn packages_among<'a>(
+    alloc: Global,
+    ids: &BTreeSet<&str>,
+    packages: &'a [PackageRecord],
+) -> Result<Vec<&'a PackageRecord>, AllocError>
+    ensures { IfOk result (λ v. map (λ p. p.now) v.items ≡ filter (λ p. finds ids.now p.id) packages.entry.now) }
+{
+    let mut among: Vec<&'a PackageRecord> = Vec::new(alloc);
     for row in packages {
-        if is_member(record, row.id.as_str()) {
-            members.push(row)?;
+        if has_id_among(ids, row) {
+            among.push(row)?;
         }
     }
-    Ok(members)
+    Ok(among)
+}
+
+fn has_id_among(ids: &BTreeSet<&str>, row: &PackageRecord) -> bool
+    ensures { result ≡ finds ids.now row.now.id }
+{
+    ids.contains(row.id.as_str())
 }
 
 fn push_binaries<'a>(

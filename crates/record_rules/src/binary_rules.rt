@@ -2,12 +2,12 @@
 
 ghost use Rattle.std.specs.Prelude.{◌≡◌, IfOk, map, position};
 ghost use Rattle.std.specs.List.{list_any};
-ghost use Rattle.record_rules.specs.declared.record_error.RecordRule.TheVariants.{BinaryIds, BinaryIdTexts};
+ghost use Rattle.package_rules.specs.declared.record_rule.RecordRule.TheVariants.{BinaryIds, BinaryIdTexts};
 ghost use Rattle.record_rules.specs.BinaryView.{binary_view};
-ghost use Rattle.record_rules.specs.RecordRules.{is_blank, first_broken};
+ghost use Rattle.record_rules.specs.RecordRules.{is_blank, further_broken};
 
 use crate::binaries::{TestBinary, binaries};
-use crate::distinct::first_repeat;
+use package_rules::distinct::first_repeated_text;
 use std::alloc::{AllocError, Global};
 use workspace_record::WorkspaceRecord;
 
@@ -16,11 +16,11 @@ pub(crate) fn first_repeated_binary(
     alloc: Global,
     record: &WorkspaceRecord,
 ) -> Result<Option<usize>, AllocError>
-    ensures { IfOk result (λ place. place ≡ first_broken BinaryIds record.now) }
+    ensures { IfOk result (λ place. place ≡ further_broken record.now BinaryIds) }
 {
     let all = binaries(alloc, record)?;
     let ids = binary_ids(alloc, &all)?;
-    first_repeat(alloc, &ids)
+    first_repeated_text(alloc, &ids)
 }
 
 fn binary_ids<'a>(alloc: Global, all: &'a [TestBinary<'_>]) -> Result<Vec<&'a str>, AllocError>
@@ -38,7 +38,7 @@ pub(crate) fn first_blank_binary(
     alloc: Global,
     record: &WorkspaceRecord,
 ) -> Result<Option<usize>, AllocError>
-    ensures { IfOk result (λ place. place ≡ first_broken BinaryIdTexts record.now) }
+    ensures { IfOk result (λ place. place ≡ further_broken record.now BinaryIdTexts) }
 {
     let all = binaries(alloc, record)?;
     Ok(first_blank(&all))

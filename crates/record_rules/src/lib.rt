@@ -3,12 +3,11 @@
 
 pub mod binaries;
 mod binary_rules;
-mod distinct;
-mod id_rules;
-mod package_rules;
+mod feature_rules;
 mod record_error;
 mod record_rules;
 mod thin;
 
-pub use crate::record_error::{RecordError, RecordRule};
+pub use crate::record_error::RecordError;
 pub use crate::record_rules::check_record;
+pub use package_rules::RecordRule;

@@ -1,25 +1,19 @@
 //! Whether a record keeps the rules and is served.
 
 ghost use Rattle.std.specs.Prelude.{◌≡◌, IfOk};
-ghost use Rattle.record_rules.specs.RecordRules.{first_broken, first_fault, IsChecked};
+ghost use Rattle.package_rules.specs.Rules.{first_fault};
+ghost use Rattle.record_rules.specs.RecordRules.{further_broken, fault_of, IsChecked};
 
 use crate::binary_rules::{first_blank_binary, first_repeated_binary};
-use crate::id_rules::{
-    first_bad_member, first_broken_link, first_empty_link, first_repeated_package,
-};
-use crate::package_rules::{first_lacking_package, first_repeated_feature, first_repeated_target};
-use crate::record_error::{RecordError, RecordRule};
+use crate::feature_rules::{first_lacking_package, first_repeated_feature};
+use crate::record_error::RecordError;
 use crate::thin::is_thin;
+use package_rules::{RecordRule, first_broken_rule};
 use std::alloc::{AllocError, Global};
 use workspace_record::WorkspaceRecord;
 
-/// The rules in the order in which they are tested.
-const RULES: [RecordRule; 9] = [
-    RecordRule::PackageIds,
-    RecordRule::LinkEnds,
-    RecordRule::LinkLines,
-    RecordRule::Members,
-    RecordRule::Targets,
+/// The rules on features and binaries in the order in which they are tested.
+const FURTHER_RULES: [RecordRule; 4] = [
     RecordRule::FeatureNames,
     RecordRule::BinaryIds,
     RecordRule::BinaryIdTexts,
@@ -31,7 +25,7 @@ const RULES: [RecordRule; 9] = [
 pub fn check_record(alloc: Global, record: &WorkspaceRecord) -> Result<(), RecordError>
     ensures { IsChecked record.now result }
 {
-    if let Some((rule, place)) = first_fault(alloc, &RULES, record)? {
+    if let Some((rule, place)) = fault_of(alloc, record)? {
         return Err(RecordError::Broken { rule, place });
     }
     if is_thin(record) {
@@ -41,38 +35,63 @@ pub fn check_record(alloc: Global, record: &WorkspaceRecord) -> Result<(), Recor
     }
 }
 
+/// The first rule that the record breaks, with its first place: the rules on packages, links and
+/// members come before those on features and binaries.
+fn fault_of(
+    alloc: Global,
+    record: &WorkspaceRecord,
+) -> Result<Option<(RecordRule, usize)>, AllocError>
+    ensures { IfOk result (λ fault. fault ≡ fault_of record.now) }
+{
+    let broken = first_broken_rule(alloc, &record.packages, &record.links, &record.workspace)?;
+    if broken.is_some() {
+        Ok(broken)
+    } else {
+        first_fault(alloc, &FURTHER_RULES, record)
+    }
+}
+
 fn first_fault(
     alloc: Global,
     rules: &[RecordRule],
     record: &WorkspaceRecord,
 ) -> Result<Option<(RecordRule, usize)>, AllocError>
-    ensures { IfOk result (λ fault. fault ≡ first_fault rules.now record.now) }
+    ensures { IfOk result (λ fault. fault ≡ first_fault (further_broken record.now) rules.now) }
 {
     for rule in rules {
-        if let Some(place) = first_broken(alloc, *rule, record)? {
+        if let Some(place) = further_broken(alloc, *rule, record)? {
             return Ok(Some((*rule, place)));
         }
     }
     Ok(None)
 }
 
-/// The first place at which the record breaks the rule.
-fn first_broken(
+/// The first place at which the record breaks a rule on features or binaries.
+fn further_broken(
     alloc: Global,
     rule: RecordRule,
     record: &WorkspaceRecord,
 ) -> Result<Option<usize>, AllocError>
-    ensures { IfOk result (λ place. place ≡ first_broken rule record.now) }
+    ensures { IfOk result (λ place. place ≡ further_broken record.now rule) }
 {
     match rule {
-        RecordRule::PackageIds => first_repeated_package(alloc, record),
-        RecordRule::LinkEnds => Ok(first_broken_link(record)),
-        RecordRule::LinkLines => Ok(first_empty_link(record)),
-        RecordRule::Members => first_bad_member(alloc, record),
-        RecordRule::Targets => first_repeated_target(alloc, &record.packages),
         RecordRule::FeatureNames => first_repeated_feature(alloc, &record.packages),
         RecordRule::BinaryIds => first_repeated_binary(alloc, record),
         RecordRule::BinaryIdTexts => first_blank_binary(alloc, record),
-        RecordRule::RequiredFeatures => Ok(first_lacking_package(record)),
+        RecordRule::RequiredFeatures => first_lacking_package(alloc, &record.packages),
+        RecordRule::PackageIds
+        | RecordRule::Versions
+        | RecordRule::LinkEnds
+        | RecordRule::LinkNames
+        | RecordRule::LinkLines
+        | RecordRule::Requirements
+        | RecordRule::Members
+        | RecordRule::MemberNames
+        | RecordRule::MemberPaths
+        | RecordRule::DefaultMembers
+        | RecordRule::Targets
+        | RecordRule::OptionalLines
+        | RecordRule::Groups
+        | RecordRule::Filters => Ok(None),
     }
 }

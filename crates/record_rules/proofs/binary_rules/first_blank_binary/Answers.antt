@@ -3,7 +3,7 @@ use Rattle.std.specs.List.{list_any}
 use Rattle.record_rules.specs.Binaries.{Binary}
 use Rattle.record_rules.specs.BinaryView.{binary_view}
 use Rattle.record_rules.specs.RecordRules.{is_blank}
-use Rattle.record_rules.proofs.Positions.{position-map}
+use Rattle.package_rules.proofs.Positions.{position-map}
 use Rattle.record_rules.proofs.binary_rules.first_blank_binary.Goals as goal
 
 abbrev has_blank : Binary → Bool

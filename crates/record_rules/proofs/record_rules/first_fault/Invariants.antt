@@ -1,6 +1,7 @@
 use Rattle.std.proofs.Common.{◌≡◌, drop}
-use Rattle.record_rules.specs.RecordRules.{first_fault}
+use Rattle.package_rules.specs.Rules.{first_fault}
+use Rattle.record_rules.specs.RecordRules.{further_broken}
 use Rattle.record_rules.proofs.record_rules.first_fault.Given as goal
 
 abbrev pub invariant-loop-rule : goal.invariant-loop-rule
-invariant-loop-rule l = first_fault l.rules l.record ≡ first_fault (drop l.rule-index l.rules) l.record
+invariant-loop-rule l = first_fault (further_broken l.record) l.rules ≡ first_fault (further_broken l.record) (drop l.rule-index l.rules)
