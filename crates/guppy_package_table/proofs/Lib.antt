@@ -1,0 +1,4 @@
+pub mod RustNames
+pub mod IdFacts
+pub mod Places
+pub mod LinkFacts

@@ -1,0 +1,23 @@
+-- What a table keeps beside its rows, so that nothing is searched for.
+use Rattle.std.specs.Prelude.{◌≡◌, ◌<◌, List, All, Ok, map, length, nat_lt, string_bytes}
+use Rattle.semver.specs.Identifiers.{comparator_view, parts_of}
+use Rattle.semver.specs.Parse.{req_of, version_parts}
+use Rattle.numbered_graph.specs.Listings.{IsListing}
+use Rattle.numbered_graph.specs.Sets.{has}
+use Rattle.workspace_record.specs.Records.{Package, Link, WorkspaceDetails}
+use Rattle.guppy_package_table.specs.LinkRows.{name_in_rust}
+use Rattle.guppy_package_table.specs.Tables.{firm_flags, ids_of, links_among}
+use Rattle.guppy_package_table.specs.Members.{AreMembers}
+use Rattle.guppy_package_table.specs.declared.indices.Indices.{Indices}
+
+-- packages by id, what was read in the rows, the graph of the places with its listing, and the places of members
+pub record Indexes (packages : List Package) (links : List Link) (workspace : WorkspaceDetails) (index : Indices) : Type 0 where
+  pub ids : index.ids.keys ≡ ids_of packages
+  pub versions : map (λ p. version_parts p.version) packages ≡ map (λ v. Ok (parts_of v)) index.versions.items
+  pub requirements : map (λ l. req_of l.requirement) links ≡ map (λ r. Ok (map comparator_view r.comparators.items)) index.requirements.items
+  pub rust_names : map string_bytes index.rust_names.items ≡ map (λ l. name_in_rust l.name) links
+  pub graph : index.graph ≡ record { nodes = length packages; links = links_among packages links }
+  pub listing : IsListing (links_among packages links) (has (firm_flags links)) (λ v. nat_lt v (length packages)) index.listing.items
+  pub members : AreMembers (ids_of packages) workspace index.members
+  pub member_places : All (λ v. v < length packages) index.members.places.items
+  pub default_places : All (λ v. v < length packages) index.members.defaults.items

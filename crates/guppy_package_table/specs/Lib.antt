@@ -1,0 +1,8 @@
+pub mod PackageDetailsViews
+pub mod LinkDetailsViews
+pub mod LinkRows
+pub mod Targets
+pub mod Tables
+pub mod Members
+pub mod Indices
+pub mod Refusals

@@ -1,0 +1,23 @@
+//! The rows of a package graph with what is found in them at once: packages by id, members by path and
+//! by name, the links of a package by both ends, and what the accessors of one row lend.
+
+#![tactic(auto)]
+
+mod build_targets;
+mod indices;
+mod link_details;
+mod members;
+mod named_features;
+mod numbering;
+mod package_details;
+mod package_graph_error;
+mod package_ids;
+mod reading;
+mod table;
+
+pub use crate::build_targets::BuildTargets;
+pub use crate::link_details::LinkDetails;
+pub use crate::named_features::NamedFeatures;
+pub use crate::package_details::PackageDetails;
+pub use crate::package_graph_error::PackageGraphError;
+pub use crate::table::PackageTable;

@@ -1,0 +1,101 @@
+//! Which packages are members of the workspace.
+
+ghost use Rattle.std.specs.Prelude.{◌≡◌, ◌≢◌, AllPairs, IfOk, find, map, option_copied, slice_get, string_bytes};
+ghost use Rattle.std.specs.Str.{bytes_eq};
+ghost use Rattle.guppy_package_table.specs.Members.{AreMembers};
+ghost use Rattle.guppy_package_table.specs.Tables.{place_among};
+
+use crate::package_ids::{insert_id, place_of_id};
+use guppy_package_parts::{MemberRow, PackageId, WorkspaceRow};
+use indexmap::IndexSet;
+use std::alloc::{AllocError, Global};
+
+/// The members of the workspace.
+#[derive(Drop)]
+pub struct Members {
+    /// The ids of the members' packages, each at the place of its member.
+    pub ids: IndexSet<PackageId>,
+    /// The place of each member's package.
+    pub places: Vec<usize>,
+    /// The place of each default member's package.
+    pub defaults: Vec<usize>,
+}
+
+/// The members of a workspace among packages with these ids.
+pub(crate) fn members_of(
+    alloc: Global,
+    ids: &IndexSet<PackageId>,
+    workspace: &WorkspaceRow,
+) -> Result<Members, AllocError>
+    requires { AllPairs (λ a b. a.package_id ≢ b.package_id) workspace.now.members }
+    ensures { IfOk result (AreMembers ids.now.keys workspace.now) }
+{
+    let member_ids = member_ids_of(alloc, &workspace.members)?;
+    let places = member_places(alloc, ids, &workspace.members)?;
+    let defaults = default_places(alloc, ids, &workspace.default_members)?;
+    Ok(Members {
+        ids: member_ids,
+        places,
+        defaults,
+    })
+}
+
+/// The ids of the members' packages, each at the place of its member.
+fn member_ids_of(alloc: Global, members: &[MemberRow]) -> Result<IndexSet<PackageId>, AllocError>
+    requires { AllPairs (λ a b. a.package_id ≢ b.package_id) members.now }
+    ensures { IfOk result (λ ids. ids.keys ≡ map (λ m. m.package_id) members.now) }
+{
+    let mut ids = IndexSet::with_capacity(alloc, members.len())?;
+    for member in members {
+        insert_id(alloc, &mut ids, member.package.as_str())?;
+    }
+    Ok(ids)
+}
+
+/// The place of each member's package.
+fn member_places(
+    alloc: Global,
+    ids: &IndexSet<PackageId>,
+    members: &[MemberRow],
+) -> Result<Vec<usize>, AllocError>
+    ensures { IfOk result (λ places. places.items ≡ map (λ m. place_among ids.now.keys m.package_id) members.now) }
+{
+    let mut places = Vec::with_capacity(alloc, members.len())?;
+    for member in members {
+        places.push(place_of_id(ids, member.package.as_str()))?;
+    }
+    Ok(places)
+}
+
+/// The place of each default member's package.
+fn default_places(
+    alloc: Global,
+    ids: &IndexSet<PackageId>,
+    members: &[String],
+) -> Result<Vec<usize>, AllocError>
+    ensures { IfOk result (λ places. places.items ≡ map (λ m. place_among ids.now.keys (string_bytes m)) members.now) }
+{
+    let mut places = Vec::with_capacity(alloc, members.len())?;
+    for member in members {
+        places.push(place_of_id(ids, member.as_str()))?;
+    }
+    Ok(places)
+}
+
+/// The member whose package has an id.
+pub(crate) fn member_among<'a>(
+    ids: &IndexSet<PackageId>,
+    members: &'a [MemberRow],
+    id: &str,
+) -> Option<&'a MemberRow>
+    requires { ids.now.keys ≡ map (λ m. m.package_id) members.now }
+    ensures { option_copied result ≡ find (λ m. bytes_eq id.now m.package_id) members.entry.now }
+{
+    member_at(members, place_of_id(ids, id))
+}
+
+fn member_at(members: &[MemberRow], number: usize) -> Option<&MemberRow>
+    ensures { option_copied result ≡ slice_get members.now number }
+{
+    members.get(number)
+}

@@ -1,0 +1,218 @@
+//! The rows of a package graph with their indices.
+
+ghost use Rattle.std.specs.Prelude.{◌≡◌, ◌<◌, ℕ, All, IfErr, IfNone, IfOk, IfSome, Some, length, map, nat_lt, option_map, position, slice_get, slice_index};
+ghost use Rattle.std.specs.Option.{option_copied};
+ghost use Rattle.std.specs.Str.{bytes_eq};
+ghost use Rattle.numbered_graph.specs.Listings.{IsListing};
+ghost use Rattle.numbered_graph.specs.Sets.{has};
+ghost use Rattle.package_rules.specs.Kept.{AreKept};
+ghost use Rattle.guppy_package_table.specs.LinkDetailsViews as link_views;
+ghost use Rattle.guppy_package_table.specs.PackageDetailsViews.{member_path_of, row_of};
+ghost use Rattle.guppy_package_table.specs.Refusals.{IsRefusal};
+ghost use Rattle.guppy_package_table.specs.Tables.{IsClear, IsFirstBetween, IsTableOf, firm_flags, ids_of, member_of, member_path_at, numbered_links, place_among};
+
+use crate::indices::{Indices, indices_of};
+use crate::link_details::LinkDetails;
+use crate::members::member_among;
+use crate::package_details::PackageDetails;
+use crate::package_graph_error::PackageGraphError;
+use crate::package_ids::find_id;
+use guppy_package_parts::{LinkRow, MemberRow, PackageId, PackageRow, WorkspaceRow};
+use numbered_graph::{Direction, Graph};
+use package_rules::first_broken_rule;
+use std::alloc::{AllocError, Global};
+use std::marker::Model;
+
+/// The rows of a package graph: packages and links are told by their places in the lists.
+#[derive(Drop)]
+pub struct PackageTable {
+    packages: Vec<PackageRow>,
+    links: Vec<LinkRow>,
+    workspace: WorkspaceRow,
+    indices: Indices,
+}
+
+impl Model for PackageTable {
+    ghost use Rattle.guppy_package_table.specs.Indices.{Indexes};
+    ghost use Rattle.guppy_package_table.specs.Refusals.{IsRefusal};
+    ghost use Rattle.guppy_package_table.specs.Tables.{TableValue};
+
+    ghost Value = { TableValue };
+
+    ghost view = { λ t. record { packages = t.packages.items; links = t.links.items; workspace = t.workspace; listing = t.indices.listing.items } };
+
+    ghost invariant = { λ t. Indexes t.packages.items t.links.items t.workspace t.indices };
+}
+
+impl PackageTable {
+    /// The table of these rows, or the first rule on packages, links and members that they break, at
+    /// its first place.
+    pub fn from_records(
+        alloc: Global,
+        packages: Vec<PackageRow>,
+        links: Vec<LinkRow>,
+        workspace: WorkspaceRow,
+    ) -> Result<PackageTable, PackageGraphError>
+        ensures built { IfOk result (λ t. AreKept packages.items links.items workspace × IsTableOf packages.items links.items workspace t) }
+        ensures refused { IfErr result (IsRefusal packages.items links.items workspace) }
+    {
+        if let Some((rule, place)) = first_broken_rule(alloc, &packages, &links, &workspace)? {
+            return Err(PackageGraphError::Broken { rule, place });
+        }
+        let table = PackageTable::new(alloc, packages, links, workspace)?;
+        Ok(table)
+    }
+
+    fn new(
+        alloc: Global,
+        packages: Vec<PackageRow>,
+        links: Vec<LinkRow>,
+        workspace: WorkspaceRow,
+    ) -> Result<PackageTable, AllocError>
+        requires { AreKept packages.items links.items workspace }
+        ensures { IfOk result (IsTableOf packages.items links.items workspace) }
+    {
+        let indices = indices_of(alloc, &packages, &links, &workspace)?;
+        Ok(PackageTable {
+            packages,
+            links,
+            workspace,
+            indices,
+        })
+    }
+
+    /// The packages' rows, in the order of the record.
+    pub fn packages(&self) -> &[PackageRow]
+        ensures { result.now ≡ self.now.packages }
+    {
+        &self.packages
+    }
+
+    /// The links' rows, in the order of the record.
+    pub fn links(&self) -> &[LinkRow]
+        ensures { result.now ≡ self.now.links }
+    {
+        &self.links
+    }
+
+    /// The workspace's row.
+    pub fn workspace(&self) -> &WorkspaceRow
+        ensures { result.now ≡ self.now.workspace }
+    {
+        &self.workspace
+    }
+
+    /// The places of packages with the links between them, each with its number.
+    pub fn graph(&self) -> &Graph
+        ensures { result.now ≡ record { nodes = length self.now.packages; links = numbered_links self.now } }
+    {
+        &self.indices.graph
+    }
+
+    /// All places: components together, links between components forward, and those forward too that
+    /// have a normal or a build line, unless they lie on a cycle of such links.
+    pub fn listing(&self) -> &[usize]
+        ensures value { result.now ≡ self.now.listing }
+        ensures listing { IsListing (numbered_links self.now) (has (firm_flags self.now.links)) (λ v. nat_lt v (length self.now.packages)) result.now }
+    {
+        &self.indices.listing
+    }
+
+    /// The ids of the packages, in the order of the record.
+    pub fn ids(&self) -> &[PackageId]
+        ensures { result.now ≡ ids_of self.now.packages }
+    {
+        self.indices.ids.as_slice()
+    }
+
+    /// The id of the package at a place.
+    pub fn id_at(&self, place: usize) -> &PackageId
+        requires { place < length self.now.packages }
+        ensures { slice_get (ids_of self.now.packages) place ≡ Some result.now }
+    {
+        &self.indices.ids.as_slice()[place]
+    }
+
+    /// The place of the package with an id.
+    pub fn find(&self, id: &PackageId) -> Option<usize>
+        ensures { result ≡ position (bytes_eq id.now) (ids_of self.now.packages) }
+    {
+        find_id(&self.indices.ids, id.repr())
+    }
+
+    /// The member whose package has an id.
+    pub fn member(&self, id: &str) -> Option<&MemberRow>
+        ensures { option_copied result ≡ member_of self.now id.now }
+    {
+        member_among(&self.indices.members.ids, &self.workspace.members, id)
+    }
+
+    /// What the row of the package at a place says.
+    pub fn details(&self, place: usize) -> PackageDetails<'_>
+        requires { place < length self.now.packages }
+        ensures row { slice_get self.now.packages place ≡ Some (row_of result) }
+        ensures path { member_path_of result ≡ option_map (λ m. m.path) (member_of self.now (row_of result).id) }
+    {
+        let row = &self.packages[place];
+        let version = &self.indices.versions[place];
+        let member_path = self.member_path(row.id.as_str());
+        PackageDetails::of(row, version, member_path)
+    }
+
+    fn member_path(&self, id: &str) -> Option<&str>
+        ensures { option_map (λ p. p.now) result ≡ option_map (λ m. m.path) (member_of self.now id.now) }
+    {
+        let member = self.member(id)?;
+        Some(member.path.as_str())
+    }
+
+    /// What the row of the link with a number says.
+    pub fn link_details(&self, number: usize) -> LinkDetails<'_>
+        requires { number < length self.now.links }
+        ensures { slice_get self.now.links number ≡ Some (link_views.row_of result) }
+    {
+        let requirement = &self.indices.requirements[number];
+        let rust_name = self.indices.rust_names[number].as_str();
+        LinkDetails::of(&self.links[number], requirement, rust_name)
+    }
+
+    /// The place of each member's package, in the order of the members.
+    pub fn members(&self) -> &[usize]
+        ensures value { result.now ≡ map (λ m. place_among (ids_of self.now.packages) m.package_id) self.now.workspace.members }
+        ensures within { All (λ v. v < length self.now.packages) result.now }
+    {
+        &self.indices.members.places
+    }
+
+    /// The place of each default member's package, in their order.
+    pub fn default_members(&self) -> &[usize]
+        ensures value { result.now ≡ map (place_among (ids_of self.now.packages)) self.now.workspace.default_members }
+        ensures within { All (λ v. v < length self.now.packages) result.now }
+    {
+        &self.indices.members.defaults
+    }
+
+    /// The first link from one package to another, in the order of the record.
+    pub fn link_between(&self, from: usize, to: usize) -> Option<usize>
+        requires { from < length self.now.packages }
+        ensures some { IfSome result (IsFirstBetween from to (numbered_links self.now)) }
+        ensures none { IfNone result (IsClear from to (numbered_links self.now) (length self.now.links)) }
+    {
+        first_link_between(self.graph(), from, to)
+    }
+}
+
+fn first_link_between(graph: &Graph, from: usize, to: usize) -> Option<usize>
+    requires { from < graph.now.nodes }
+    ensures some { IfSome result (IsFirstBetween from to graph.now.links) }
+    ensures none { IfNone result (IsClear from to graph.now.links (length graph.now.links)) }
+{
+    let mut next = graph.first_link(Direction::Forward, from);
+    while let Some(number) = next {
+        if graph.far(Direction::Forward, number) == to {
+            return Some(number);
+        }
+        next = graph.next_link(Direction::Forward, number);
+    }
+    None
+}
