@@ -1,0 +1,28 @@
+-- Reach from one place, and links between two.
+use Rattle.std.proofs.Common.{◌≡◌, ◌↔◌, ◌<◌, ℕ, zero, suc, List, [], ◌∷◌, Option, Some, None, IfSome, IfNone, IsTrue, Contains, length, subst, sym, refl, arith, true≢false}
+use Rattle.std.specs.Option.{is_some}
+use Rattle.numbered_graph.specs.declared.direction.Direction.TheVariants.{Forward}
+use Rattle.numbered_graph.specs.declared.link.Link.{Link}
+use Rattle.numbered_graph.specs.Paths.{IsReached, Reaches, any_link}
+use Rattle.guppy_package_table.specs.Tables.{IsClear, IsFirstBetween, TableValue, numbered_links}
+use Rattle.guppy_package_graph.specs.Depending.{HasLink}
+
+-- what is reached from one place alone
+pub reached_from_one : (links : List Link) (from to : ℕ) → IsReached Forward links any_link (from ∷ []) to ↔ Reaches links any_link from to
+reached_from_one links from to = (
+  λ h. of_one h.start h.among h.leads,
+  λ leads. record { start = from; among = (0, omega arith, refl); leads = leads },
+)
+  where
+    of_one : (start : ℕ) → Contains (from ∷ []) start → Reaches links any_link start to → Reaches links any_link from to
+    of_one start (zero, lt, is) leads = subst (λ v. Reaches links any_link v to) (sym is) leads
+    of_one start (suc k, lt, is) leads = absurd (omega (arith, lt))
+
+-- what a look for the first link between two places answers
+pub record SaysBetween (g : TableValue) (from to : ℕ) (found : Option ℕ) : Type 0 where
+  pub some : IfSome found (IsFirstBetween from to (numbered_links g))
+  pub none : IfNone found (IsClear from to (numbered_links g) (length g.links))
+
+pub linked : (g : TableValue) (from to : ℕ) (found : Option ℕ) → length (numbered_links g) ≡ length g.links → IfSome found (IsFirstBetween from to (numbered_links g)) → IfNone found (IsClear from to (numbered_links g) (length g.links)) → IsTrue (is_some found) ↔ HasLink g from to
+linked g from to (Some j) sized some none = (λ _. record { number = j; within = subst (λ n. j < n) sized some.within; between = some.between }, λ _. refl)
+linked g from to None sized some none = (λ h. absurd (true≢false (sym h)), λ h. absurd (none h.number h.within h.between))

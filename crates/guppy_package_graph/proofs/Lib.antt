@@ -1,0 +1,7 @@
+pub mod ResolveFacts
+pub mod ChoiceFacts
+pub mod DirectFacts
+pub mod PlaceFacts
+pub mod QueryFacts
+pub mod DependFacts
+pub mod CycleFacts

@@ -1,0 +1,96 @@
+-- Places of packages that are still to come.
+use Rattle.std.proofs.Common.{◌≡◌, ◌↔◌, ⊎_elim, ℕ, zero, suc, ◌-◌, ◌<◌, true≢false, ◌&&◌, Bool, true, List, [], ◌∷◌, Option, Some, None, Result, Ok, Err, IfOk, MatchOption, All, Any, Contains, subst, sym, ap, refl, ◌∙◌, inr, map, filter, length, get_or, drop, nat_lt, arith}
+use Rattle.std.proofs.lemmas.Bool.{and_from, and_parts, lt-ltb, ltb-true}
+use Rattle.std.proofs.lemmas.List.{get_or-map, get_or-reverse, length-map, length-reverse}
+use Rattle.list_facts.proofs.Membership.{Contains-cons_cases, Contains-filter_cases, Contains-first, Contains-none}
+use Rattle.list_facts.proofs.Quantifiers.{All-from_Contains}
+use Rattle.numbered_graph.specs.declared.direction.Direction.{Direction}
+use Rattle.numbered_graph.specs.declared.direction.Direction.TheVariants.{Forward, Reverse}
+use Rattle.numbered_graph.specs.declared.link.Link.{Link}
+use Rattle.numbered_graph.specs.ListedViews.{in_direction}
+use Rattle.numbered_graph.specs.Listings.{IsListing}
+use Rattle.numbered_graph.specs.Sets.{has}
+use Rattle.guppy_row_parts.specs.declared.error.Error.{Error}
+use Rattle.guppy_row_parts.specs.declared.error.Error.TheVariants.{UnknownPackageId}
+use Rattle.workspace_record.specs.Records.{Text}
+use Rattle.guppy_package_table.specs.Tables.{TableValue}
+use Rattle.guppy_package_graph.specs.Finding.{IsMissing, IsUnknown}
+use Rattle.std.proofs.lemmas.List.Elements.{All-tail}
+
+pub rest_within : (P : ℕ → Type 0) (before after : List ℕ) (r : Option ℕ) → MatchOption r ((before ≡ []) × (after ≡ [])) (λ x. before ≡ x ∷ after) → All P before → All P after
+rest_within P before after (Some x) is within = All-tail P x after (subst (All P) is within)
+rest_within P before after None is within = subst (All P) (sym is.1) (λ k d lt. absurd (omega (arith, lt)))
+
+pub turned : (d : Direction) (P : ℕ → Type 0) (xs : List ℕ) → All P xs → All P (in_direction d xs)
+turned Forward P xs h = h
+turned Reverse P xs h = λ k d lt. let within : k < length xs = subst (λ n. k < n) (length-reverse xs) lt in subst P (sym (get_or-reverse xs k d within)) (h (length xs - 1 - k) d (omega (arith, within)))
+
+-- the members of a set that a listing gives
+pub listed_within : (links : List Link) (firm set : ℕ → Bool) (n : ℕ) (xs : List ℕ) → IsListing links firm (λ v. nat_lt v n) xs → All (λ v. v < n) (filter set xs)
+listed_within links firm set n xs h = All-from_Contains (λ v. v < n) (filter set xs) (λ v inside. ltb-true v n ((h.each v).0 (Contains-filter_cases set xs v inside).0))
+
+has-within : (flags : List Bool) (v : ℕ) → has flags v ≡ true → v < length flags
+has-within [] v h = absurd (true≢false (sym h))
+has-within (b ∷ flags) zero h = omega arith
+has-within (b ∷ flags) (suc v) h = let lt = has-within flags v h in omega arith
+
+-- the set has no place past the last package
+pub members_alone : (links : List Link) (firm : ℕ → Bool) (flags : List Bool) (n : ℕ) (xs : List ℕ) → length flags ≡ n → IsListing links firm (λ v. nat_lt v n && has flags v) xs → IsListing links firm (has flags) xs
+members_alone links firm flags n xs sized h = record {
+  once = h.once;
+  each = λ v. (λ inside. (and_parts (nat_lt v n) (has flags v) ((h.each v).0 inside)).1, λ member. (h.each v).1 (and_from (nat_lt v n) (has flags v) (lt-ltb v n (subst (λ m. v < m) sized (has-within flags v member))) member));
+  together = h.together;
+  forward = h.forward;
+  firm_forward = h.firm_forward;
+}
+
+abbrev from_some : Option ℕ → ℕ
+from_some (Some n) = n
+from_some None = 0
+
+some_is : (a b : ℕ) → Some a ≡ Some b → a ≡ b
+some_is a b e = ap from_some e
+
+at_head : {X : Type 0} (x y : X) (xs ys : List X) → x ∷ xs ≡ y ∷ ys → x ≡ y
+at_head x y xs ys same = ap (λ zs. get_or zs 0 x) same
+
+at_tail : {X : Type 0} (x y : X) (xs ys : List X) → x ∷ xs ≡ y ∷ ys → xs ≡ ys
+at_tail x y xs ys same = ap (λ zs. drop 1 zs) same
+
+none_longer : {X : Type 0} (y : X) (ys : List X) → [] ≡ y ∷ ys → ⊥
+none_longer y ys same = let sizes = ap (λ zs. length zs) same in omega (arith, sizes)
+
+module _ {A : Type 0} (f : A → Option ℕ) (v : ℕ) where
+  pub named : (xs : List A) (ys : List ℕ) → map f xs ≡ map Some ys → Contains ys v → Any (λ x. f x ≡ Some v) xs
+  named [] [] same inside = absurd (omega (arith, inside.1))
+  named [] (y ∷ ys) same inside = absurd (none_longer (Some y) (map Some ys) same)
+  named (x ∷ xs) [] same inside = absurd (none_longer (f x) (map f xs) (sym same))
+  named (x ∷ xs) (y ∷ ys) same (zero, lt, is) = (0, x, omega arith, refl, at_head (f x) (Some y) (map f xs) (map Some ys) same ∙ ap Some is)
+  named (x ∷ xs) (y ∷ ys) same (suc k, lt, is) =
+      let rest = named xs ys (at_tail (f x) (Some y) (map f xs) (map Some ys) same) (k, omega (arith, lt), is) in
+      let lt = rest.2 in (suc rest.0, rest.1, omega (arith, lt), rest.3, rest.4)
+
+  pub placed : (xs : List A) (ys : List ℕ) → map f xs ≡ map Some ys → Any (λ x. f x ≡ Some v) xs → Contains ys v
+  placed [] ys same found = absurd (omega (arith, found.2))
+  placed (x ∷ xs) [] same found = absurd (none_longer (f x) (map f xs) (sym same))
+  placed (x ∷ xs) (y ∷ ys) same (zero, z, lt, is, e) = (0, omega arith, some_is y v (sym (at_head (f x) (Some y) (map f xs) (map Some ys) same) ∙ ap f is ∙ e))
+  placed (x ∷ xs) (y ∷ ys) same (suc k, z, lt, is, e) =
+      let rest = placed xs ys (at_tail (f x) (Some y) (map f xs) (map Some ys) same) (k, z, omega (arith, lt), is, e) in
+      let lt = rest.1 in (suc rest.0, omega (arith, lt), rest.2)
+
+-- the packages of an error
+pub missing_at : (g : TableValue) (ids : List Text) (k : ℕ) (id : Text) (error : Error) → k < length ids → get_or ids k id ≡ id → IsUnknown g id × (error ≡ UnknownPackageId) → IsMissing g ids error
+missing_at g ids k id error lt is unknown = inr (unknown.1, (k, id, lt, is, unknown.0))
+
+-- what holds of a good answer, by what holds of it
+pub ok_more : {T E : Type 0} {P Q : T → Type 0} (r : Result T E) → ((x : T) → P x → Q x) → IfOk r P → IfOk r Q
+ok_more (Ok x) more h = more x h
+ok_more (Err e) more h = h
+
+-- what is in a list of one
+pub one_alone : (x v : ℕ) → Contains (x ∷ []) v ↔ (v ≡ x)
+one_alone x v = (λ h. ⊎_elim (λ is. sym is) (λ later. absurd (Contains-none v later)) (Contains-cons_cases x [] v h), λ is. subst (Contains (x ∷ [])) (sym is) (Contains-first x []))
+
+-- what holds of all that is read in a list
+pub unmapped : {X Y : Type 0} (P : Y → Type 0) (f : X → Y) (xs : List X) → All P (map f xs) → All (λ x. P (f x)) xs
+unmapped P f xs h k d lt = subst P (get_or-map f xs k d (f d) lt) (h k (f d) (subst (λ n. k < n) (sym (length-map xs f)) lt))

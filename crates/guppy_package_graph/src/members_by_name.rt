@@ -1,0 +1,48 @@
+ghost use Rattle.std.specs.Prelude.{◌<◌, All, length};
+
+use crate::package_graph::PackageGraph;
+use crate::package_metadata::PackageMetadata;
+use guppy_workspace_members::name_at;
+
+/// Members of a workspace with their names, one after the other.
+#[derive(Clone, Copy)]
+pub struct MembersByName<'g> {
+    graph: &'g PackageGraph,
+    places: &'g [usize],
+    ghost in_range: { All (λ v. v < length graph.now.packages) places.now },
+}
+
+impl<'g> MembersByName<'g> {
+    ghost use Rattle.std.specs.Prelude.{◌≡◌};
+    ghost use Rattle.guppy_package_graph.specs.MemberViews.{called_graph_of, called_places_left};
+
+    pub(crate) fn of(graph: &'g PackageGraph, places: &'g [usize]) -> MembersByName<'g>
+        requires { All (λ v. v < length graph.now.packages) places.now }
+        ensures graph { called_graph_of result ≡ graph.entry.now }
+        ensures places { called_places_left result ≡ places.entry.now }
+    {
+        MembersByName { graph, places }
+    }
+}
+
+impl<'g> Iterator for MembersByName<'g> {
+    type Item = (&'g str, PackageMetadata<'g>);
+
+    ghost use Rattle.std.specs.Iterator.{YieldsFirstBy, item_count};
+    ghost use Rattle.guppy_package_graph.specs.MemberViews.{all_names_left, seen_with};
+
+    ghost next_gives = { YieldsFirstBy seen_with all_names_left };
+
+    ghost remaining = { item_count all_names_left };
+
+    fn next(&mut self) -> Option<(&'g str, PackageMetadata<'g>)> {
+        let (first, others) = self.places.split_first()?;
+        self.places = others;
+        let graph = self.graph;
+        Some((name_at(graph.table(), *first), graph.metadata_at(*first)))
+    }
+
+    fn size_hint(&self) -> (usize, Option<usize>) {
+        (self.places.len(), Some(self.places.len()))
+    }
+}

@@ -1,0 +1,48 @@
+ghost use Rattle.std.specs.Prelude.{◌<◌, All, length};
+
+use crate::package_graph::PackageGraph;
+use crate::package_metadata::PackageMetadata;
+use guppy_workspace_members::path_at;
+
+/// Members of a workspace with their paths, one after the other.
+#[derive(Clone, Copy)]
+pub struct MembersByPath<'g> {
+    graph: &'g PackageGraph,
+    places: &'g [usize],
+    ghost in_range: { All (λ v. v < length graph.now.packages) places.now },
+}
+
+impl<'g> MembersByPath<'g> {
+    ghost use Rattle.std.specs.Prelude.{◌≡◌};
+    ghost use Rattle.guppy_package_graph.specs.MemberViews.{path_graph_of, path_places_left};
+
+    pub(crate) fn of(graph: &'g PackageGraph, places: &'g [usize]) -> MembersByPath<'g>
+        requires { All (λ v. v < length graph.now.packages) places.now }
+        ensures graph { path_graph_of result ≡ graph.entry.now }
+        ensures places { path_places_left result ≡ places.entry.now }
+    {
+        MembersByPath { graph, places }
+    }
+}
+
+impl<'g> Iterator for MembersByPath<'g> {
+    type Item = (&'g str, PackageMetadata<'g>);
+
+    ghost use Rattle.std.specs.Iterator.{YieldsFirstBy, item_count};
+    ghost use Rattle.guppy_package_graph.specs.MemberViews.{all_paths_left, seen_with};
+
+    ghost next_gives = { YieldsFirstBy seen_with all_paths_left };
+
+    ghost remaining = { item_count all_paths_left };
+
+    fn next(&mut self) -> Option<(&'g str, PackageMetadata<'g>)> {
+        let (first, others) = self.places.split_first()?;
+        self.places = others;
+        let graph = self.graph;
+        Some((path_at(graph.table(), *first), graph.metadata_at(*first)))
+    }
+
+    fn size_hint(&self) -> (usize, Option<usize>) {
+        (self.places.len(), Some(self.places.len()))
+    }
+}

@@ -1,0 +1,182 @@
+//! The graph of packages, and what it says of each.
+
+ghost use Rattle.std.specs.Prelude.{◌≡◌, ◌<◌, IfErr, IfOk, Ok, length};
+ghost use Rattle.package_rules.specs.Kept.{AreKept};
+ghost use Rattle.guppy_package_table.specs.Refusals.{IsRefusal};
+ghost use Rattle.guppy_package_table.specs.Tables.{IsTableOf, id_at, ids_of, numbered_links};
+ghost use Rattle.numbered_graph.specs.Links.{near_at};
+ghost use Rattle.guppy_workspace_members.specs.Members.{AreByName, AreByPath};
+ghost use Rattle.guppy_package_graph.specs.AllViews.{all_graph_of, first_left};
+ghost use Rattle.guppy_package_graph.specs.Finding.{FindsPlace, FindsPackage};
+ghost use Rattle.guppy_package_graph.specs.WorkspaceViews.{workspace_of};
+ghost use Rattle.guppy_package_graph.specs.Views.{graph_of, place_of, number_of, link_graph_of};
+
+use crate::all_packages::AllPackages;
+use crate::package_link::PackageLink;
+use crate::package_metadata::PackageMetadata;
+use crate::workspace::Workspace;
+use guppy_package_parts::{Error, LinkRow, PackageId, PackageRow, WorkspaceRow};
+use guppy_package_table::{PackageGraphError, PackageTable};
+use guppy_workspace_members::{MemberOrders, member_orders};
+use numbered_graph::Direction;
+use std::alloc::Global;
+use std::marker::Model;
+
+/// The packages of a workspace and the links between them: the rows of a record that keeps the rules
+/// on packages, links and members.
+#[derive(Drop)]
+pub struct PackageGraph {
+    table: PackageTable,
+    members: MemberOrders,
+}
+
+impl Model for PackageGraph {
+    ghost use Rattle.guppy_package_table.specs.Tables.{TableValue};
+    ghost use Rattle.guppy_workspace_members.specs.Members.{AreByName, AreByPath};
+
+    ghost Value = { TableValue };
+
+    ghost view = { λ g. g.table };
+
+    ghost invariant = { λ g. AreByPath g.table g.members.by_path.items × AreByName g.table g.members.by_name.items };
+}
+
+impl PackageGraph {
+    /// The graph of these rows, or the first rule on packages, links and members that they break, at
+    /// its first place. Takes time in proportion to packages and links, up to sorting.
+    pub fn from_records(
+        alloc: Global,
+        packages: Vec<PackageRow>,
+        links: Vec<LinkRow>,
+        workspace: WorkspaceRow,
+    ) -> Result<PackageGraph, PackageGraphError>
+        ensures built { IfOk result (λ g. AreKept packages.items links.items workspace × IsTableOf packages.items links.items workspace g) }
+        ensures refused { IfErr result (IsRefusal packages.items links.items workspace) }
+    {
+        let table = PackageTable::from_records(alloc, packages, links, workspace)?;
+        match member_orders(alloc, &table) {
+            Ok(members) => Ok(PackageGraph { table, members }),
+            Err(_) => Err(PackageGraphError::Memory),
+        }
+    }
+
+    /// The rows with what is found in them at once.
+    pub(crate) fn table(&self) -> &PackageTable
+        ensures { result.now ≡ self.now }
+    {
+        &self.table
+    }
+
+    /// The places of the members, ascending by path.
+    pub(crate) fn members_by_path(&self) -> &[usize]
+        ensures { AreByPath self.now result.now }
+    {
+        &self.members.by_path
+    }
+
+    /// The places of the members, ascending by name.
+    pub(crate) fn members_by_name(&self) -> &[usize]
+        ensures { AreByName self.now result.now }
+    {
+        &self.members.by_name
+    }
+
+    /// The rows of the links, in the order of the record.
+    pub fn link_rows(&self) -> &[LinkRow]
+        ensures rows { result.now ≡ self.now.links }
+    {
+        self.table.links()
+    }
+
+    /// The workspace.
+    pub fn workspace(&self) -> Workspace<'_>
+        ensures graph { workspace_of result ≡ self.now }
+    {
+        Workspace::of(self)
+    }
+
+    /// The ids of the packages, in the order of the record.
+    pub fn package_ids(&self) -> &[PackageId]
+        ensures ids { result.now ≡ ids_of self.now.packages }
+    {
+        self.table.ids()
+    }
+
+    /// The packages, in the order of the record.
+    pub fn packages(&self) -> AllPackages<'_>
+        ensures graph { all_graph_of result ≡ self.now }
+        ensures first { first_left result ≡ 0 }
+    {
+        AllPackages::of(self)
+    }
+
+    /// How many packages there are.
+    pub fn package_count(&self) -> usize
+        ensures count { result ≡ length self.now.packages }
+    {
+        self.table.packages().len()
+    }
+
+    /// How many links there are.
+    pub fn link_count(&self) -> usize
+        ensures count { result ≡ length self.now.links }
+    {
+        self.table.links().len()
+    }
+
+    /// What the graph says of the package with an id.
+    pub fn metadata(&self, package_id: &PackageId) -> Result<PackageMetadata<'_>, Error>
+        ensures found { FindsPackage self.now package_id.now result }
+    {
+        let place = self.place_of(package_id)?;
+        Ok(self.metadata_at(place))
+    }
+
+    pub(crate) fn place_of(&self, package_id: &PackageId) -> Result<usize, Error>
+        ensures { FindsPlace self.now package_id.now result }
+    {
+        match self.table.find(package_id) {
+            Some(place) => Ok(place),
+            None => Err(Error::UnknownPackageId),
+        }
+    }
+
+    pub(crate) fn metadata_at(&self, place: usize) -> PackageMetadata<'_>
+        requires { place < length self.now.packages }
+        ensures graph { graph_of result ≡ self.now }
+        ensures place { place_of result ≡ place }
+    {
+        PackageMetadata::at(self, place)
+    }
+
+    pub(crate) fn id_at(&self, place: usize) -> &PackageId
+        requires { place < length self.now.packages }
+        ensures { result.now ≡ id_at self.now place }
+    {
+        self.table.id_at(place)
+    }
+
+    pub(crate) fn link_at(&self, number: usize) -> PackageLink<'_>
+        requires { number < length self.now.links }
+        ensures graph { link_graph_of result ≡ self.now }
+        ensures number { number_of result ≡ number }
+    {
+        PackageLink::at(self, number)
+    }
+
+    /// The place from which the link with a number is followed.
+    pub(crate) fn end_of(&self, direction: Direction, number: usize) -> usize
+        requires { number < length self.now.links }
+        ensures end { result ≡ near_at direction (numbered_links self.now) number }
+        ensures within { result < length self.now.packages }
+    {
+        self.table.graph().near(direction, number)
+    }
+
+    /// Whether the graph keeps its own rules, as each graph does that was built.
+    pub fn verify(&self) -> Result<(), Error>
+        ensures kept { result ≡ Ok tt }
+    {
+        Ok(())
+    }
+}

@@ -1,0 +1,113 @@
+ghost use Rattle.std.specs.Prelude.{◌<◌, All, length};
+ghost use Rattle.numbered_graph.specs.ListedViews.{listed_left};
+
+use crate::package_graph::PackageGraph;
+use guppy_package_parts::PackageId;
+use numbered_graph::Listed;
+
+/// The ids of packages of a graph, one after the other.
+#[derive(Clone, Copy)]
+pub struct PackageIdsAt<'g> {
+    graph: &'g PackageGraph,
+    places: &'g [usize],
+    ghost in_range: { All (λ v. v < length graph.now.packages) places.now },
+}
+
+impl<'g> PackageIdsAt<'g> {
+    ghost use Rattle.std.specs.Prelude.{◌≡◌};
+    ghost use Rattle.guppy_package_graph.specs.IdViews.{id_places_left, ids_graph_of};
+
+    pub(crate) fn of(graph: &'g PackageGraph, places: &'g [usize]) -> PackageIdsAt<'g>
+        requires { All (λ v. v < length graph.now.packages) places.now }
+        ensures graph { ids_graph_of result ≡ graph.entry.now }
+        ensures places { id_places_left result ≡ places.entry.now }
+    {
+        PackageIdsAt { graph, places }
+    }
+}
+
+impl<'g> Iterator for PackageIdsAt<'g> {
+    type Item = &'g PackageId;
+
+    ghost use Rattle.std.specs.Iterator.{YieldsFirstBy, item_count};
+    ghost use Rattle.guppy_package_graph.specs.IdViews.{all_ids_left};
+
+    ghost next_gives = { YieldsFirstBy (λ id. id.now) all_ids_left };
+
+    ghost remaining = { item_count all_ids_left };
+
+    fn next(&mut self) -> Option<&'g PackageId> {
+        let (first, others) = self.places.split_first()?;
+        self.places = others;
+        Some(self.graph.id_at(*first))
+    }
+
+    fn size_hint(&self) -> (usize, Option<usize>) {
+        (self.places.len(), Some(self.places.len()))
+    }
+}
+
+impl ExactSizeIterator for PackageIdsAt<'_> {
+    fn len(&self) -> usize {
+        self.places.len()
+    }
+}
+
+/// The ids of the packages of a set in the order in which their graph lists them, from both ends.
+#[derive(Clone, Copy)]
+pub struct PackageIds<'a> {
+    graph: &'a PackageGraph,
+    listed: Listed<'a>,
+    ghost in_range: { All (λ v. v < length graph.now.packages) (listed_left listed) },
+}
+
+impl<'a> PackageIds<'a> {
+    ghost use Rattle.std.specs.Prelude.{◌≡◌};
+    ghost use Rattle.guppy_package_graph.specs.IdViews.{listed_graph_of, listed_places_left};
+
+    pub(crate) fn of(graph: &'a PackageGraph, listed: Listed<'a>) -> PackageIds<'a>
+        requires { All (λ v. v < length graph.now.packages) (listed_left listed) }
+        ensures graph { listed_graph_of result ≡ graph.entry.now }
+        ensures places { listed_places_left result ≡ listed_left listed.entry }
+    {
+        PackageIds { graph, listed }
+    }
+}
+
+impl<'a> Iterator for PackageIds<'a> {
+    type Item = &'a PackageId;
+
+    ghost use Rattle.std.specs.Iterator.{YieldsFirstBy, item_count};
+    ghost use Rattle.guppy_package_graph.specs.IdViews.{all_listed_left};
+
+    ghost next_gives = { YieldsFirstBy (λ id. id.now) all_listed_left };
+
+    ghost remaining = { item_count all_listed_left };
+
+    fn next(&mut self) -> Option<&'a PackageId> {
+        let place = self.listed.next()?;
+        Some(self.graph.id_at(place))
+    }
+
+    fn size_hint(&self) -> (usize, Option<usize>) {
+        (self.listed.len(), Some(self.listed.len()))
+    }
+}
+
+impl<'a> DoubleEndedIterator for PackageIds<'a> {
+    ghost use Rattle.std.specs.Iterator.{YieldsLastBy};
+    ghost use Rattle.guppy_package_graph.specs.IdViews.{all_listed_left};
+
+    ghost next_back_gives = { YieldsLastBy (λ id. id.now) all_listed_left };
+
+    fn next_back(&mut self) -> Option<&'a PackageId> {
+        let place = self.listed.next_back()?;
+        Some(self.graph.id_at(place))
+    }
+}
+
+impl ExactSizeIterator for PackageIds<'_> {
+    fn len(&self) -> usize {
+        self.listed.len()
+    }
+}

@@ -1,0 +1,71 @@
+ghost use Rattle.std.specs.Prelude.{◌≡◌, ◌<◌, Some, length, slice_get};
+ghost use Rattle.guppy_package_table.specs.PackageDetailsViews.{row_of};
+ghost use Rattle.guppy_package_table.specs.Tables.{ids_of};
+
+use crate::package_graph::PackageGraph;
+use guppy_package_parts::PackageId;
+use guppy_package_table::PackageDetails;
+use std::ops::Deref;
+
+/// A package of a graph. What its row says is told by the methods of `PackageDetails`.
+#[derive(Clone, Copy)]
+pub struct PackageMetadata<'g> {
+    graph: &'g PackageGraph,
+    place: usize,
+    details: PackageDetails<'g>,
+    ghost in_range: { place < length graph.now.packages },
+    ghost at_place: { slice_get graph.now.packages place ≡ Some (row_of details) },
+}
+
+impl<'g> PackageMetadata<'g> {
+    ghost use Rattle.guppy_package_graph.specs.Views.{graph_of, place_of};
+
+    pub(crate) fn at(graph: &'g PackageGraph, place: usize) -> PackageMetadata<'g>
+        requires { place < length graph.now.packages }
+        ensures graph { graph_of result ≡ graph.entry.now }
+        ensures place { place_of result ≡ place }
+    {
+        let details = graph.table().details(place);
+        PackageMetadata {
+            graph,
+            place,
+            details,
+        }
+    }
+
+    /// The package's id.
+    pub fn id(&self) -> &'g PackageId
+        ensures id { slice_get (ids_of (graph_of self.now).packages) (place_of self.now) ≡ Some result.now }
+    {
+        let graph = self.graph;
+        graph.table().id_at(self.place)
+    }
+
+    /// The graph of the package.
+    pub fn graph(&self) -> &'g PackageGraph
+        ensures graph { result.now ≡ graph_of self.now }
+    {
+        self.graph
+    }
+
+    pub(crate) fn place(&self) -> usize
+        ensures place { result ≡ place_of self.now }
+        ensures within { result < length (graph_of self.now).packages }
+    {
+        self.place
+    }
+}
+
+impl<'g> Deref for PackageMetadata<'g> {
+    type Target = PackageDetails<'g>;
+
+    ghost use Rattle.std.specs.Prelude.{◌≡◌, Some, slice_get};
+    ghost use Rattle.guppy_package_table.specs.PackageDetailsViews.{row_of};
+    ghost use Rattle.guppy_package_graph.specs.Views.{graph_of, place_of};
+
+    ghost deref_gives = { λ m d. slice_get (graph_of m).packages (place_of m) ≡ Some (row_of d) };
+
+    fn deref(&self) -> &PackageDetails<'g> {
+        &self.details
+    }
+}

@@ -1,0 +1,79 @@
+ghost use Rattle.std.specs.Prelude.{◌≡◌, ◌<◌, ◌==◌, All, length};
+ghost use Rattle.std.specs.List.{list_any};
+ghost use Rattle.guppy_package_graph.specs.Views.{packages_graph_of, places_left};
+
+use crate::package_graph::PackageGraph;
+use crate::packages_at::PackagesAt;
+use guppy_package_parts::DependencyDirection;
+use std::marker::Model;
+
+/// Packages of a graph from which links are followed in a direction.
+#[derive(Drop)]
+pub struct PackageQuery<'g> {
+    graph: &'g PackageGraph,
+    direction: DependencyDirection,
+    initials: Vec<usize>,
+}
+
+impl<'g> Model for PackageQuery<'g> {
+    ghost use Rattle.std.specs.Prelude.{◌<◌, All, length};
+    ghost use Rattle.guppy_package_graph.specs.Queries.{QueryValue};
+
+    ghost Value = { QueryValue };
+
+    ghost view = { λ q. record { graph = q.graph.now; direction = q.direction; initials = q.initials.items } };
+
+    ghost invariant = { λ q. All (λ v. v < length q.graph.now.packages) q.initials.items };
+}
+
+impl<'g> PackageQuery<'g> {
+    pub(crate) fn of(
+        graph: &'g PackageGraph,
+        direction: DependencyDirection,
+        initials: Vec<usize>,
+    ) -> PackageQuery<'g>
+        requires { All (λ v. v < length graph.now.packages) initials.items }
+        ensures { result ≡ record { graph = graph.entry.now; direction = direction; initials = initials.items } }
+    {
+        PackageQuery {
+            graph,
+            direction,
+            initials,
+        }
+    }
+
+    /// The graph that is asked.
+    pub fn graph(&self) -> &'g PackageGraph
+        ensures graph { result.now ≡ self.now.graph }
+    {
+        self.graph
+    }
+
+    /// The direction in which links are followed.
+    pub fn direction(&self) -> DependencyDirection
+        ensures direction { result ≡ self.now.direction }
+    {
+        self.direction
+    }
+
+    /// The packages from which links are followed, each once in the order of the record.
+    pub fn initials(&self) -> PackagesAt<'_>
+        ensures graph { packages_graph_of result ≡ self.now.graph }
+        ensures initials { places_left result ≡ self.now.initials }
+    {
+        PackagesAt::of(self.graph, &self.initials)
+    }
+
+    pub(crate) fn starts(&self) -> &[usize]
+        ensures value { result.now ≡ self.now.initials }
+        ensures within { All (λ v. v < length self.now.graph.packages) result.now }
+    {
+        &self.initials
+    }
+
+    pub(crate) fn starts_from(&self, place: usize) -> bool
+        ensures { result ≡ list_any (λ v. v == place) self.now.initials }
+    {
+        self.initials.iter().any(|initial| *initial == place)
+    }
+}

@@ -1,0 +1,65 @@
+ghost use Rattle.std.specs.Prelude.{◌<◌, All, length};
+
+use crate::package_graph::PackageGraph;
+use crate::package_metadata::PackageMetadata;
+
+/// Packages of a graph, one after the other.
+#[derive(Clone, Copy)]
+pub struct PackagesAt<'g> {
+    graph: &'g PackageGraph,
+    places: &'g [usize],
+    ghost in_range: { All (λ v. v < length graph.now.packages) places.now },
+}
+
+impl<'g> PackagesAt<'g> {
+    ghost use Rattle.std.specs.Prelude.{◌≡◌};
+    ghost use Rattle.guppy_package_graph.specs.Views.{packages_graph_of, places_left};
+
+    pub(crate) fn of(graph: &'g PackageGraph, places: &'g [usize]) -> PackagesAt<'g>
+        requires { All (λ v. v < length graph.now.packages) places.now }
+        ensures graph { packages_graph_of result ≡ graph.entry.now }
+        ensures places { places_left result ≡ places.entry.now }
+    {
+        PackagesAt { graph, places }
+    }
+}
+
+impl<'g> Iterator for PackagesAt<'g> {
+    type Item = PackageMetadata<'g>;
+
+    ghost use Rattle.std.specs.Iterator.{YieldsFirstBy, item_count};
+    ghost use Rattle.guppy_package_graph.specs.Views.{all_left, seen};
+
+    ghost next_gives = { YieldsFirstBy seen all_left };
+
+    ghost remaining = { item_count all_left };
+
+    fn next(&mut self) -> Option<PackageMetadata<'g>> {
+        let (first, others) = self.places.split_first()?;
+        self.places = others;
+        Some(self.graph.metadata_at(*first))
+    }
+
+    fn size_hint(&self) -> (usize, Option<usize>) {
+        (self.places.len(), Some(self.places.len()))
+    }
+}
+
+impl<'g> DoubleEndedIterator for PackagesAt<'g> {
+    ghost use Rattle.std.specs.Iterator.{YieldsLastBy};
+    ghost use Rattle.guppy_package_graph.specs.Views.{all_left, seen};
+
+    ghost next_back_gives = { YieldsLastBy seen all_left };
+
+    fn next_back(&mut self) -> Option<PackageMetadata<'g>> {
+        let (last, others) = self.places.split_last()?;
+        self.places = others;
+        Some(self.graph.metadata_at(*last))
+    }
+}
+
+impl ExactSizeIterator for PackagesAt<'_> {
+    fn len(&self) -> usize {
+        self.places.len()
+    }
+}

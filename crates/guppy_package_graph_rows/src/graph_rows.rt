@@ -1,0 +1,85 @@
+use crate::details::tell_package;
+use crate::members::tell_members;
+use crate::resolves::tell_resolves;
+use crate::sets::tell_sets;
+use crate::whole_graph::tell_whole_graph;
+use guppy_package_graph::PackageGraph;
+use guppy_package_table::PackageGraphError;
+use record_files::read_record;
+use row_program::{Answers, Row, RowFault, RowRunner};
+use std::alloc::Global;
+use workspace_record::WorkspaceRecord;
+
+/// Rows of graphs. A row has a `record`, and where they are asked for `starts`, `direction` and
+/// `refused` (names of links that a closure refuses), `link` (a number), `package`, `target`, `set`,
+/// `other`, `wanted`, `unwanted` (names), `paths` and `names`.
+#[derive(Drop)]
+pub(crate) struct GraphRows;
+
+impl RowRunner for GraphRows {
+    fn inputs(&self) -> &'static [&'static str] {
+        &[
+            "record",
+            "starts",
+            "direction",
+            "refused",
+            "link",
+            "package",
+            "target",
+            "set",
+            "other",
+            "paths",
+            "names",
+            "wanted",
+            "unwanted",
+        ]
+    }
+
+    fn run_row(
+        &mut self,
+        alloc: Global,
+        row: Row<'_>,
+        answers: &mut Answers,
+    ) -> Result<(), RowFault> {
+        let record = record_of(alloc, row)?;
+        match graph_of(alloc, record) {
+            Ok(graph) => tell_graph(alloc, row, &graph, answers),
+            Err(error) => answers.push("built", format!(in alloc; "{error}")?),
+        }
+    }
+}
+
+fn record_of(alloc: Global, row: Row<'_>) -> Result<WorkspaceRecord, RowFault> {
+    let Some(value) = row.get("record") else {
+        return Err(RowFault::Key("record"));
+    };
+    let text = value.to_string(alloc)?;
+    match read_record(alloc, text.as_bytes()) {
+        Ok(record) => Ok(record),
+        Err(error) => Err(RowFault::Refused(format!(in alloc; "{error}")?)),
+    }
+}
+
+fn graph_of(alloc: Global, record: WorkspaceRecord) -> Result<PackageGraph, PackageGraphError> {
+    let (packages, links, workspace) = (record.packages, record.links, record.workspace);
+    PackageGraph::from_records(alloc, packages, links, workspace)
+}
+
+fn tell_graph(
+    alloc: Global,
+    row: Row<'_>,
+    graph: &PackageGraph,
+    answers: &mut Answers,
+) -> Result<(), RowFault> {
+    let (packages, links) = (graph.package_count(), graph.link_count());
+    let rows = graph.link_rows().len();
+    let is_kept = graph.verify().is_ok();
+    let built = format!(in alloc; "{packages} packages, {links} links")?;
+    answers.push("built", built)?;
+    answers.push("kept", format!(in alloc; "{rows} links, {is_kept}")?)?;
+    tell_resolves(alloc, row, graph, answers)?;
+    tell_sets(alloc, row, graph, answers)?;
+    tell_members(alloc, row, graph, answers)?;
+    tell_whole_graph(alloc, row, graph, answers)?;
+    tell_package(alloc, row, graph, answers)
+}

@@ -1,0 +1,55 @@
+//! Graphs that are read from records.
+
+use guppy_package_graph::PackageGraph;
+use guppy_package_parts::PackageId;
+use record_files::read_record;
+use std::alloc::{AllocError, Global};
+use std::test::Fail;
+
+/// Three packages; a depends on b and c, and b on c.
+pub(crate) const TRIANGLE: &str = r#"{
+    "packages": [
+        {"id": "a", "name": "a", "version": "1.0.0"},
+        {"id": "b", "name": "b", "version": "1.0.0"},
+        {"id": "c", "name": "c", "version": "1.0.0"}
+    ],
+    "links": [
+        {"from": "a", "to": "b", "name": "b", "lines": [{}]},
+        {"from": "a", "to": "c", "name": "c", "lines": [{}]},
+        {"from": "b", "to": "c", "name": "c", "lines": [{}]}
+    ],
+    "workspace": {"members": []}
+}"#;
+
+/// The same packages, where c depends on a.
+pub(crate) const TURNED: &str = r#"{
+    "packages": [
+        {"id": "a", "name": "a", "version": "2.0.0"},
+        {"id": "b", "name": "b", "version": "2.0.0"},
+        {"id": "c", "name": "c", "version": "2.0.0"}
+    ],
+    "links": [{"from": "c", "to": "a", "name": "a", "lines": [{}]}],
+    "workspace": {"members": []}
+}"#;
+
+/// Two of the packages.
+pub(crate) const FEWER: &str = r#"{
+    "packages": [
+        {"id": "a", "name": "a", "version": "1.0.0"},
+        {"id": "b", "name": "b", "version": "1.0.0"}
+    ],
+    "links": [],
+    "workspace": {"members": []}
+}"#;
+
+pub(crate) fn graph_of(alloc: Global, text: &str) -> Result<PackageGraph, Fail> {
+    let record = read_record(alloc, text.as_bytes())?;
+    let (packages, links, workspace) = (record.packages, record.links, record.workspace);
+    let graph = PackageGraph::from_records(alloc, packages, links, workspace)?;
+    Ok(graph)
+}
+
+pub(crate) fn id_of(alloc: Global, text: &str) -> Result<PackageId, AllocError> {
+    let text = String::from_str(alloc, text)?;
+    Ok(PackageId::new(text))
+}
