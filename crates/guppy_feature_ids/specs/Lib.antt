@@ -1,0 +1,4 @@
+pub mod Kinds
+pub mod LabelViews
+pub mod Printing
+pub mod IdViews
