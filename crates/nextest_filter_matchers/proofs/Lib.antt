@@ -1,0 +1,4 @@
+pub mod PlaceFacts
+pub mod ReadingFacts
+pub mod SuitFacts
+pub mod PrintFacts

@@ -1,0 +1,9 @@
+pub mod Globs
+pub mod GlobViews
+pub mod Places
+pub mod GlobReading
+pub mod ReadingViews
+pub mod Matchers
+pub mod Identities
+pub mod Printing
+pub mod Laws

@@ -1,0 +1,152 @@
+ghost use Rattle.std.specs.Prelude.{◌≡◌, IfOk};
+ghost use Rattle.nextest_filter_matchers.specs.GlobViews.{glob_of, set_of, token_of};
+ghost use Rattle.nextest_filter_matchers.specs.Identities.{glob_eq, set_eq, token_eq};
+
+use std::alloc::{AllocError, Global};
+
+/// What one character of a name may be.
+#[derive(Debug, Drop)]
+pub(crate) enum CharacterSet {
+    Character(char),
+    Any,
+    /// The characters of the ranges, or all others.
+    Class {
+        is_complement: bool,
+        ranges: Vec<(char, char)>,
+    },
+}
+
+/// What a part of a name may be.
+#[derive(Debug, Drop)]
+pub(crate) enum Token {
+    /// One character of a set.
+    One(CharacterSet),
+    /// Any characters: `*`.
+    AnyText,
+    /// Nothing, or any characters and a slash: `**/` at the front.
+    LeadingDirectories,
+    /// A slash, and then nothing or any characters and a slash: `/**/`.
+    InnerDirectories,
+    /// A slash and any characters: `/**` at the end.
+    TrailingDirectories,
+}
+
+/// What a name may be.
+#[derive(Debug, Drop)]
+pub(crate) enum Pattern {
+    Empty,
+    Single(Token),
+    Then(Box<Pattern>, Box<Pattern>),
+    Either(Box<Pattern>, Box<Pattern>),
+}
+
+impl CharacterSet {
+    /// Whether both are made of the same ranges in the same order, or are the same otherwise.
+    fn is_same(&self, other: &CharacterSet) -> bool
+        ensures { result ≡ set_eq (set_of self.now) (set_of other.now) }
+    {
+        match (self, other) {
+            (CharacterSet::Character(c), CharacterSet::Character(d)) => c == d,
+            (CharacterSet::Any, CharacterSet::Any) => true,
+            (
+                CharacterSet::Class {
+                    is_complement,
+                    ranges,
+                },
+                CharacterSet::Class {
+                    is_complement: other_is,
+                    ranges: others,
+                },
+            ) => is_complement == other_is && ranges == others,
+            _ => false,
+        }
+    }
+
+    fn copy(&self, alloc: Global) -> Result<CharacterSet, AllocError>
+        ensures { IfOk result (λ c. set_of c ≡ set_of self.now) }
+    {
+        match self {
+            CharacterSet::Character(c) => Ok(CharacterSet::Character(*c)),
+            CharacterSet::Any => Ok(CharacterSet::Any),
+            CharacterSet::Class {
+                is_complement,
+                ranges,
+            } => {
+                let is_complement = *is_complement;
+                let ranges = Vec::from_slice(alloc, ranges.as_slice())?;
+                Ok(CharacterSet::Class {
+                    is_complement,
+                    ranges,
+                })
+            }
+        }
+    }
+}
+
+impl Token {
+    fn is_same(&self, other: &Token) -> bool
+        ensures { result ≡ token_eq (token_of self.now) (token_of other.now) }
+    {
+        match (self, other) {
+            (Token::One(set), Token::One(other)) => set.is_same(other),
+            (Token::AnyText, Token::AnyText) => true,
+            (Token::LeadingDirectories, Token::LeadingDirectories) => true,
+            (Token::InnerDirectories, Token::InnerDirectories) => true,
+            (Token::TrailingDirectories, Token::TrailingDirectories) => true,
+            _ => false,
+        }
+    }
+
+    fn copy(&self, alloc: Global) -> Result<Token, AllocError>
+        ensures { IfOk result (λ c. token_of c ≡ token_of self.now) }
+    {
+        match self {
+            Token::One(set) => {
+                let set = set.copy(alloc)?;
+                Ok(Token::One(set))
+            }
+            Token::AnyText => Ok(Token::AnyText),
+            Token::LeadingDirectories => Ok(Token::LeadingDirectories),
+            Token::InnerDirectories => Ok(Token::InnerDirectories),
+            Token::TrailingDirectories => Ok(Token::TrailingDirectories),
+        }
+    }
+}
+
+impl Pattern {
+    /// Whether both have the same tokens.
+    pub(crate) fn is_same(&self, other: &Pattern) -> bool
+        ensures { result ≡ glob_eq (glob_of self.now) (glob_of other.now) }
+    {
+        match (self, other) {
+            (Pattern::Empty, Pattern::Empty) => true,
+            (Pattern::Single(token), Pattern::Single(other)) => token.is_same(other),
+            (Pattern::Then(a, b), Pattern::Then(c, d)) => a.is_same(c) && b.is_same(d),
+            (Pattern::Either(a, b), Pattern::Either(c, d)) => a.is_same(c) && b.is_same(d),
+            _ => false,
+        }
+    }
+
+    /// An equal pattern in memory of its own.
+    pub(crate) fn copy(&self, alloc: Global) -> Result<Pattern, AllocError>
+        ensures { IfOk result (λ c. glob_of c ≡ glob_of self.now) }
+    {
+        match self {
+            Pattern::Empty => Ok(Pattern::Empty),
+            Pattern::Single(token) => {
+                let token = token.copy(alloc)?;
+                Ok(Pattern::Single(token))
+            }
+            Pattern::Then(first, second) => {
+                let first = Box::new(alloc, first.copy(alloc)?)?;
+                let second = Box::new(alloc, second.copy(alloc)?)?;
+                Ok(Pattern::Then(first, second))
+            }
+            Pattern::Either(one, other) => {
+                let one = Box::new(alloc, one.copy(alloc)?)?;
+                let other = Box::new(alloc, other.copy(alloc)?)?;
+                Ok(Pattern::Either(one, other))
+            }
+        }
+    }
+}

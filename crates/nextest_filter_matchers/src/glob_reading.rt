@@ -1,0 +1,299 @@
+//! How a glob is read from its text.
+
+ghost use Rattle.std.specs.Prelude.{◌≡◌, ◌+◌, ◌*◌, [], false, IfOk, length};
+ghost use Rattle.nextest_filter_matchers.specs.GlobReading.{class_at, class_of, class_piece, class_rest, character_piece, or_read, piece_of, then_read, past_directories, read_glob, read_part, tokens_from, Alternates, Tokens};
+ghost use Rattle.nextest_filter_matchers.specs.GlobViews.{glob_of};
+ghost use Rattle.nextest_filter_matchers.specs.ReadingViews.{class_outcome, outcome_of, piece_view, read_view};
+
+use crate::glob_error::GlobError;
+use crate::glob_pattern::{CharacterSet, Pattern, Token};
+use std::alloc::{AllocError, Global};
+
+/// The ranges of a class, and what follows it.
+#[derive(Drop)]
+pub(crate) enum ClassRead<'t> {
+    Closed(Vec<(char, char)>, &'t [char]),
+    Bad(GlobError),
+}
+
+/// What stands at the beginning of a text.
+#[derive(Drop)]
+pub(crate) enum Piece<'t> {
+    End,
+    Stands(Token, &'t [char]),
+    Open(&'t [char]),
+    Comma(&'t [char]),
+    Close(&'t [char]),
+    Bad(GlobError),
+}
+
+/// A pattern, and what follows it.
+#[derive(Drop)]
+pub(crate) enum PatternRead<'t> {
+    Read(Pattern, &'t [char]),
+    Bad(GlobError),
+}
+
+/// The rest of a class after its first character.
+fn class_after<'t>(
+    alloc: Global,
+    first: char,
+    text: &'t [char],
+) -> Result<ClassRead<'t>, AllocError>
+    ensures { IfOk result (λ r. class_outcome r ≡ class_rest [] first first false text.entry.now) }
+{
+    let mut ranges = Vec::new(alloc);
+    let mut rest = text;
+    let (mut low, mut high) = (first, first);
+    let mut is_drawn = false;
+    while let [c, tail @ ..] = rest {
+        let c = *c;
+        rest = tail;
+        if c == ']' {
+            ranges.push((low, high))?;
+            if is_drawn {
+                ranges.push(('-', '-'))?;
+            }
+            return Ok(ClassRead::Closed(ranges, rest));
+        }
+        if is_drawn {
+            if c < low {
+                return Ok(ClassRead::Bad(GlobError::InvalidRange));
+            }
+            high = c;
+            is_drawn = false;
+        } else if c == '-' {
+            is_drawn = true;
+        } else {
+            ranges.push((low, high))?;
+            (low, high) = (c, c);
+        }
+    }
+    Ok(ClassRead::Bad(GlobError::UnclosedClass))
+}
+
+/// A class after its bracket and its sign.
+fn class_in<'t>(
+    alloc: Global,
+    is_complement: bool,
+    text: &'t [char],
+) -> Result<Piece<'t>, AllocError>
+    ensures { IfOk result (λ p. piece_view p ≡ class_piece is_complement (class_of text.entry.now)) }
+{
+    let [first, rest @ ..] = text else {
+        return Ok(Piece::Bad(GlobError::UnclosedClass));
+    };
+    match class_after(alloc, *first, rest)? {
+        ClassRead::Closed(ranges, rest) => {
+            let set = CharacterSet::Class {
+                is_complement,
+                ranges,
+            };
+            Ok(Piece::Stands(Token::One(set), rest))
+        }
+        ClassRead::Bad(error) => Ok(Piece::Bad(error)),
+    }
+}
+
+/// A class after its bracket.
+fn class_piece_at<'t>(alloc: Global, text: &'t [char]) -> Result<Piece<'t>, AllocError>
+    ensures { IfOk result (λ p. piece_view p ≡ class_at text.entry.now) }
+{
+    let [sign, rest @ ..] = text else {
+        return Ok(Piece::Bad(GlobError::UnclosedClass));
+    };
+    if *sign == '!' || *sign == '^' {
+        let piece = class_in(alloc, true, rest)?;
+        return Ok(piece);
+    }
+    let piece = class_in(alloc, false, text)?;
+    Ok(piece)
+}
+
+/// What one character begins.
+fn character_at<'t>(alloc: Global, c: char, rest: &'t [char]) -> Result<Piece<'t>, AllocError>
+    ensures { IfOk result (λ p. piece_view p ≡ character_piece c rest.entry.now) }
+{
+    match c {
+        '?' => Ok(Piece::Stands(Token::One(CharacterSet::Any), rest)),
+        '*' => Ok(Piece::Stands(Token::AnyText, rest)),
+        '[' => {
+            let piece = class_piece_at(alloc, rest)?;
+            Ok(piece)
+        }
+        '{' => Ok(Piece::Open(rest)),
+        '}' => Ok(Piece::Close(rest)),
+        ',' => Ok(Piece::Comma(rest)),
+        _ => Ok(Piece::Stands(Token::One(CharacterSet::Character(c)), rest)),
+    }
+}
+
+/// The text without the stars of directories at its beginning.
+fn after_more_directories<'t>(text: &'t [char]) -> &'t [char]
+    ensures { result.now ≡ past_directories text.entry.now }
+{
+    let mut rest = text;
+    while let ['*', '*', '/', tail @ ..] = rest {
+        rest = tail;
+    }
+    rest
+}
+
+/// What begins the text, at the front of the glob or not.
+fn piece_at<'t>(alloc: Global, is_front: bool, text: &'t [char]) -> Result<Piece<'t>, AllocError>
+    ensures { IfOk result (λ p. piece_view p ≡ piece_of is_front text.entry.now) }
+{
+    if is_front && text.starts_with(&['*', '*', '/']) {
+        let rest = after_more_directories(&text[3..]);
+        return Ok(Piece::Stands(Token::LeadingDirectories, rest));
+    }
+    if text.starts_with(&['/', '*', '*', '/']) {
+        let rest = after_more_directories(&text[4..]);
+        return Ok(Piece::Stands(Token::InnerDirectories, rest));
+    }
+    if text.len() == 3 && text.starts_with(&['/', '*', '*']) {
+        return Ok(Piece::Stands(Token::TrailingDirectories, &[]));
+    }
+    match text {
+        [] => Ok(Piece::End),
+        [c, rest @ ..] => {
+            let piece = character_at(alloc, *c, rest)?;
+            Ok(piece)
+        }
+    }
+}
+
+/// The pattern, and then more of it.
+fn then_more<'t>(
+    alloc: Global,
+    pattern: Pattern,
+    more: PatternRead<'t>,
+) -> Result<PatternRead<'t>, AllocError>
+    ensures { IfOk result (λ r. outcome_of r ≡ then_read (glob_of pattern) (outcome_of more.entry)) }
+{
+    match more {
+        PatternRead::Read(more, rest) => {
+            let first = Box::new(alloc, pattern)?;
+            let second = Box::new(alloc, more)?;
+            Ok(PatternRead::Read(Pattern::Then(first, second), rest))
+        }
+        PatternRead::Bad(error) => Ok(PatternRead::Bad(error)),
+    }
+}
+
+/// The pattern, or another.
+fn or_more<'t>(
+    alloc: Global,
+    pattern: Pattern,
+    more: PatternRead<'t>,
+) -> Result<PatternRead<'t>, AllocError>
+    ensures { IfOk result (λ r. outcome_of r ≡ or_read (glob_of pattern) (outcome_of more.entry)) }
+{
+    match more {
+        PatternRead::Read(more, rest) => {
+            let one = Box::new(alloc, pattern)?;
+            let other = Box::new(alloc, more)?;
+            Ok(PatternRead::Read(Pattern::Either(one, other), rest))
+        }
+        PatternRead::Bad(error) => Ok(PatternRead::Bad(error)),
+    }
+}
+
+/// Reads tokens, at most so many, up to the end of the text or of the alternate that they stand in.
+#[cycle(reading)]
+fn tokens<'t>(
+    alloc: Global,
+    left: usize,
+    is_front: bool,
+    is_inside: bool,
+    text: &'t [char],
+) -> Result<PatternRead<'t>, AllocError>
+    ensures { IfOk result (λ r. outcome_of r ≡ read_part left (Tokens is_front is_inside) text.entry.now) }
+{
+    if left == 0 {
+        return Ok(PatternRead::Bad(GlobError::UnclosedAlternates));
+    }
+    let piece = piece_at(alloc, is_front, text)?;
+    let read = tokens_after(alloc, left - 1, is_inside, text, piece)?;
+    Ok(read)
+}
+
+/// Reads tokens from a piece on, with which the text begins.
+#[cycle(reading)]
+fn tokens_after<'t>(
+    alloc: Global,
+    left: usize,
+    is_inside: bool,
+    text: &'t [char],
+    piece: Piece<'t>,
+) -> Result<PatternRead<'t>, AllocError>
+    ensures { IfOk result (λ r. outcome_of r ≡ tokens_from (read_part left) is_inside text.entry.now (piece_view piece.entry)) }
+{
+    match piece {
+        Piece::End if is_inside => Ok(PatternRead::Bad(GlobError::UnclosedAlternates)),
+        Piece::End => Ok(PatternRead::Read(Pattern::Empty, &[])),
+        Piece::Stands(token, rest) => {
+            let more = tokens(alloc, left, false, is_inside, rest)?;
+            let read = then_more(alloc, Pattern::Single(token), more)?;
+            Ok(read)
+        }
+        Piece::Open(rest) => match alternates(alloc, left, rest)? {
+            PatternRead::Read(group, rest) => {
+                let more = tokens(alloc, left, false, is_inside, rest)?;
+                let read = then_more(alloc, group, more)?;
+                Ok(read)
+            }
+            PatternRead::Bad(error) => Ok(PatternRead::Bad(error)),
+        },
+        Piece::Comma(_) if is_inside => Ok(PatternRead::Read(Pattern::Empty, text)),
+        Piece::Comma(rest) => {
+            let comma = Token::One(CharacterSet::Character(','));
+            let more = tokens(alloc, left, false, false, rest)?;
+            let read = then_more(alloc, Pattern::Single(comma), more)?;
+            Ok(read)
+        }
+        Piece::Close(_) if is_inside => Ok(PatternRead::Read(Pattern::Empty, text)),
+        Piece::Close(_) => Ok(PatternRead::Bad(GlobError::UnopenedAlternates)),
+        Piece::Bad(error) => Ok(PatternRead::Bad(error)),
+    }
+}
+
+/// Reads alternates after a brace or a comma, up to the brace that closes them.
+#[cycle(reading)]
+fn alternates<'t>(
+    alloc: Global,
+    left: usize,
+    text: &'t [char],
+) -> Result<PatternRead<'t>, AllocError>
+    ensures { IfOk result (λ r. outcome_of r ≡ read_part left Alternates text.entry.now) }
+{
+    if left == 0 {
+        return Ok(PatternRead::Bad(GlobError::UnclosedAlternates));
+    }
+    match tokens(alloc, left - 1, false, true, text)? {
+        PatternRead::Read(pattern, rest) => match rest {
+            [',', rest @ ..] => {
+                let more = alternates(alloc, left - 1, rest)?;
+                let read = or_more(alloc, pattern, more)?;
+                Ok(read)
+            }
+            [_, rest @ ..] => Ok(PatternRead::Read(pattern, rest)),
+            [] => Ok(PatternRead::Bad(GlobError::UnclosedAlternates)),
+        },
+        PatternRead::Bad(error) => Ok(PatternRead::Bad(error)),
+    }
+}
+
+/// Reads a glob, or says why the text is none.
+pub(crate) fn read_pattern(
+    alloc: Global,
+    text: &[char],
+) -> Result<Result<Pattern, GlobError>, AllocError>
+    ensures { IfOk result (λ r. read_view r ≡ read_glob text.now) }
+{
+    let left = 2 * text.len() + 1;
+    match tokens(alloc, left, true, false, text)? {
+        PatternRead::Read(pattern, _) => Ok(Ok(pattern)),
+        PatternRead::Bad(error) => Ok(Err(error)),
+    }
+}

@@ -1,0 +1,20 @@
+//! What the matchers of filter texts say of names: globs with their tokens, and the four sorts of
+//! matchers. Beside these stands where a part of a text lies.
+
+#![tactic(auto)]
+
+mod escaped;
+mod generic_glob;
+mod glob_between;
+mod glob_error;
+mod glob_pattern;
+mod glob_places;
+mod glob_reading;
+pub mod laws;
+mod name_matcher;
+mod source_span;
+
+pub use crate::generic_glob::GenericGlob;
+pub use crate::glob_error::{GlobConstructError, GlobError};
+pub use crate::name_matcher::NameMatcher;
+pub use crate::source_span::SourceSpan;

@@ -1,0 +1,16 @@
+/// Where a part of a text stands, in bytes.
+#[derive(Clone, Copy, Debug, PartialEq, Eq, Hash)]
+pub struct SourceSpan {
+    pub offset: usize,
+    pub len: usize,
+}
+
+impl From<(usize, usize)> for SourceSpan {
+    ghost use Rattle.std.specs.Prelude.{◌≡◌};
+
+    ghost from_gives = { λ pair span. span ≡ record { offset = pair.0; len = pair.1 } };
+
+    fn from((offset, len): (usize, usize)) -> SourceSpan {
+        SourceSpan { offset, len }
+    }
+}
