@@ -1,0 +1,16 @@
+//! The faults of filter texts, with the operators and the kinds that they speak of.
+
+#![tactic(auto)]
+
+mod filterset_kind;
+mod operators;
+mod parse_error;
+mod platform;
+
+pub use crate::filterset_kind::{BannedPredicateReason, FiltersetKind};
+pub use crate::operators::{AndOperator, DifferenceOperator, NotOperator, OrOperator};
+pub use crate::parse_error::ParseSingleError;
+pub use crate::platform::BuildPlatform;
+pub use nextest_filter_matchers::{
+    GenericGlob, GlobConstructError, GlobError, NameMatcher, SourceSpan,
+};
