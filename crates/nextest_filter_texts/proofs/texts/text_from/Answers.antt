@@ -1,0 +1,64 @@
+use Rattle.std.proofs.Common.{◌++◌, ◌∙◌, inl, inr, sym, ap, subst, string_bytes, arith}
+use Rattle.std.proofs.lemmas.Bool.{false≢true, cases_Bool}
+use Rattle.std.specs.Char.{encode_utf8}
+use Rattle.nextest_filter_texts.specs.Texts.{ReadsText}
+use Rattle.nextest_filter_texts.proofs.TextFacts.{IsPart, run_between, part_ended, part_spoiled, escape_taken, boundary_after_backslash, within_text}
+use Rattle.nextest_filter_texts.proofs.texts.text_from.Goals as goal
+
+pub returns-then-is_whole-clause-whole : goal.returns-then-is_whole-clause-whole
+returns-then-is_whole-clause-whole c =
+    let text = c.args.text.now in
+    let end = c.plain_end-end.result in
+    let run = run_between text c.args.at c.loop-value.place end (string_bytes c.loop-value.value) c.plain_end-end.ensures.rises c.plain_end-end.ensures.plain (c.loop-value.invariant.part c.if-is_whole.true) in
+    let bytes = c.in_ok-push_str.ensures.bytes ∙ ap (λ t. string_bytes c.loop-value.value ++ t) c.range.ensures.value in
+    let ends = sym c.is_text_end.ensures ∙ c.if-is_text_end.true in
+    (subst (λ v. ReadsText text c.args.at v end) (sym bytes) (part_ended text c.args.at end _ ends run), c.loop-value.invariant.same c.if-is_whole.true)
+
+pub loop-value-preserved-in-Means : goal.loop-value-preserved-in-Means
+loop-value-preserved-in-Means c =
+    let text = c.args.text.now in
+    let end = c.plain_end-end.result in
+    let goes = sym c.is_text_end.ensures ∙ c.if-is_text_end.false in
+    let bytes = c.in_ok-push-in-Means.ensures.bytes ∙ ap (λ t. t ++ encode_utf8 c.in-Means.c) (c.in_ok-push_str.ensures.bytes ∙ ap (λ t. string_bytes c.loop-value.value ++ t) c.range.ensures.value) in
+    record {
+      low = omega (arith, c.in-Means.ensures.end.0, c.plain_end-end.ensures.rises, c.loop-value.invariant.low);
+      high = c.in-Means.ensures.end.1;
+      boundary = c.in-Means.ensures.end.2;
+      grows = c.loop-value.invariant.grows;
+      more = c.loop-value.invariant.more;
+      within = c.loop-value.invariant.within;
+      over = c.loop-value.invariant.over;
+      part = λ whole.
+          let run = run_between text c.args.at c.loop-value.place end (string_bytes c.loop-value.value) c.plain_end-end.ensures.rises c.plain_end-end.ensures.plain (c.loop-value.invariant.part whole) in
+          subst (λ v. IsPart text c.args.at c.in-Means.next v) (sym bytes) (escape_taken text c.args.at end c.in-Means.next c.in-Means.c _ c.plain_end-end.ensures.stops goes (sym c.in-Means.ensures.value) run);
+      same = c.loop-value.invariant.same;
+      fault = c.loop-value.invariant.fault;
+      unread = c.loop-value.invariant.unread;
+    }
+
+pub loop-value-preserved : goal.loop-value-preserved
+loop-value-preserved c =
+    let text = c.args.text.now in
+    let end = c.plain_end-end.result in
+    let goes = sym c.is_text_end.ensures ∙ c.if-is_text_end.false in
+    let reported = c.in_ok-report_escape-in-Invalid.ensures in
+    let inside = within_text text end goes in
+    record {
+      low = omega (arith, c.plain_end-end.ensures.rises, c.loop-value.invariant.low);
+      high = omega (arith, inside);
+      boundary = boundary_after_backslash text end c.utf8.text c.plain_end-end.ensures.stops goes;
+      grows = omega (arith, c.loop-value.invariant.grows, reported.grows);
+      more = omega (arith, c.loop-value.invariant.more, reported.others);
+      within = reported.within;
+      over = reported.over;
+      part = λ e. absurd (false≢true e);
+      same = λ e. absurd (false≢true e);
+      fault = λ _. reported.fault;
+      unread = λ _.
+          elim (cases_Bool c.loop-value.is_whole) [
+            | inl whole ↦
+                let run = run_between text c.args.at c.loop-value.place end (string_bytes c.loop-value.value) c.plain_end-end.ensures.rises c.plain_end-end.ensures.plain (c.loop-value.invariant.part whole) in
+                part_spoiled text c.args.at end _ c.plain_end-end.ensures.stops goes (sym c.in-Invalid.ensures.value) run
+            | inr spoiled ↦ c.loop-value.invariant.unread spoiled
+          ];
+    }

@@ -1,0 +1,13 @@
+//! Laws that hold of all texts.
+
+ghost use Rattle.nextest_filter_texts.specs.Texts.{PatternsReadOnce, TextsReadOnce};
+
+/// From one place on, a text is read in one way alone.
+pub fn texts_read_once()
+    ensures { TextsReadOnce }
+{}
+
+/// From one place on, a pattern is read in one way alone.
+pub fn patterns_read_once()
+    ensures { PatternsReadOnce }
+{}

@@ -1,0 +1,2 @@
+pub mod BlankFacts
+pub mod EndFacts

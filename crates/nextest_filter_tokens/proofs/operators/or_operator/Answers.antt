@@ -1,0 +1,8 @@
+use Rattle.std.proofs.Common.{sym, subst}
+use Rattle.nextest_filter_tokens.specs.Operators.{FoundEndsWithin}
+use Rattle.nextest_filter_tokens.proofs.EndFacts.{or_ends}
+use Rattle.nextest_filter_tokens.proofs.operators.or_operator.Goals as goal
+
+pub returns-clause-end : goal.returns-clause-end
+returns-clause-end c =
+    subst (FoundEndsWithin c.args.text.now c.args.at) (sym c.or_found.ensures) (or_ends c.args.text.now c.utf8.text c.args.at)

@@ -1,0 +1,62 @@
+ghost use Rattle.std.specs.Prelude.{◌≡◌, ◌<◌, true};
+ghost use Rattle.nextest_filter_tokens.specs.FaultLists.{others};
+
+use nextest_filter_faults::{ParseSingleError, SourceSpan};
+use std::alloc::{AllocError, Global};
+
+/// Faults in the order in which they were found. Once it is closed, no more are taken.
+#[derive(Debug, Drop)]
+pub struct FaultList {
+    pub list: Vec<ParseSingleError>,
+    pub is_closed: bool,
+    ghost has_cause: { is_closed ≡ true → 0 < others list.items },
+}
+
+impl FaultList {
+    ghost use Rattle.std.specs.Prelude.{◌≡◌, ◌+◌, ◌≤◌, ◌<◌, ℕ, List, [], false, true, IfOk, OnOk, vec_len};
+    ghost use Rattle.nextest_filter_faults.specs.Faults.{is_refusal};
+    ghost use Rattle.nextest_filter_tokens.specs.FaultLists.{AreOver, AreWithin, LiesOver, LiesWithin, others};
+
+    /// No faults.
+    pub fn new(alloc: Global) -> FaultList
+        ensures { result.list.items ≡ [] }
+    {
+        let list = Vec::new(alloc);
+        FaultList {
+            list,
+            is_closed: false,
+        }
+    }
+
+    /// Adds a fault at the end, unless the list is closed.
+    pub fn report(&mut self, fault: ParseSingleError) -> Result<(), AllocError>
+        ensures grows { OnOk result (vec_len self.old.list ≤ vec_len self.new.list) }
+        ensures some { OnOk result (0 < vec_len self.new.list) }
+        ensures other { OnOk result (is_refusal fault ≡ false → 0 < others self.new.list.items) }
+        ensures refusal { OnOk result (is_refusal fault ≡ true → others self.new.list.items ≡ others self.old.list.items) }
+        ensures rest { OnOk result (others self.old.list.items ≤ others self.new.list.items) }
+        ensures within { (n : ℕ) → AreWithin n self.old.list.items → LiesWithin n fault → AreWithin n self.new.list.items }
+        ensures over { (text : List ℕ) → AreOver text self.old.list.items → LiesOver text fault → AreOver text self.new.list.items }
+        ensures same_over { (text : List ℕ) → AreOver text self.old.list.items → is_refusal fault ≡ false → AreOver text self.new.list.items }
+    {
+        if self.is_closed {
+            return Ok(());
+        }
+        self.list.push(fault)?;
+        Ok(())
+    }
+
+    /// Adds a fault at the end, and takes no more after it.
+    pub fn close(&mut self, span: SourceSpan) -> Result<(), AllocError>
+        ensures grows { OnOk result (vec_len self.old.list ≤ vec_len self.new.list) }
+        ensures other { OnOk result (0 < others self.new.list.items) }
+        ensures rest { OnOk result (others self.old.list.items ≤ others self.new.list.items) }
+        ensures closed { OnOk result (self.new.is_closed ≡ true) }
+        ensures within { (n : ℕ) → AreWithin n self.old.list.items → span.offset + span.len ≤ n → AreWithin n self.new.list.items }
+        ensures over { (text : List ℕ) → AreOver text self.old.list.items → AreOver text self.new.list.items }
+    {
+        self.report(ParseSingleError::UnsupportedExpression(span))?;
+        self.is_closed = true;
+        Ok(())
+    }
+}
