@@ -1,0 +1,3 @@
+pub mod SignFacts
+pub mod ReadFacts
+pub mod OnceFacts

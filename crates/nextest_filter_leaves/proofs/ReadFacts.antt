@@ -1,0 +1,34 @@
+-- Leaves and their parts are read in one way alone.
+use Rattle.std.proofs.Common.{◌≡◌, ℕ, ◌+◌, ◌<◌, List, length, sym, ◌∙◌, ap, subst, arith, inl, inr}
+use Rattle.std.proofs.lemmas.Bool.{false≢true, cases_lt}
+use Rattle.nextest_filter_tokens.specs.Patterns.{ReadsPattern}
+use Rattle.nextest_filter_texts.specs.Texts.{ReadsText}
+use Rattle.nextest_filter_texts.proofs.TextFacts.{read_once}
+use Rattle.nextest_filter_texts.proofs.PatternFacts.{patterns_read_once}
+use Rattle.nextest_filter_leaves.specs.LeafGrammar.{IsUpToClose, PatternFrom, ReadsSome}
+use Rattle.nextest_filter_matchers.specs.Matchers.{Matcher}
+
+module _ (text : List ℕ) where
+  -- a text that is read is the one that is not empty, if one is
+  pub some_is : {i j k : ℕ} {xs ys : List ℕ} → ReadsText text i xs j → ReadsSome text i ys k → (xs ≡ ys) × (j ≡ k) × (0 < length xs)
+  some_is {xs = xs} r (s, some) =
+      let w = read_once text r s in
+      (w.0, w.1, subst (λ zs. 0 < length zs) (sym w.0) some)
+
+  -- a pattern that is read is the matcher's, if one is read
+  pub pattern_is : {i j k : ℕ} {xs : List ℕ} {m : Matcher} → ReadsPattern text i xs j → PatternFrom text i m k → k ≡ j + 1
+  pattern_is {i = i} {j = j} {xs = xs} r from =
+      let w = patterns_read_once text i j from.end xs from.bytes r from.reads in
+      from.after ∙ ap (λ n. n + 1) (sym w.1)
+
+  -- there is one such place
+  pub up_to_once : {i j k : ℕ} → IsUpToClose text i j → IsUpToClose text i k → j ≡ k
+  up_to_once {i = i} {j = j} {k = k} p q =
+      elim (cases_lt j k) [
+        | inl lt ↦ absurd (false≢true (sym (q.plain j p.rises lt) ∙ p.stops (omega (arith, q.end))))
+        | inr ge ↦
+            elim (cases_lt k j) [
+              | inl lt ↦ absurd (false≢true (sym (p.plain k q.rises lt) ∙ q.stops (omega (arith, p.end))))
+              | inr le ↦ omega arith
+            ]
+      ]

@@ -1,0 +1,21 @@
+use Rattle.std.proofs.Common.{◌+◌, ◌-◌, ◌≡◌, ◌∙◌, sym, subst, arith, true, string_bytes}
+use Rattle.nextest_filter_tokens.specs.Bytes.{is_byte}
+use Rattle.nextest_filter_tokens.specs.Patterns.{ReadsPattern}
+use Rattle.nextest_filter_leaves.proofs.ReadFacts.{pattern_is}
+use Rattle.nextest_filter_leaves.proofs.matchers.pattern_matcher.Goals as goal
+
+pub returns-in_ok-matcher-in-Some-clause-over : goal.returns-in_ok-matcher-in-Some-clause-over
+returns-in_ok-matcher-in-Some-clause-over c =
+    let start = c.args.at + 1 in
+    let rises = rw c.in-Some.is at c.in_ok-pattern.ensures.rises in
+    let read = rw c.in-Some.is at c.in_ok-pattern.ensures.read in
+    let same : c.in-Some.end ≡ start + (c.in-Some.end - start) = omega (arith, rises) in
+    let reads = subst (λ k. ReadsPattern c.args.text.now start (string_bytes c.in-Some.pattern) k) same read in
+    let place : c.args.at ≡ start - 1 = omega arith in
+    let slash = subst (λ k. is_byte c.args.text.now k 47 ≡ true) place c.requires.slash in
+    c.in_ok-matcher-in-Some.ensures.over c.args.text.now c.requires.over (string_bytes c.in-Some.pattern, omega arith, slash, reads)
+
+pub returns-in_ok-matcher-in-Some-clause-only : goal.returns-in_ok-matcher-in-Some-clause-only
+returns-in_ok-matcher-in-Some-clause-only c clean m j from =
+    let read = rw c.in-Some.is at c.in_ok-pattern.ensures.read in
+    (sym (pattern_is c.args.text.now read from), c.in_ok-matcher-in-Some.ensures.others ∙ clean)

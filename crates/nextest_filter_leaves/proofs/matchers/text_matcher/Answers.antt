@@ -1,0 +1,11 @@
+use Rattle.std.proofs.Common.{◌≡◌, Some, sym, subst}
+use Rattle.nextest_filter_leaves.specs.LeafGrammar.{made_of}
+use Rattle.nextest_filter_leaves.proofs.ReadFacts.{some_is}
+use Rattle.nextest_filter_leaves.proofs.matchers.text_matcher.Goals as goal
+
+pub returns-in_ok-matcher-in-Some-clause-only : goal.returns-in_ok-matcher-in-Some-clause-only
+returns-in_ok-matcher-in-Some-clause-only c clean m j from =
+    let value = c.in_ok-value.ensures.only clean from.bytes j from.reads in
+    let read = rw c.in-Some.is at c.in_ok-value.ensures.read value.1 in
+    let same = some_is c.args.text.now read.0 from.reads in
+    (value.0, c.in_ok-matcher-in-Some.ensures.only value.1 m (subst (λ xs. made_of c.args.style c.args.implicit xs ≡ Some m) (sym same.0) from.makes))

@@ -1,0 +1,47 @@
+-- The leaves of filters.
+use Rattle.std.specs.Prelude.{Bool, true, false}
+use Rattle.nextest_filter_matchers.specs.Matchers.{Matcher, matcher_of}
+use Rattle.nextest_filter_faults.specs.declared.platform.BuildPlatform.{BuildPlatform}
+use Rattle.nextest_filter_tokens.specs.declared.heads.Predicate.{Predicate}
+use Rattle.nextest_filter_tokens.specs.declared.heads.Predicate.TheVariants.{Package, Deps, Rdeps, Kind, Binary, BinaryId, Test, Group}
+use Rattle.nextest_filter_leaves.specs.declared.parsed_leaf.ParsedLeaf.{ParsedLeaf}
+use Rattle.nextest_filter_leaves.specs.declared.parsed_leaf.ParsedLeaf.TheVariants as leaf
+
+pub data Leaf (S : Type 0) : Type 0 where
+  Named : Predicate → Matcher → S → Leaf S
+  Platform : BuildPlatform → S → Leaf S
+  Default : S → Leaf S
+  All : Leaf S
+  None : Leaf S
+
+abbrev pub leaf_of : {S : Type 0} → ParsedLeaf S → Leaf S
+leaf_of (leaf.Package matcher span) = Named Package (matcher_of matcher) span
+leaf_of (leaf.Deps matcher span) = Named Deps (matcher_of matcher) span
+leaf_of (leaf.Rdeps matcher span) = Named Rdeps (matcher_of matcher) span
+leaf_of (leaf.Kind matcher span) = Named Kind (matcher_of matcher) span
+leaf_of (leaf.Binary matcher span) = Named Binary (matcher_of matcher) span
+leaf_of (leaf.BinaryId matcher span) = Named BinaryId (matcher_of matcher) span
+leaf_of (leaf.Platform platform span) = Platform platform span
+leaf_of (leaf.Test matcher span) = Named Test (matcher_of matcher) span
+leaf_of (leaf.Group matcher span) = Named Group (matcher_of matcher) span
+leaf_of (leaf.Default span) = Default span
+leaf_of leaf.All = All
+leaf_of leaf.None = None
+
+abbrev pub is_runtime_predicate : Predicate → Bool
+is_runtime_predicate Test = true
+is_runtime_predicate Group = true
+is_runtime_predicate Package = false
+is_runtime_predicate Deps = false
+is_runtime_predicate Rdeps = false
+is_runtime_predicate Kind = false
+is_runtime_predicate Binary = false
+is_runtime_predicate BinaryId = false
+
+-- the leaf can be told only of a test, or only at run time
+abbrev pub is_runtime_leaf : {S : Type 0} → Leaf S → Bool
+is_runtime_leaf (Named predicate matcher span) = is_runtime_predicate predicate
+is_runtime_leaf (Platform platform span) = false
+is_runtime_leaf (Default span) = true
+is_runtime_leaf All = false
+is_runtime_leaf None = false

@@ -1,0 +1,4 @@
+pub mod Leaves
+pub mod LeafTexts
+pub mod LeafGrammar
+pub mod Laws

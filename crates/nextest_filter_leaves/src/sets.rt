@@ -1,0 +1,243 @@
+ghost use Rattle.std.specs.Prelude.{◌≡◌, ◌≤◌, ◌<◌, ◌+◌, ℕ, List, [], IfOk, IfSome, IfNone, OnOk, length, option_map, slice_range, vec_len};
+ghost use Rattle.std.specs.Str.{IsCharBoundary, trim};
+ghost use Rattle.nextest_filter_matchers.specs.Matchers.{matcher_of};
+ghost use Rattle.nextest_filter_faults.specs.Signs.{platform_text};
+ghost use Rattle.nextest_filter_faults.specs.declared.platform.BuildPlatform as declared;
+ghost use Rattle.nextest_filter_matchers.specs.declared.source_span.SourceSpan as source;
+ghost use Rattle.nextest_filter_tokens.specs.FaultLists.{AreOver, AreWithin, others};
+ghost use Rattle.nextest_filter_leaves.specs.Leaves.{Leaf, Named, leaf_of};
+ghost use Rattle.nextest_filter_leaves.specs.LeafGrammar as spec;
+ghost use Rattle.nextest_filter_leaves.specs.LeafGrammar.{IsUpToClose, NamedFrom, NullaryFrom, PlatformFrom};
+
+use crate::matchers::{matcher_from, some_text};
+use crate::parsed_leaf::ParsedLeaf;
+use crate::places::{close_place, closed_after, expect_byte};
+use nextest_filter_faults::{BuildPlatform, ParseSingleError, SourceSpan};
+use nextest_filter_matchers::NameMatcher;
+use nextest_filter_tokens::{FaultList, Nullary, Predicate, skip_blanks};
+use std::alloc::{AllocError, Global};
+
+/// The leaf of a predicate's matcher.
+fn leaf_with(predicate: Predicate, matcher: NameMatcher, span: SourceSpan) -> ParsedLeaf
+    ensures { leaf_of result ≡ Named predicate (matcher_of matcher) span }
+{
+    match predicate {
+        Predicate::Package => ParsedLeaf::Package(matcher, span),
+        Predicate::Deps => ParsedLeaf::Deps(matcher, span),
+        Predicate::Rdeps => ParsedLeaf::Rdeps(matcher, span),
+        Predicate::Kind => ParsedLeaf::Kind(matcher, span),
+        Predicate::Binary => ParsedLeaf::Binary(matcher, span),
+        Predicate::BinaryId => ParsedLeaf::BinaryId(matcher, span),
+        Predicate::Test => ParsedLeaf::Test(matcher, span),
+        Predicate::Group => ParsedLeaf::Group(matcher, span),
+    }
+}
+
+/// The leaf of a word that takes nothing.
+fn nullary_leaf(word: Nullary, span: SourceSpan) -> ParsedLeaf
+    ensures { leaf_of result ≡ spec.nullary_leaf word span }
+{
+    match word {
+        Nullary::Default => ParsedLeaf::Default(span),
+        Nullary::All => ParsedLeaf::All,
+        Nullary::None => ParsedLeaf::None,
+    }
+}
+
+/// The place after the parenthesis that opens a set.
+fn opened_after(text: &str, at: usize, faults: &mut FaultList) -> Result<usize, AllocError>
+    requires at { at ≤ length text.now }
+    requires boundary { IsCharBoundary text.now at }
+    requires within { AreWithin (length text.now) faults.old.list.items }
+    requires over { AreOver text.now faults.old.list.items }
+    ensures rises { IfOk result (λ e. at ≤ e) }
+    ensures end { IfOk result (λ e. e ≤ length text.now) }
+    ensures boundary { IfOk result (λ e. IsCharBoundary text.now e) }
+    ensures grows { OnOk result (vec_len faults.old.list ≤ vec_len faults.new.list) }
+    ensures others { OnOk result (others faults.old.list.items ≤ others faults.new.list.items) }
+    ensures within { OnOk result (AreWithin (length text.now) faults.new.list.items) }
+    ensures over { OnOk result (AreOver text.now faults.new.list.items) }
+    ensures read { IfOk result (λ e. others faults.new.list.items ≡ 0 → spec.Stands text.now at 40 e) }
+    ensures only { IfOk result (λ e. others faults.old.list.items ≡ 0 → (j : ℕ) → spec.Stands text.now at 40 j → (e ≡ j) × (others faults.new.list.items ≡ 0)) }
+{
+    let span = SourceSpan { offset: at, len: 0 };
+    let fault = ParseSingleError::ExpectedOpenParenthesis(span);
+    let inner = expect_byte(text, at, b'(', fault, faults)?;
+    Ok(inner)
+}
+
+/// After the name of a predicate, its matcher in parentheses.
+pub fn named_set_from(
+    alloc: Global,
+    text: &str,
+    predicate: Predicate,
+    at: usize,
+    faults: &mut FaultList,
+) -> Result<(Option<ParsedLeaf>, usize), AllocError>
+    requires at { at ≤ length text.now }
+    requires boundary { IsCharBoundary text.now at }
+    requires within { AreWithin (length text.now) faults.old.list.items }
+    requires over { AreOver text.now faults.old.list.items }
+    ensures rises { IfOk result (λ p. at ≤ p.1) }
+    ensures end { IfOk result (λ p. p.1 ≤ length text.now) }
+    ensures grows { OnOk result (vec_len faults.old.list ≤ vec_len faults.new.list) }
+    ensures others { OnOk result (others faults.old.list.items ≤ others faults.new.list.items) }
+    ensures within { OnOk result (AreWithin (length text.now) faults.new.list.items) }
+    ensures over { OnOk result (AreOver text.now faults.new.list.items) }
+    ensures read { IfOk result (λ p. others faults.new.list.items ≡ 0 → IfSome p.0 (λ l. NamedFrom text.now predicate at (leaf_of l) p.1)) }
+    ensures spoiled { IfOk result (λ p. IfNone p.0 (0 < vec_len faults.new.list)) }
+    ensures only { IfOk result (λ p. others faults.old.list.items ≡ 0 → (x : Leaf source.SourceSpan) (j : ℕ) → NamedFrom text.now predicate at x j → (p.1 ≡ j) × (others faults.new.list.items ≡ 0)) }
+{
+    let inner = opened_after(text, at, faults)?;
+    let start = skip_blanks(text, inner);
+    let (matcher, end) = matcher_from(alloc, text, predicate, start, faults)?;
+    let after = closed_after(text, end, faults)?;
+    match matcher {
+        Some(matcher) => {
+            let span = SourceSpan {
+                offset: inner,
+                len: end - inner,
+            };
+            let leaf = leaf_with(predicate, matcher, span);
+            Ok((Some(leaf), after))
+        }
+        None => Ok((None, after)),
+    }
+}
+
+/// The platform that a text names, trimmed of white space.
+fn platform_named(name: &str) -> Option<BuildPlatform>
+    ensures read { IfSome result (λ p. trim name.now ≡ platform_text p) }
+    ensures unread { IfNone result ((p : declared.BuildPlatform) → trim name.now ≡ platform_text p → ⊥) }
+{
+    match name.trim() {
+        "host" => Some(BuildPlatform::Host),
+        "target" => Some(BuildPlatform::Target),
+        _ => None,
+    }
+}
+
+/// The platform that a text names; a text that names none is a fault over the span.
+fn platform_of(
+    name: &str,
+    span: SourceSpan,
+    faults: &mut FaultList,
+) -> Result<Option<BuildPlatform>, AllocError>
+    ensures grows { OnOk result (vec_len faults.old.list ≤ vec_len faults.new.list) }
+    ensures others { OnOk result (others faults.old.list.items ≤ others faults.new.list.items) }
+    ensures within { OnOk result ((n : ℕ) → AreWithin n faults.old.list.items → span.offset + span.len ≤ n → AreWithin n faults.new.list.items) }
+    ensures over { OnOk result ((text : List ℕ) → AreOver text faults.old.list.items → AreOver text faults.new.list.items) }
+    ensures read { IfOk result (λ r. IfSome r (λ p. trim name.now ≡ platform_text p)) }
+    ensures spoiled { IfOk result (λ r. IfNone r (0 < vec_len faults.new.list)) }
+    ensures only { IfOk result (λ r. others faults.old.list.items ≡ 0 → (p : declared.BuildPlatform) → trim name.now ≡ platform_text p → others faults.new.list.items ≡ 0) }
+{
+    match platform_named(name) {
+        Some(platform) => Ok(Some(platform)),
+        None => {
+            faults.report(ParseSingleError::InvalidPlatformArgument(span))?;
+            Ok(None)
+        }
+    }
+}
+
+/// After `platform`, the text that names one in parentheses.
+pub fn platform_set_from(
+    alloc: Global,
+    text: &str,
+    at: usize,
+    faults: &mut FaultList,
+) -> Result<(Option<ParsedLeaf>, usize), AllocError>
+    requires at { at ≤ length text.now }
+    requires boundary { IsCharBoundary text.now at }
+    requires within { AreWithin (length text.now) faults.old.list.items }
+    requires over { AreOver text.now faults.old.list.items }
+    ensures rises { IfOk result (λ p. at ≤ p.1) }
+    ensures end { IfOk result (λ p. p.1 ≤ length text.now) }
+    ensures grows { OnOk result (vec_len faults.old.list ≤ vec_len faults.new.list) }
+    ensures others { OnOk result (others faults.old.list.items ≤ others faults.new.list.items) }
+    ensures within { OnOk result (AreWithin (length text.now) faults.new.list.items) }
+    ensures over { OnOk result (AreOver text.now faults.new.list.items) }
+    ensures read { IfOk result (λ p. others faults.new.list.items ≡ 0 → IfSome p.0 (λ l. PlatformFrom text.now at (leaf_of l) p.1)) }
+    ensures spoiled { IfOk result (λ p. IfNone p.0 (0 < vec_len faults.new.list)) }
+    ensures only { IfOk result (λ p. others faults.old.list.items ≡ 0 → (x : Leaf source.SourceSpan) (j : ℕ) → PlatformFrom text.now at x j → (p.1 ≡ j) × (others faults.new.list.items ≡ 0)) }
+{
+    let inner = opened_after(text, at, faults)?;
+    let start = skip_blanks(text, inner);
+    let (name, end) = some_text(alloc, text, start, faults)?;
+    let after = closed_after(text, end, faults)?;
+    let span = SourceSpan {
+        offset: inner,
+        len: end - inner,
+    };
+    let Some(name) = name else {
+        return Ok((None, after));
+    };
+    match platform_of(name.as_str(), span, faults)? {
+        Some(platform) => Ok((Some(ParsedLeaf::Platform(platform, span)), after)),
+        None => Ok((None, after)),
+    }
+}
+
+/// The place of the parenthesis that closes an empty one; anything before it but white space is a fault.
+fn white_after(text: &str, at: usize, faults: &mut FaultList) -> Result<usize, AllocError>
+    requires at { at ≤ length text.now }
+    requires boundary { IsCharBoundary text.now at }
+    requires within { AreWithin (length text.now) faults.old.list.items }
+    requires over { AreOver text.now faults.old.list.items }
+    ensures up_to { IfOk result (λ e. IsUpToClose text.now at e) }
+    ensures grows { OnOk result (vec_len faults.old.list ≤ vec_len faults.new.list) }
+    ensures others { OnOk result (others faults.old.list.items ≤ others faults.new.list.items) }
+    ensures within { OnOk result (AreWithin (length text.now) faults.new.list.items) }
+    ensures over { OnOk result (AreOver text.now faults.new.list.items) }
+    ensures read { IfOk result (λ e. others faults.new.list.items ≡ 0 → trim (slice_range text.now at e) ≡ []) }
+    ensures only { IfOk result (λ e. others faults.old.list.items ≡ 0 → trim (slice_range text.now at e) ≡ [] → others faults.new.list.items ≡ 0) }
+{
+    let end = close_place(text, at);
+    let argument = &text[at..end];
+    if argument.trim().is_empty() {
+        return Ok(end);
+    }
+    let span = SourceSpan {
+        offset: at,
+        len: end - at,
+    };
+    faults.report(ParseSingleError::UnexpectedArgument(span))?;
+    Ok(end)
+}
+
+/// After a word that begins at the start, parentheses with nothing in them.
+pub fn nullary_set_from(
+    text: &str,
+    word: Nullary,
+    start: usize,
+    at: usize,
+    faults: &mut FaultList,
+) -> Result<(ParsedLeaf, usize), AllocError>
+    requires start { start ≤ at }
+    requires at { at ≤ length text.now }
+    requires boundary { IsCharBoundary text.now at }
+    requires within { AreWithin (length text.now) faults.old.list.items }
+    requires over { AreOver text.now faults.old.list.items }
+    ensures rises { IfOk result (λ p. at ≤ p.1) }
+    ensures end { IfOk result (λ p. p.1 ≤ length text.now) }
+    ensures grows { OnOk result (vec_len faults.old.list ≤ vec_len faults.new.list) }
+    ensures others { OnOk result (others faults.old.list.items ≤ others faults.new.list.items) }
+    ensures within { OnOk result (AreWithin (length text.now) faults.new.list.items) }
+    ensures over { OnOk result (AreOver text.now faults.new.list.items) }
+    ensures read { IfOk result (λ p. others faults.new.list.items ≡ 0 → NullaryFrom text.now word start at (leaf_of p.0) p.1) }
+    ensures only { IfOk result (λ p. others faults.old.list.items ≡ 0 → (x : Leaf source.SourceSpan) (j : ℕ) → NullaryFrom text.now word start at x j → (p.1 ≡ j) × (others faults.new.list.items ≡ 0)) }
+{
+    let inner = opened_after(text, at, faults)?;
+    let end = white_after(text, inner, faults)?;
+    let span = SourceSpan {
+        offset: end,
+        len: 0,
+    };
+    let fault = ParseSingleError::ExpectedCloseParenthesis(span);
+    let after = expect_byte(text, end, b')', fault, faults)?;
+    let span = SourceSpan {
+        offset: start,
+        len: after - start,
+    };
+    Ok((nullary_leaf(word, span), after))
+}

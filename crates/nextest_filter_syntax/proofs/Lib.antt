@@ -1,0 +1,3 @@
+pub mod OperatorFacts
+pub mod GrammarFacts
+pub mod StepFacts

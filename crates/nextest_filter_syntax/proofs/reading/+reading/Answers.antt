@@ -1,0 +1,114 @@
+use Rattle.std.proofs.Common.{◌≡◌, ◌∙◌, ◌-◌, suc, ap, sym, subst, arith}
+use Rattle.nextest_filter_tokens.specs.FaultLists.{others}
+use Rattle.nextest_filter_tokens.specs.declared.heads.Head.TheVariants.{Says}
+use Rattle.nextest_filter_leaves.specs.Leaves.{leaf_of}
+use Rattle.nextest_filter_leaves.specs.LeafGrammar.{NullaryFrom, Stands}
+use Rattle.nextest_filter_syntax.specs.Grammar.{MoreOf, joined_of}
+use Rattle.nextest_filter_syntax.specs.Reading.{is_wrong}
+use Rattle.nextest_filter_syntax.proofs.OperatorFacts.{close_ends}
+use Rattle.nextest_filter_syntax.proofs.StepFacts.{first_only, first_read, last_only, last_read, leaf_read, negated_only, negated_read, nothing_of, operand_is, parens_only, parens_read, set_read, step_only, step_read, step_spoiled}
+use Rattle.nextest_filter_syntax.proofs.reading.+reading.Goals as goal
+
+pub operand_from-returns-in_ok-leaf-in-Names-clause-read : goal.operand_from-returns-in_ok-leaf-in-Names-clause-read
+operand_from-returns-in_ok-leaf-in-Names-clause-read n c clean =
+    leaf_read c.args.text.now c.args.room c.args.at c.in_ok-leaf-in-Names.end c.skip_blanks-start.result _ c.in_ok-leaf-in-Names.leaf _ c.skip_blanks-start.ensures.value c.in-Names.ensures.value c.leaf_expr.ensures (c.in_ok-leaf-in-Names.ensures.read clean)
+
+pub operand_from-returns-in_ok-leaf-in-Platform-clause-read : goal.operand_from-returns-in_ok-leaf-in-Platform-clause-read
+operand_from-returns-in_ok-leaf-in-Platform-clause-read n c clean =
+    leaf_read c.args.text.now c.args.room c.args.at c.in_ok-leaf-in-Platform.end c.skip_blanks-start.result _ c.in_ok-leaf-in-Platform.leaf _ c.skip_blanks-start.ensures.value c.in-Platform.ensures.value c.leaf_expr-in-Platform.ensures (c.in_ok-leaf-in-Platform.ensures.read clean)
+
+pub operand_from-returns-in_ok-leaf-in-Says-clause-read : goal.operand_from-returns-in_ok-leaf-in-Says-clause-read
+operand_from-returns-in_ok-leaf-in-Says-clause-read n c clean =
+    set_read c.args.text.now c.args.room c.args.at c.in_ok-leaf-in-Says.end c.skip_blanks-start.result _ (leaf_of c.in_ok-leaf-in-Says.leaf) c.skip_blanks-start.ensures.value c.in-Says.ensures.value (c.in_ok-leaf-in-Says.ensures.read clean)
+
+pub operand_from-returns-in_ok-leaf-in-Says-clause-only : goal.operand_from-returns-in_ok-leaf-in-Says-clause-only
+operand_from-returns-in_ok-leaf-in-Says-clause-only n c clean t j r =
+    let from = operand_is c.args.text.now c.args.room c.args.at j c.skip_blanks-start.result t (Says c.in-Says.word c.in-Says.next) c.skip_blanks-start.ensures.value c.in-Says.ensures.value r in
+    c.in_ok-leaf-in-Says.ensures.only clean from.0 j (subst (λ k. NullaryFrom c.args.text.now c.in-Says.word k c.in-Says.next from.0 j) (sym c.skip_blanks-start.ensures.value) from.2)
+
+pub operand_from-returns-in_ok-tree-in-Negates-2-clause-read : goal.operand_from-returns-in_ok-tree-in-Negates-2-clause-read
+operand_from-returns-in_ok-tree-in-Negates-2-clause-read n c clean =
+    negated_read c.args.text.now c.args.room c.args.at c.skip_blanks-start.result c.in-Negates.next c.in_ok-tree-in-Negates.end c.in-Negates.op c.in_ok-tree-in-Negates.tree c.in_ok-tree-in-Negates-2.tree c.skip_blanks-start.ensures.value c.in-Negates.ensures.value (omega arith) c.in_ok-tree-in-Negates-2.ensures (c.in_ok-tree-in-Negates.ensures.read clean)
+
+pub operand_from-returns-in_ok-tree-in-Negates-2-clause-only : goal.operand_from-returns-in_ok-tree-in-Negates-2-clause-only
+operand_from-returns-in_ok-tree-in-Negates-2-clause-only n c clean t j r =
+    let from = negated_only c.args.text.now c.args.room c.args.at c.skip_blanks-start.result c.in-Negates.next j c.in-Negates.op t c.skip_blanks-start.ensures.value c.in-Negates.ensures.value r in
+    c.in_ok-tree-in-Negates.ensures.only clean from.0 j from.1
+
+pub operand_from-returns-in_ok-tree-in-Opens-2-clause-read : goal.operand_from-returns-in_ok-tree-in-Opens-2-clause-read
+operand_from-returns-in_ok-tree-in-Opens-2-clause-read n c clean =
+    let before : others c.tree_from.new.faults.list.items ≡ 0 = omega (arith, clean, c.in_ok-after-in-Opens.ensures.others) in
+    parens_read c.args.text.now c.args.room c.args.at c.skip_blanks-start.result c.in-Opens.next c.in_ok-tree-in-Opens.end c.in_ok-after-in-Opens.after c.in_ok-tree-in-Opens.tree c.in_ok-tree-in-Opens-2.tree c.skip_blanks-start.ensures.value c.in-Opens.ensures.value (omega arith) c.in_ok-tree-in-Opens-2.ensures (c.in_ok-tree-in-Opens.ensures.read before) (c.in_ok-after-in-Opens.ensures.read clean)
+
+pub operand_from-returns-in_ok-tree-in-Opens-2-clause-only : goal.operand_from-returns-in_ok-tree-in-Opens-2-clause-only
+operand_from-returns-in_ok-tree-in-Opens-2-clause-only n c clean t j r =
+    let text = c.args.text.now in
+    let from = parens_only text c.args.room c.args.at c.skip_blanks-start.result c.in-Opens.next j t c.skip_blanks-start.ensures.value c.in-Opens.ensures.value r in
+    let tree = c.in_ok-tree-in-Opens.ensures.only clean from.0 from.1 from.2 (close_ends text from.1 2 from.3.0) in
+    c.in_ok-after-in-Opens.ensures.only tree.1 j (subst (λ k. Stands text k 41 j) (sym tree.0) from.3)
+
+pub tree_from-loop-tree-init : goal.tree_from-loop-tree-init
+tree_from-loop-tree-init n c =
+    let text = c.args.text.now in
+    let lower = c.args.level - 1 in
+    let is : suc lower ≡ c.args.level = omega (arith, c.if-level-eq0.false) in
+    let first = c.in_ok-tree-2.ensures in
+    record {
+      rises = first.rises;
+      end = first.end;
+      grows = first.grows;
+      more = first.others;
+      within = first.within;
+      over = first.over;
+      read = λ clean. first_read text c.args.room c.args.level lower c.args.at c.in_ok-tree-2.end c.in_ok-tree-2.tree is (first.read clean);
+      spoiled = first.spoiled;
+      only = λ clean t j r ends.
+          let from = first_only text c.args.room c.args.level lower c.args.at j t is r ends in
+          let tree = first.only clean from.0 from.1 from.2 from.4 in
+          (tree.1, (from.0, subst (λ k. MoreOf text c.args.room lower k from.0 t j) (sym tree.0) from.3));
+    }
+
+pub tree_from-returns-in_default-clause-read : goal.tree_from-returns-in_default-clause-read
+tree_from-returns-in_default-clause-read n c clean =
+    let before : others c.loop-tree.faults.list.items ≡ 0 = omega (arith, clean, c.in_ok-found.ensures.others) in
+    last_read c.args.text.now c.args.room c.args.level (c.args.level - 1) c.args.at c.loop-tree.end c.loop-tree.tree (c.loop-tree.invariant.read before)
+
+pub tree_from-returns-in_default-clause-only : goal.tree_from-returns-in_default-clause-only
+tree_from-returns-in_default-clause-only n c clean t j r ends =
+    let text = c.args.text.now in
+    let lower = c.args.level - 1 in
+    let is : suc lower ≡ c.args.level = omega (arith, c.if-level-eq0.false) in
+    let from = c.loop-tree.invariant.only clean t j r ends in
+    let nothing = nothing_of text c.in_ok-found.found (sym c.place_after.ensures ∙ c.in_default.is) in
+    let same = c.in_ok-found.ensures.same (ap is_wrong nothing) in
+    (last_only text c.args.room c.args.level lower c.loop-tree.end j from.1.0 t c.in_ok-found.found is c.in_ok-found.ensures.value nothing from.1.1 ends, same ∙ from.0)
+
+pub tree_from-loop-tree-preserved : goal.tree_from-loop-tree-preserved
+tree_from-loop-tree-preserved n c =
+    let text = c.args.text.now in
+    let room = c.args.room in
+    let level = c.args.level in
+    let lower = level - 1 in
+    let is : suc lower ≡ level = omega (arith, c.if-level-eq0.false) in
+    let found = c.in_ok-found.ensures in
+    let right = c.in_ok-right.ensures in
+    let before = c.loop-tree.invariant in
+    let place = sym c.place_after.ensures ∙ c.in-Some.is in
+    let goes = rw place at found.end in
+    record {
+      rises = omega (arith, before.rises, goes.0, right.rises);
+      end = right.end;
+      grows = omega (arith, before.grows, found.grows, right.grows);
+      more = omega (arith, before.more, found.others, right.others);
+      within = right.within;
+      over = right.over;
+      read = λ clean.
+          let first : others c.loop-tree.faults.list.items ≡ 0 = omega (arith, clean, right.others, found.others) in
+          step_read text room level lower c.args.at c.loop-tree.end c.in-Some.next c.in_ok-right.after c.in_ok-found.found c.loop-tree.tree c.in_ok-right.right c.in_ok-tree-3.tree found.value place c.in_ok-tree-3.ensures (before.read first) (right.read clean);
+      spoiled = step_spoiled text c.in_ok-found.found c.in-Some.next _ _ _ c.loop-tree.tree c.in_ok-right.right c.in_ok-tree-3.tree place c.in_ok-tree-3.ensures before.spoiled found.some right.spoiled (omega (arith, found.grows, right.grows)) right.grows;
+      only = λ clean t j r ends.
+          let from = before.only clean t j r ends in
+          let step = step_only text room level lower c.loop-tree.end c.in-Some.next j from.1.0 t c.in_ok-found.found is found.value place from.1.1 ends in
+          let operand = right.only (found.same step.right ∙ from.0) step.operand step.after step.reads step.ends in
+          (operand.1, (joined_of step.op from.1.0 step.operand, subst (λ k. MoreOf text room lower k (joined_of step.op from.1.0 step.operand) t j) (sym operand.0) step.more));
+    }

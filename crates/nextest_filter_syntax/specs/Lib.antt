@@ -1,0 +1,7 @@
+pub mod Trees
+pub mod TreeTexts
+pub mod Runtime
+pub mod Grammar
+pub mod Reading
+pub mod Laws
+pub mod Parsing

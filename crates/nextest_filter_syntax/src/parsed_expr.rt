@@ -1,0 +1,94 @@
+use nextest_filter_faults::{AndOperator, DifferenceOperator, NotOperator, OrOperator};
+use nextest_filter_leaves::ParsedLeaf;
+use nextest_filter_matchers::SourceSpan;
+use std::alloc::{AllocError, Global};
+use std::fmt;
+
+/// A filter as it was written.
+#[derive(Debug, Drop, PartialEq, Eq)]
+pub enum ParsedExpr<S = SourceSpan> {
+    Not(NotOperator, Box<ParsedExpr<S>>),
+    Union(OrOperator, Box<ParsedExpr<S>>, Box<ParsedExpr<S>>),
+    Intersection(AndOperator, Box<ParsedExpr<S>>, Box<ParsedExpr<S>>),
+    Difference(DifferenceOperator, Box<ParsedExpr<S>>, Box<ParsedExpr<S>>),
+    Parens(Box<ParsedExpr<S>>),
+    Set(ParsedLeaf<S>),
+}
+
+impl<S: Copy> ParsedExpr<S> {
+    ghost use Rattle.std.specs.Prelude.{◌≡◌, IfOk};
+    ghost use Rattle.nextest_filter_syntax.specs.Trees.{tree_of};
+
+    /// An equal tree in memory of its own.
+    pub fn copy(&self, alloc: Global) -> Result<ParsedExpr<S>, AllocError>
+        ensures { IfOk result (λ c. tree_of c ≡ tree_of self.now) }
+    {
+        match self {
+            ParsedExpr::Not(op, x) => {
+                let x = Box::new(alloc, x.copy(alloc)?)?;
+                Ok(ParsedExpr::Not(*op, x))
+            }
+            ParsedExpr::Union(op, x, y) => {
+                let x = Box::new(alloc, x.copy(alloc)?)?;
+                let y = Box::new(alloc, y.copy(alloc)?)?;
+                Ok(ParsedExpr::Union(*op, x, y))
+            }
+            ParsedExpr::Intersection(op, x, y) => {
+                let x = Box::new(alloc, x.copy(alloc)?)?;
+                let y = Box::new(alloc, y.copy(alloc)?)?;
+                Ok(ParsedExpr::Intersection(*op, x, y))
+            }
+            ParsedExpr::Difference(op, x, y) => {
+                let x = Box::new(alloc, x.copy(alloc)?)?;
+                let y = Box::new(alloc, y.copy(alloc)?)?;
+                Ok(ParsedExpr::Difference(*op, x, y))
+            }
+            ParsedExpr::Parens(x) => {
+                let x = Box::new(alloc, x.copy(alloc)?)?;
+                Ok(ParsedExpr::Parens(x))
+            }
+            ParsedExpr::Set(leaf) => {
+                let leaf = leaf.copy(alloc)?;
+                Ok(ParsedExpr::Set(leaf))
+            }
+        }
+    }
+}
+
+impl<S> fmt::Display for ParsedExpr<S> {
+    ghost use Rattle.std.specs.Prelude.{Some};
+    ghost use Rattle.nextest_filter_syntax.specs.Trees.{tree_of};
+    ghost use Rattle.nextest_filter_syntax.specs.TreeTexts.{tree_text};
+
+    ghost output = { λ x. Some (tree_text (tree_of x)) };
+
+    fn fmt<W: fmt::Write>(&self, f: &mut fmt::Formatter<W>) -> fmt::Result {
+        match self {
+            ParsedExpr::Not(op, x) => {
+                write!(f, "{op} ")?;
+                (**x).fmt(f)
+            }
+            ParsedExpr::Union(op, x, y) => {
+                (**x).fmt(f)?;
+                write!(f, " {op} ")?;
+                (**y).fmt(f)
+            }
+            ParsedExpr::Intersection(op, x, y) => {
+                (**x).fmt(f)?;
+                write!(f, " {op} ")?;
+                (**y).fmt(f)
+            }
+            ParsedExpr::Difference(op, x, y) => {
+                (**x).fmt(f)?;
+                write!(f, " {op} ")?;
+                (**y).fmt(f)
+            }
+            ParsedExpr::Parens(x) => {
+                f.write_str("(")?;
+                (**x).fmt(f)?;
+                f.write_str(")")
+            }
+            ParsedExpr::Set(leaf) => write!(f, "{leaf}"),
+        }
+    }
+}

@@ -1,0 +1,87 @@
+ghost use Rattle.std.specs.Prelude.{◌≡◌, ◌≤◌, ◌<◌, IfOk, IfSome, IfNone, OnOk, length, vec_len};
+ghost use Rattle.nextest_filter_matchers.specs.declared.source_span.SourceSpan as source;
+ghost use Rattle.nextest_filter_tokens.specs.Bytes.{skip};
+ghost use Rattle.nextest_filter_tokens.specs.FaultLists.{AreOver, AreWithin, others};
+ghost use Rattle.nextest_filter_syntax.specs.Trees.{Tree, tree_of};
+ghost use Rattle.nextest_filter_syntax.specs.Grammar.{ReadsWhole};
+
+use crate::parsed_expr::ParsedExpr;
+use crate::reading::{rest_of, tree_from};
+use nextest_filter_faults::ParseSingleError;
+use nextest_filter_matchers::SourceSpan;
+use nextest_filter_tokens::{FaultList, skip_blanks};
+use std::alloc::{AllocError, Global};
+use thiserror::Error;
+
+/// Why no tree was made of a text.
+#[derive(Debug, Drop, PartialEq, Eq, Error)]
+pub enum ParseExprError {
+    /// The faults of the text.
+    #[error("invalid filter")]
+    Faults(Vec<ParseSingleError>),
+    #[error("out of memory")]
+    Memory,
+}
+
+/// Reports what is left of a text after its filter.
+fn expect_end(text: &str, at: usize, faults: &mut FaultList) -> Result<(), AllocError>
+    requires at { at ≤ length text.now }
+    requires within { AreWithin (length text.now) faults.old.list.items }
+    requires over { AreOver text.now faults.old.list.items }
+    ensures grows { OnOk result (vec_len faults.old.list ≤ vec_len faults.new.list) }
+    ensures others { OnOk result (others faults.old.list.items ≤ others faults.new.list.items) }
+    ensures within { OnOk result (AreWithin (length text.now) faults.new.list.items) }
+    ensures over { OnOk result (AreOver text.now faults.new.list.items) }
+    ensures read { OnOk result (others faults.new.list.items ≡ 0 → skip text.now at ≡ length text.now) }
+    ensures only { OnOk result (others faults.old.list.items ≡ 0 → skip text.now at ≡ length text.now → others faults.new.list.items ≡ 0) }
+{
+    let end = skip_blanks(text, at);
+    if end == text.len() {
+        return Ok(());
+    }
+    faults.report(ParseSingleError::ExpectedEndOfExpression(rest_of(text, at)))?;
+    Ok(())
+}
+
+/// The tree of a filter, `None` where a part of it is spoiled, and the faults of its text.
+pub fn parse_with_faults(
+    alloc: Global,
+    text: &str,
+) -> Result<(Option<ParsedExpr>, Vec<ParseSingleError>), AllocError>
+    ensures read { IfOk result (λ r. others r.1.items ≡ 0 → IfSome r.0 (λ x. ReadsWhole text.now (tree_of x))) }
+    ensures spoiled { IfOk result (λ r. IfNone r.0 (0 < vec_len r.1)) }
+    ensures only { IfOk result (λ r. (t : Tree source.SourceSpan) → ReadsWhole text.now t → others r.1.items ≡ 0) }
+    ensures tree { IfOk result (λ r. (t : Tree source.SourceSpan) → ReadsWhole text.now t → IfSome r.0 (λ x. tree_of x ≡ t)) }
+    ensures within { IfOk result (λ r. AreWithin (length text.now) r.1.items) }
+    ensures over { IfOk result (λ r. AreOver text.now r.1.items) }
+{
+    let mut faults = FaultList::new(alloc);
+    let (tree, end) = tree_from(alloc, text, 256, 2, 0, &mut faults)?;
+    expect_end(text, end, &mut faults)?;
+    Ok((tree, faults.list))
+}
+
+impl ParsedExpr<SourceSpan> {
+    ghost use Rattle.std.specs.Prelude.{◌≡◌, IfOk, IfErr};
+    ghost use Rattle.nextest_filter_matchers.specs.declared.source_span.SourceSpan as source;
+    ghost use Rattle.nextest_filter_syntax.specs.Trees.{Tree, tree_of};
+    ghost use Rattle.nextest_filter_syntax.specs.Grammar.{ReadsWhole};
+    ghost use Rattle.nextest_filter_syntax.specs.Parsing.{AreFaultsOf};
+
+    /// The tree of a filter, even where faults of its text were found.
+    pub fn parse(alloc: Global, text: &str) -> Result<ParsedExpr, ParseExprError>
+        ensures tree { IfOk result (λ x. (t : Tree source.SourceSpan) → ReadsWhole text.now t → tree_of x ≡ t) }
+        ensures faults { IfErr result (AreFaultsOf text.now) }
+    {
+        match parse_with_faults(alloc, text) {
+            Ok(answer) => {
+                let (tree, faults) = answer;
+                match tree {
+                    Some(tree) => Ok(tree),
+                    None => Err(ParseExprError::Faults(faults)),
+                }
+            }
+            Err(_) => Err(ParseExprError::Memory),
+        }
+    }
+}

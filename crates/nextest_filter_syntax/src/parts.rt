@@ -1,0 +1,96 @@
+ghost use Rattle.std.specs.Prelude.{◌≡◌, IfOk};
+ghost use Rattle.nextest_filter_syntax.specs.Trees.{tree_of};
+ghost use Rattle.nextest_filter_syntax.specs.Grammar.{joined_of};
+ghost use Rattle.nextest_filter_syntax.specs.Reading.{joined_part, leaf_part, negated_part, parens_part, part_of};
+
+use crate::parsed_expr::ParsedExpr;
+use nextest_filter_faults::{DifferenceOperator, NotOperator};
+use nextest_filter_leaves::ParsedLeaf;
+use nextest_filter_tokens::{Found, Operator};
+use std::alloc::{AllocError, Global};
+
+/// The expression of a leaf, unless it is spoiled.
+pub(crate) fn leaf_expr(leaf: Option<ParsedLeaf>) -> Option<ParsedExpr>
+    ensures { part_of result ≡ leaf_part leaf }
+{
+    match leaf {
+        Some(leaf) => Some(ParsedExpr::Set(leaf)),
+        None => None,
+    }
+}
+
+/// The negation of an expression, unless that is spoiled.
+pub(crate) fn negated(
+    alloc: Global,
+    op: NotOperator,
+    expr: Option<ParsedExpr>,
+) -> Result<Option<ParsedExpr>, AllocError>
+    ensures { IfOk result (λ r. part_of r ≡ negated_part op (part_of expr)) }
+{
+    match expr {
+        Some(expr) => {
+            let expr = Box::new(alloc, expr)?;
+            Ok(Some(ParsedExpr::Not(op, expr)))
+        }
+        None => Ok(None),
+    }
+}
+
+/// An expression in parentheses, unless it is spoiled.
+pub(crate) fn in_parens(
+    alloc: Global,
+    expr: Option<ParsedExpr>,
+) -> Result<Option<ParsedExpr>, AllocError>
+    ensures { IfOk result (λ r. part_of r ≡ parens_part (part_of expr)) }
+{
+    match expr {
+        Some(expr) => {
+            let expr = Box::new(alloc, expr)?;
+            Ok(Some(ParsedExpr::Parens(expr)))
+        }
+        None => Ok(None),
+    }
+}
+
+/// Two expressions, joined by the operator between them.
+fn joined_by(
+    alloc: Global,
+    op: Operator,
+    left: ParsedExpr,
+    right: ParsedExpr,
+) -> Result<ParsedExpr, AllocError>
+    ensures { IfOk result (λ x. tree_of x ≡ joined_of op (tree_of left) (tree_of right)) }
+{
+    let left = Box::new(alloc, left)?;
+    let right = Box::new(alloc, right)?;
+    match op {
+        Operator::Or(op) => Ok(ParsedExpr::Union(op, left, right)),
+        Operator::And(op) => Ok(ParsedExpr::Intersection(op, left, right)),
+        Operator::Minus => {
+            let op = DifferenceOperator::Minus;
+            Ok(ParsedExpr::Difference(op, left, right))
+        }
+    }
+}
+
+/// Two expressions, joined by what stands between them, unless one of the three is spoiled.
+pub(crate) fn joined(
+    alloc: Global,
+    found: Found,
+    left: Option<ParsedExpr>,
+    right: Option<ParsedExpr>,
+) -> Result<Option<ParsedExpr>, AllocError>
+    ensures { IfOk result (λ r. part_of r ≡ joined_part found (part_of left) (part_of right)) }
+{
+    let Found::Right(op, _) = found else {
+        return Ok(None);
+    };
+    let Some(left) = left else {
+        return Ok(None);
+    };
+    let Some(right) = right else {
+        return Ok(None);
+    };
+    let expr = joined_by(alloc, op, left, right)?;
+    Ok(Some(expr))
+}

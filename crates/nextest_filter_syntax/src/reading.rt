@@ -1,0 +1,218 @@
+ghost use Rattle.std.specs.Prelude.{◌≡◌, ◌≤◌, ◌<◌, ◌+◌, ℕ, false, IfOk, IfSome, IfNone, OnOk, length, vec_len};
+ghost use Rattle.nextest_filter_matchers.specs.declared.source_span.SourceSpan as source;
+ghost use Rattle.nextest_filter_tokens.specs.Bytes.{skip};
+ghost use Rattle.nextest_filter_faults.specs.Faults.{is_refusal, span_of};
+ghost use Rattle.nextest_filter_tokens.specs.FaultLists.{AreOver, AreWithin, others};
+ghost use Rattle.nextest_filter_tokens.specs.Heads.{HeadEndsWithin, head_at};
+ghost use Rattle.nextest_filter_syntax.specs.Trees.{Tree, tree_of};
+ghost use Rattle.nextest_filter_syntax.specs.Grammar.{Reads};
+ghost use Rattle.nextest_filter_syntax.specs.Reading.{Ends};
+
+use crate::between::{operator_after, place_after};
+use crate::parsed_expr::ParsedExpr;
+use crate::parts::{in_parens, joined, leaf_expr, negated};
+use nextest_filter_faults::{ParseSingleError, SourceSpan};
+use nextest_filter_leaves::{expect_byte, named_set_from, nullary_set_from, platform_set_from};
+use nextest_filter_tokens::{FaultList, Head, WrongOperator, head_of, skip_blanks};
+use std::alloc::{AllocError, Global};
+
+/// The fault of an operator that stands in an operand's place.
+fn misplaced(op: WrongOperator, span: SourceSpan) -> ParseSingleError
+    ensures other { is_refusal result ≡ false }
+    ensures span { span_of result ≡ span }
+{
+    let (op, suggest) = match op {
+        WrongOperator::LowerAnd => ("and", "and"),
+        WrongOperator::LowerOr => ("or", "or"),
+        WrongOperator::UpperAnd => ("AND", "and"),
+        WrongOperator::UpperOr => ("OR", "or"),
+        WrongOperator::DoubleAmpersand => ("&&", "&"),
+        WrongOperator::DoublePipe => ("||", "|"),
+        WrongOperator::UpperNot => {
+            let (op, suggest) = ("NOT", "not");
+            return ParseSingleError::ExprFoundUnaryOp { op, suggest, span };
+        }
+    };
+    ParseSingleError::ExprFoundBinaryOp { op, suggest, span }
+}
+
+/// The part of the text from a place on.
+pub(crate) fn rest_of(text: &str, at: usize) -> SourceSpan
+    requires { at ≤ length text.now }
+    ensures { result.offset + result.len ≡ length text.now }
+{
+    SourceSpan {
+        offset: at,
+        len: text.len() - at,
+    }
+}
+
+/// Reports that an operand stands too deep, and closes the faults.
+fn report_too_deep(text: &str, at: usize, faults: &mut FaultList) -> Result<(), AllocError>
+    requires at { at ≤ length text.now }
+    requires within { AreWithin (length text.now) faults.old.list.items }
+    requires over { AreOver text.now faults.old.list.items }
+    ensures grows { OnOk result (vec_len faults.old.list ≤ vec_len faults.new.list) }
+    ensures others { OnOk result (others faults.old.list.items ≤ others faults.new.list.items) }
+    ensures within { OnOk result (AreWithin (length text.now) faults.new.list.items) }
+    ensures over { OnOk result (AreOver text.now faults.new.list.items) }
+    ensures some { OnOk result (0 < vec_len faults.new.list) }
+    ensures fault { OnOk result (0 < others faults.new.list.items) }
+{
+    faults.close(rest_of(text, at))?;
+    Ok(())
+}
+
+/// Reports what stands in the place of an operand, between two places, and is none.
+fn report_misplaced(
+    op: WrongOperator,
+    text: &str,
+    at: usize,
+    end: usize,
+    faults: &mut FaultList,
+) -> Result<(), AllocError>
+    requires rises { at ≤ end }
+    requires end { end ≤ length text.now }
+    requires within { AreWithin (length text.now) faults.old.list.items }
+    requires over { AreOver text.now faults.old.list.items }
+    ensures grows { OnOk result (vec_len faults.old.list ≤ vec_len faults.new.list) }
+    ensures others { OnOk result (others faults.old.list.items ≤ others faults.new.list.items) }
+    ensures within { OnOk result (AreWithin (length text.now) faults.new.list.items) }
+    ensures over { OnOk result (AreOver text.now faults.new.list.items) }
+    ensures some { OnOk result (0 < vec_len faults.new.list) }
+    ensures fault { OnOk result (0 < others faults.new.list.items) }
+{
+    let span = SourceSpan {
+        offset: at,
+        len: end - at,
+    };
+    faults.report(misplaced(op, span))?;
+    Ok(())
+}
+
+/// Reports that no operand stands at the place.
+fn report_no_operand(text: &str, at: usize, faults: &mut FaultList) -> Result<(), AllocError>
+    requires at { at ≤ length text.now }
+    requires within { AreWithin (length text.now) faults.old.list.items }
+    requires over { AreOver text.now faults.old.list.items }
+    ensures grows { OnOk result (vec_len faults.old.list ≤ vec_len faults.new.list) }
+    ensures others { OnOk result (others faults.old.list.items ≤ others faults.new.list.items) }
+    ensures within { OnOk result (AreWithin (length text.now) faults.new.list.items) }
+    ensures over { OnOk result (AreOver text.now faults.new.list.items) }
+    ensures some { OnOk result (0 < vec_len faults.new.list) }
+    ensures fault { OnOk result (0 < others faults.new.list.items) }
+{
+    faults.report(ParseSingleError::ExpectedExpr(rest_of(text, at)))?;
+    Ok(())
+}
+
+/// A part of a filter of a level from a place on, `None` where it is spoiled, and the place after it.
+#[cycle(reading)]
+pub(crate) fn tree_from(
+    alloc: Global,
+    text: &str,
+    room: usize,
+    level: usize,
+    at: usize,
+    faults: &mut FaultList,
+) -> Result<(Option<ParsedExpr>, usize), AllocError>
+    requires level { level ≤ 2 }
+    requires at { at ≤ length text.now }
+    requires within { AreWithin (length text.now) faults.old.list.items }
+    requires over { AreOver text.now faults.old.list.items }
+    ensures rises { IfOk result (λ p. at ≤ p.1) }
+    ensures end { IfOk result (λ p. p.1 ≤ length text.now) }
+    ensures grows { OnOk result (vec_len faults.old.list ≤ vec_len faults.new.list) }
+    ensures others { OnOk result (others faults.old.list.items ≤ others faults.new.list.items) }
+    ensures within { OnOk result (AreWithin (length text.now) faults.new.list.items) }
+    ensures over { OnOk result (AreOver text.now faults.new.list.items) }
+    ensures read { IfOk result (λ p. others faults.new.list.items ≡ 0 → IfSome p.0 (λ x. Reads text.now room level at (tree_of x) p.1)) }
+    ensures spoiled { IfOk result (λ p. IfNone p.0 (0 < vec_len faults.new.list)) }
+    ensures only { IfOk result (λ p. others faults.old.list.items ≡ 0 → (t : Tree source.SourceSpan) (j : ℕ) → Reads text.now room level at t j → Ends text.now level j → (p.1 ≡ j) × (others faults.new.list.items ≡ 0)) }
+{
+    if level == 0 {
+        let (tree, end) = operand_from(alloc, text, room, at, faults)?;
+        return Ok((tree, end));
+    }
+    let (mut tree, mut end) = tree_from(alloc, text, room, level - 1, at, faults)?;
+    loop {
+        let found = operator_after(text, level - 1, end, faults)?;
+        let Some(next) = place_after(found) else {
+            return Ok((tree, end));
+        };
+        let (right, after) = tree_from(alloc, text, room, level - 1, next, faults)?;
+        tree = joined(alloc, found, tree, right)?;
+        end = after;
+    }
+}
+
+/// An operand from a place on, `None` where it is spoiled, and the place after it.
+#[cycle(reading)]
+fn operand_from(
+    alloc: Global,
+    text: &str,
+    room: usize,
+    at: usize,
+    faults: &mut FaultList,
+) -> Result<(Option<ParsedExpr>, usize), AllocError>
+    requires at { at ≤ length text.now }
+    requires within { AreWithin (length text.now) faults.old.list.items }
+    requires over { AreOver text.now faults.old.list.items }
+    ensures rises { IfOk result (λ p. at ≤ p.1) }
+    ensures end { IfOk result (λ p. p.1 ≤ length text.now) }
+    ensures grows { OnOk result (vec_len faults.old.list ≤ vec_len faults.new.list) }
+    ensures others { OnOk result (others faults.old.list.items ≤ others faults.new.list.items) }
+    ensures within { OnOk result (AreWithin (length text.now) faults.new.list.items) }
+    ensures over { OnOk result (AreOver text.now faults.new.list.items) }
+    ensures read { IfOk result (λ p. others faults.new.list.items ≡ 0 → IfSome p.0 (λ x. Reads text.now room 0 at (tree_of x) p.1)) }
+    ensures spoiled { IfOk result (λ p. IfNone p.0 (0 < vec_len faults.new.list)) }
+    ensures only { IfOk result (λ p. others faults.old.list.items ≡ 0 → (t : Tree source.SourceSpan) (j : ℕ) → Reads text.now room 0 at t j → (p.1 ≡ j) × (others faults.new.list.items ≡ 0)) }
+{
+    let start = skip_blanks(text, at);
+    match head_of(text, start) {
+        Head::Names(predicate, next) => {
+            let (leaf, end) = named_set_from(alloc, text, predicate, next, faults)?;
+            Ok((leaf_expr(leaf), end))
+        }
+        Head::Platform(next) => {
+            let (leaf, end) = platform_set_from(alloc, text, next, faults)?;
+            Ok((leaf_expr(leaf), end))
+        }
+        Head::Says(word, next) => {
+            let (leaf, end) = nullary_set_from(text, word, start, next, faults)?;
+            Ok((Some(ParsedExpr::Set(leaf)), end))
+        }
+        Head::Negates(op, next) => {
+            if room == 0 {
+                report_too_deep(text, at, faults)?;
+                return Ok((None, at));
+            }
+            let (tree, end) = operand_from(alloc, text, room - 1, next, faults)?;
+            let tree = negated(alloc, op, tree)?;
+            Ok((tree, end))
+        }
+        Head::Opens(next) => {
+            if room == 0 {
+                report_too_deep(text, at, faults)?;
+                return Ok((None, at));
+            }
+            let (tree, end) = tree_from(alloc, text, room - 1, 2, next, faults)?;
+            let span = SourceSpan {
+                offset: end,
+                len: 0,
+            };
+            let fault = ParseSingleError::ExpectedCloseParenthesis(span);
+            let after = expect_byte(text, end, b')', fault, faults)?;
+            let tree = in_parens(alloc, tree)?;
+            Ok((tree, after))
+        }
+        Head::Misplaces(op, next) => {
+            report_misplaced(op, text, start, next, faults)?;
+            Ok((None, next))
+        }
+        Head::Unknown => {
+            report_no_operand(text, at, faults)?;
+            Ok((None, at))
+        }
+    }
+}

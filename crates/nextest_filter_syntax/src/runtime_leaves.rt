@@ -1,0 +1,66 @@
+ghost use Rattle.std.specs.Prelude.{◌≡◌, ◌++◌, ◌↔◌, IfOk, IsTrue, OnOk, codes, map};
+ghost use Rattle.std.specs.Str.Iter.{HasSubslice};
+ghost use Rattle.nextest_filter_syntax.specs.Trees.{tree_of};
+ghost use Rattle.nextest_filter_leaves.specs.Leaves.{leaf_of};
+ghost use Rattle.nextest_filter_syntax.specs.Runtime.{runtime_leaves};
+
+use crate::parsed_expr::ParsedExpr;
+use nextest_filter_leaves::ParsedLeaf;
+use std::alloc::{AllocError, Global};
+
+impl<S> ParsedExpr<S> {
+    /// The leaves that can be told only of a test, or only at run time, from left to right.
+    pub fn runtime_only_leaves(&self, alloc: Global) -> Result<Vec<&ParsedLeaf<S>>, AllocError>
+        ensures { IfOk result (λ v. map (λ l. leaf_of l.now) v.items ≡ runtime_leaves (tree_of self.now)) }
+    {
+        let mut leaves = Vec::new(alloc);
+        self.push_runtime_only(&mut leaves)?;
+        Ok(leaves)
+    }
+
+    fn push_runtime_only<'t>(
+        &'t self,
+        leaves: &mut Vec<&'t ParsedLeaf<S>>,
+    ) -> Result<(), AllocError>
+        ensures { OnOk result (map (λ l. leaf_of l.now) leaves.new.items ≡ map (λ l. leaf_of l.now) leaves.old.items ++ runtime_leaves (tree_of self.now)) }
+    {
+        match self {
+            ParsedExpr::Not(_, x) => {
+                x.push_runtime_only(leaves)?;
+                Ok(())
+            }
+            ParsedExpr::Parens(x) => {
+                x.push_runtime_only(leaves)?;
+                Ok(())
+            }
+            ParsedExpr::Union(_, x, y) => {
+                x.push_runtime_only(leaves)?;
+                y.push_runtime_only(leaves)?;
+                Ok(())
+            }
+            ParsedExpr::Intersection(_, x, y) => {
+                x.push_runtime_only(leaves)?;
+                y.push_runtime_only(leaves)?;
+                Ok(())
+            }
+            ParsedExpr::Difference(_, x, y) => {
+                x.push_runtime_only(leaves)?;
+                y.push_runtime_only(leaves)?;
+                Ok(())
+            }
+            ParsedExpr::Set(leaf) => {
+                if leaf.is_runtime_only() {
+                    leaves.push(leaf)?;
+                }
+                Ok(())
+            }
+        }
+    }
+}
+
+/// Whether a filter text may ask for dependencies, which have to be found before it is compiled.
+pub fn needs_deps(text: &str) -> bool
+    ensures { IsTrue result ↔ HasSubslice text.now (codes "deps") }
+{
+    text.contains("deps")
+}
