@@ -1,0 +1,4 @@
+pub mod Concluding
+pub mod ReadyFacts
+pub mod SearchFacts
+pub mod WaitingFacts

@@ -1,0 +1,52 @@
+-- What a search over rules keeps: what was found, which rules wait for a feature, and which are to be looked at.
+use Rattle.std.specs.Prelude.{◌≡◌, ℕ, ◌+◌, ◌<◌, ◌≤◌, Bool, true, false, ◌||◌, List, [], Some, length, slice_get, Vec, nat_eq, Contains}
+use Rattle.std.specs.BTreeMap as tree
+use Rattle.std.specs.BTreeMap.{BTreeMap}
+use Rattle.std.specs.BTreeSet as set
+use Rattle.std.specs.BTreeSet.{BTreeSet, contains_by, btree_set_len}
+use Rattle.std.specs.Borrow.{Bor}
+use Rattle.std.specs.Global.{Global}
+use Rattle.std.specs.List.{list_any}
+use Rattle.std.specs.Option.{option_map_or}
+use Rattle.std.specs.Ordering.{nat_cmp}
+use Rattle.workspace_record.specs.Features.{FeatureValue, feature_eq, feature_cmp}
+use Rattle.feature_account.specs.Closed.{FeatureSet}
+use Rattle.feature_account.specs.declared.rule.Premises.{Premises}
+use Rattle.feature_account.specs.declared.rule.Premises.TheVariants.{None, One, Two}
+use Rattle.feature_account.specs.declared.rule.Rule.{Rule}
+
+-- the features that the set finds
+abbrev pub found_set : BTreeSet (Bor FeatureValue) → FeatureSet
+found_set found f = contains_by (λ k. feature_cmp f k.now) found
+
+-- the feature is one of the premises
+abbrev pub waits_for : Premises → FeatureValue → Bool
+waits_for None f = false
+waits_for (One a) f = feature_eq f a
+waits_for (Two a b) f = feature_eq f a || feature_eq f b
+
+-- the numbers that the map has for a feature
+abbrev pub waiting_at : BTreeMap (Bor FeatureValue) (Vec ℕ Global) → FeatureValue → List ℕ
+waiting_at waiting f = option_map_or (λ v. v.items) (tree.get_by (λ k. feature_cmp f k.now) waiting) []
+
+-- the map has for a feature the numbers of the rules that wait for it, each once at most
+pub record IsWaiting (rules : List Rule) (waiting : BTreeMap (Bor FeatureValue) (Vec ℕ Global)) : Type 0 where
+  pub finds : (n : ℕ) (r : Rule) (f : FeatureValue) → slice_get rules n ≡ Some r → waits_for r.premises f ≡ true → list_any (nat_eq n) (waiting_at waiting f) ≡ true
+  pub known : (n : ℕ) (f : FeatureValue) → list_any (nat_eq n) (waiting_at waiting f) ≡ true → n < length rules
+  pub few : (f : FeatureValue) → length (waiting_at waiting f) ≤ length rules
+
+-- the set has the number
+abbrev pub has : BTreeSet ℕ → ℕ → Bool
+has = set.contains nat_cmp
+
+-- the set has each of this many numbers
+pub record IsEach (count : ℕ) (ready : BTreeSet ℕ) : Type 0 where
+  pub finds : (n : ℕ) → n < count → has ready n ≡ true
+  pub known : (n : ℕ) → has ready n ≡ true → n < count
+  pub count_is : btree_set_len ready ≡ count
+
+-- the set has the numbers besides those that it had, and no others
+pub record IsWith (old : BTreeSet ℕ) (numbers : List ℕ) (new : BTreeSet ℕ) : Type 0 where
+  pub finds : (n : ℕ) → has new n ≡ (list_any (nat_eq n) numbers || has old n)
+  pub more : btree_set_len old ≤ btree_set_len new
+  pub few : btree_set_len new ≤ btree_set_len old + length numbers

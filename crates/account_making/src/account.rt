@@ -1,0 +1,8 @@
+/// An account of what is on: rule numbers, each conclusion of which is new and rests on earlier ones.
+///
+/// `looks` counts how many times a rule was looked at while the account was made.
+#[derive(Debug, Drop)]
+pub struct Account {
+    pub rules: Vec<usize>,
+    pub looks: u128,
+}

@@ -1,0 +1,11 @@
+//! Makes the account of what is on: a list of rules that anyone can check, each of them the lowest
+//! that may stand at its place.
+#![tactic(auto)]
+
+mod account;
+mod making;
+mod ready;
+mod waiting;
+
+pub use crate::account::Account;
+pub use crate::making::account_of;

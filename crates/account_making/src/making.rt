@@ -1,0 +1,67 @@
+//! The account of what is on, by looking at each rule whenever it may have come to stand.
+
+ghost use Rattle.std.specs.Prelude.{◌≡◌, ◌↔◌, IfOk, IsTrue};
+ghost use Rattle.workspace_record.specs.Features.{FeatureValue};
+ghost use Rattle.feature_account.specs.Accounts.{concludes};
+ghost use Rattle.feature_account.specs.Closed.{has_premises, is_open, IsOn};
+ghost use Rattle.account_making.specs.Lowest.{IsLowestAccount, IsLooksOf};
+ghost use Rattle.account_making.specs.Waiting.{found_set};
+
+use crate::account::Account;
+use crate::ready::{each_number, wake};
+use crate::waiting::waiting_rules;
+use feature_account::{Premises, Rule};
+use std::alloc::{AllocError, Global};
+use std::collections::BTreeSet;
+use workspace_record::Feature;
+
+/// The account that lists at each place the lowest rule that may stand there, until none may.
+///
+/// A rule is looked at once at the beginning, and once more after a premise of it was concluded. So
+/// the work grows with the rules, times the logarithm of their number.
+pub fn account_of(alloc: Global, rules: &[Rule]) -> Result<Account, AllocError>
+    ensures lowest { IfOk result (λ a. IsLowestAccount rules.now a.rules.items) }
+    ensures on { IfOk result (λ a. (f : FeatureValue) → IsTrue (concludes rules.now a.rules.items f) ↔ IsOn rules.now f) }
+    ensures looks { IfOk result (λ a. IsLooksOf rules.now a.rules.items a.looks) }
+{
+    let waiting = waiting_rules(alloc, rules)?;
+    let mut ready = each_number(alloc, rules.len())?;
+    let mut found: BTreeSet<&Feature> = BTreeSet::new(alloc);
+    let mut account = Vec::new(alloc);
+    let mut looks = 0;
+    while let Some(number) = ready.pop_first() {
+        looks += 1;
+        let rule = &rules[number];
+        if is_open(&found, rule) {
+            found.insert(&rule.conclusion)?;
+            account.push(number)?;
+            wake(&mut ready, &waiting, &rule.conclusion)?;
+        }
+    }
+    Ok(Account {
+        rules: account,
+        looks,
+    })
+}
+
+fn is_open<'a>(found: &BTreeSet<&'a Feature>, rule: &'a Rule) -> bool
+    ensures { result ≡ is_open (found_set found.now) rule.entry.now }
+{
+    has_premises(found, &rule.premises) && !contains(found, &rule.conclusion)
+}
+
+fn has_premises<'a>(found: &BTreeSet<&'a Feature>, premises: &'a Premises) -> bool
+    ensures { result ≡ has_premises (found_set found.now) premises.entry.now }
+{
+    match premises {
+        Premises::None => true,
+        Premises::One(a) => contains(found, a),
+        Premises::Two(a, b) => contains(found, a) && contains(found, b),
+    }
+}
+
+fn contains<'a>(found: &BTreeSet<&'a Feature>, feature: &'a Feature) -> bool
+    ensures { result ≡ found_set found.now feature.entry.now }
+{
+    found.contains(&feature)
+}
