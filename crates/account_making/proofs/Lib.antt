@@ -2,3 +2,4 @@ pub mod Concluding
 pub mod ReadyFacts
 pub mod SearchFacts
 pub mod WaitingFacts
+pub mod WritingFacts

@@ -1,2 +1,3 @@
+pub mod AccountText
 pub mod Lowest
 pub mod Waiting

@@ -6,6 +6,10 @@ mod account;
 mod making;
 mod ready;
 mod waiting;
+mod write_account_error;
+mod writing;
 
 pub use crate::account::Account;
 pub use crate::making::account_of;
+pub use crate::write_account_error::WriteAccountError;
+pub use crate::writing::write_account;
