@@ -2,5 +2,4 @@ pub mod ErrorTexts
 pub mod Errors
 pub mod Extras
 pub mod OnLines
-pub mod Rounds
 pub mod Switching

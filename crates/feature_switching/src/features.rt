@@ -6,12 +6,12 @@ ghost use Rattle.std.specs.List.Sorted.{IsStrictlySortedBy};
 ghost use Rattle.list_facts.specs.Ascending.{IsAscendingOf};
 ghost use Rattle.workspace_record.specs.Features.{FeatureValue, Base, Named, Dep, label_eq, feature_eq, feature_cmp};
 ghost use Rattle.workspace_record.specs.LabelView.{label_view};
-ghost use Rattle.feature_account.specs.Accounts.{concluded_set};
+ghost use Rattle.feature_account.specs.Accounts.{conclusions, concluded_set};
 ghost use Rattle.feature_account.specs.RuleList.{base_of, named_of, dep_of};
-ghost use Rattle.feature_account.specs.Closed.{has_premises, is_open, IsOn};
-ghost use Rattle.feature_switching.specs.Rounds.{IsRound};
+ghost use Rattle.feature_account.specs.Closed.{IsOn};
 
-use feature_account::{Premises, Rule};
+use account_making::account_of;
+use feature_account::Rule;
 use std::alloc::{AllocError, Global};
 use std::marker::Model;
 use workspace_record::{Feature, Label};
@@ -115,48 +115,24 @@ fn sorted_features(mut features: Vec<Feature>) -> Result<Vec<Feature>, AllocErro
     Ok(features)
 }
 
-// Round after round, until no rule is open.
+// What the account of what is on concludes.
 fn conclude_all(alloc: Global, rules: &[Rule]) -> Result<Vec<Feature>, AllocError>
     ensures { IfOk result (λ v. (f : FeatureValue) → Contains v.items f ↔ IsOn rules.now f) }
 {
-    let mut found: Vec<Feature> = Vec::new(alloc);
-    while conclude_round(alloc, rules, &mut found)? {}
-    Ok(found)
+    let account = account_of(alloc, rules)?;
+    conclusions(alloc, rules, &account.rules)
 }
 
-/// Looks at each rule once, in order, and adds the conclusions of those that are open then. Whether
-/// there was one.
-fn conclude_round(
-    alloc: Global,
-    rules: &[Rule],
-    found: &mut Vec<Feature>,
-) -> Result<bool, AllocError>
-    ensures { IfOk result (λ went_on. IsRound rules.now rules.now found.old.items found.new.items went_on) }
+fn conclusions(alloc: Global, rules: &[Rule], account: &[usize]) -> Result<Vec<Feature>, AllocError>
+    ensures { IfOk result (λ v. v.items ≡ conclusions rules.now account.now) }
 {
-    let mut went_on = false;
-    for rule in rules {
-        if is_open(found, rule) {
+    let mut found: Vec<Feature> = Vec::new(alloc);
+    for number in account {
+        if let Some(rule) = rules.get(*number) {
             found.push(rule.conclusion.copy(alloc)?)?;
-            went_on = true;
         }
     }
-    Ok(went_on)
-}
-
-fn is_open(found: &[Feature], rule: &Rule) -> bool
-    ensures { result ≡ is_open (concluded_set found.now) rule.now }
-{
-    has_premises(found, &rule.premises) && !concludes(found, &rule.conclusion)
-}
-
-fn has_premises(found: &[Feature], premises: &Premises) -> bool
-    ensures { result ≡ has_premises (concluded_set found.now) premises.now }
-{
-    match premises {
-        Premises::None => true,
-        Premises::One(a) => concludes(found, a),
-        Premises::Two(a, b) => concludes(found, a) && concludes(found, b),
-    }
+    Ok(found)
 }
 
 fn concludes(found: &[Feature], feature: &Feature) -> bool

@@ -9,4 +9,5 @@ mod switching;
 
 pub use crate::features::FeaturesOn;
 pub use crate::select_error::SelectError;
-pub use crate::switching::features_on;
+pub use crate::switching::{account, features_on};
+pub use account_making::{Account, WriteAccountError, write_account};

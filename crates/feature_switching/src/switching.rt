@@ -1,15 +1,18 @@
 //! The features that are on under a choice and a table.
 
-ghost use Rattle.std.specs.Prelude.{IfOk, Contains, ◌↔◌};
+ghost use Rattle.std.specs.Prelude.{IfOk, IsTrue, Contains, ◌↔◌};
 ghost use Rattle.std.specs.List.Sorted.{IsStrictlySortedBy};
 ghost use Rattle.workspace_record.specs.Features.{FeatureValue, feature_cmp};
+ghost use Rattle.feature_account.specs.Accounts.{concludes};
 ghost use Rattle.feature_account.specs.Closed.{IsOn};
 ghost use Rattle.feature_account.specs.RuleList.{rule_list};
-ghost use Rattle.feature_switching.specs.Switching.{SwitchesOn};
+ghost use Rattle.account_making.specs.Lowest.{IsLowestAccount, IsLooksOf};
+ghost use Rattle.feature_switching.specs.Switching.{IsServed, AnswersOrRefuses, SwitchesOn, Accounts};
 
 use crate::extras::unknown_extra;
 use crate::features::{FeaturesOn, features_of};
 use crate::select_error::SelectError;
+use account_making::{Account, account_of};
 use feature_account::rules;
 use record_rules::check_record;
 use std::alloc::{AllocError, Global};
@@ -18,8 +21,8 @@ use workspace_record::{FeatureChoice, PlatformTable, WorkspaceRecord};
 /// The features that are on: those in every set that the rules of the record, the choice and the table
 /// close. The record is tested first, and then the extras of the choice.
 ///
-/// Computed plainly, in rounds over the rules: the work grows with the rounds times the rules, times
-/// what is on.
+/// The work grows as that of `rules` and `check_record`, and with the rules times the logarithm of their
+/// number.
 pub fn features_on(
     alloc: Global,
     record: &WorkspaceRecord,
@@ -28,11 +31,54 @@ pub fn features_on(
 ) -> Result<FeaturesOn, SelectError>
     ensures { SwitchesOn record.now choice.now table.now result }
 {
+    match check_question(alloc, record, choice) {
+        Err(refusal) => Err(refusal),
+        Ok(()) => Ok(switched_on(alloc, record, choice, table)?),
+    }
+}
+
+/// The account of what is on, each entry of which is the lowest rule that may stand at its place. The
+/// record is tested first, and then the extras of the choice.
+pub fn account(
+    alloc: Global,
+    record: &WorkspaceRecord,
+    choice: &FeatureChoice,
+    table: &PlatformTable,
+) -> Result<Account, SelectError>
+    ensures { Accounts record.now choice.now table.now result }
+{
+    match check_question(alloc, record, choice) {
+        Err(refusal) => Err(refusal),
+        Ok(()) => Ok(account_under(alloc, record, choice, table)?),
+    }
+}
+
+fn check_question(
+    alloc: Global,
+    record: &WorkspaceRecord,
+    choice: &FeatureChoice,
+) -> Result<(), SelectError>
+    ensures { AnswersOrRefuses (λ _. IsServed record.now choice.now) record.now choice.now result }
+{
     check_record(alloc, record)?;
     match unknown_extra(record, choice) {
         Some(place) => Err(SelectError::UnknownExtra(place)),
-        None => Ok(switched_on(alloc, record, choice, table)?),
+        None => Ok(()),
     }
+}
+
+fn account_under(
+    alloc: Global,
+    record: &WorkspaceRecord,
+    choice: &FeatureChoice,
+    table: &PlatformTable,
+) -> Result<Account, AllocError>
+    ensures lowest { IfOk result (λ a. IsLowestAccount (rule_list record.now choice.now table.now) a.rules.items) }
+    ensures on { IfOk result (λ a. (f : FeatureValue) → IsTrue (concludes (rule_list record.now choice.now table.now) a.rules.items f) ↔ IsOn (rule_list record.now choice.now table.now) f) }
+    ensures looks { IfOk result (λ a. IsLooksOf (rule_list record.now choice.now table.now) a.rules.items a.looks) }
+{
+    let rules = rules(alloc, record, choice, table)?;
+    account_of(alloc, &rules)
 }
 
 fn switched_on(

@@ -72,7 +72,7 @@ module _ (q : Question) (on : List FeatureValue) (are_on : AreOn q.workspace q.c
       stays t inside =
           let id = Contains-map_cases (λ (b : TestBinary). string_bytes b.id) sorted (string_bytes t.id) ((ascending.members (string_bytes t.id)).1 (Contains-map (λ (b : TestBinary). string_bytes b.id) kept t inside)) in
           let declared : (b : TestBinary) → Contains kept b → Contains (binaries q.workspace) (binary_view b) = λ b among. ((let_through_iff (binary_view b)).0 (Contains-map binary_view kept b among)).0.declared in
-          let same : binary_view id.0 ≡ binary_view t = binaries_told_apart q.workspace are_on.checked.0 (binary_view id.0) (binary_view t) (declared id.0 (all_kept id.0 id.1)) (declared t inside) id.2 in
+          let same : binary_view id.0 ≡ binary_view t = binaries_told_apart q.workspace are_on.served.checked.0 (binary_view id.0) (binary_view t) (declared id.0 (all_kept id.0 id.1)) (declared t inside) id.2 in
           subst (Contains (map binary_view sorted)) same (Contains-map binary_view sorted id.0 id.1)
 
       sorted_iff : (b : Binary) → Contains (map binary_view sorted) b ↔ (IsAvailableBinary q b × IsLetThrough q b)
@@ -97,8 +97,8 @@ module _ (q : Question) (on : List FeatureValue) (are_on : AreOn q.workspace q.c
       pub plan_made : IsPlan q filters (map binary_view sorted)
       plan_made = record {
         answered = record {
-          checked = are_on.checked;
-          known = are_on.known;
+          checked = are_on.served.checked;
+          known = are_on.served.known;
           accepted = λ text inside. stand.accepted text (given_too q.texts text inside);
         };
         ids = asked_ids;

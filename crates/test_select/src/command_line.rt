@@ -12,7 +12,9 @@ pub(crate) fn command<'a>(alloc: Global) -> Result<Command<'a>, AllocError> {
         .after_help(STATUSES)
         .subcommand_required(true)
         .arg_required_else_help(true)
-        .subcommand(tests_command(alloc)?)
+        .subcommand(tests_command(alloc)?)?
+        .subcommand(account_command(alloc)?)?
+        .subcommand(check_command(alloc)?)
 }
 
 /// The names of the files that `tests` reads.
@@ -33,6 +35,33 @@ fn tests_command<'a>(alloc: Global) -> Result<Command<'a>, AllocError> {
         .arg(filter_words(alloc))
 }
 
+/// What an account is asked of: the names of its files.
+#[derive(Clone, Copy)]
+pub(crate) struct QuestionFiles<'a> {
+    pub(crate) record: &'a str,
+    pub(crate) choice: Option<&'a str>,
+    pub(crate) table: Option<&'a str>,
+}
+
+fn account_command<'a>(alloc: Global) -> Result<Command<'a>, AllocError> {
+    Command::new(alloc, "account")
+        .about("Prints an account of the features that are on")
+        .after_help(ACCOUNT_HELP)
+        .arg(record_option(alloc))?
+        .arg(choice_option(alloc))?
+        .arg(table_option(alloc))
+}
+
+fn check_command<'a>(alloc: Global) -> Result<Command<'a>, AllocError> {
+    Command::new(alloc, "check")
+        .about("Checks an account of the features that are on")
+        .after_help(CHECK_HELP)
+        .arg(record_option(alloc))?
+        .arg(choice_option(alloc))?
+        .arg(table_option(alloc))?
+        .arg(account_option(alloc))
+}
+
 fn record_option<'a>(alloc: Global) -> Arg<'a> {
     file_option(alloc, "record").required(true).help(
         "The record of the workspace: its packages, links and members, as JSON",
@@ -49,6 +78,18 @@ fn choice_option<'a>(alloc: Global) -> Arg<'a> {
     file_option(alloc, "choice").help(
         "The features that are asked for, as JSON [default: the default features]",
     )
+}
+
+fn table_option<'a>(alloc: Global) -> Arg<'a> {
+    file_option(alloc, "table").help(
+        "What holds on the platform, as JSON [default: nothing is known, and what is unknown counts]",
+    )
+}
+
+fn account_option<'a>(alloc: Global) -> Arg<'a> {
+    file_option(alloc, "account")
+        .required(true)
+        .help("The account to be checked: numbers of rules, as JSON")
 }
 
 fn file_option<'a>(alloc: Global, name: &'a str) -> Arg<'a> {
@@ -73,6 +114,20 @@ pub(crate) fn tests_files<'a>(asked: &ArgMatches<'a>) -> TestsFiles<'a> {
         choice: asked.get_str("choice"),
         listings: required(asked, "listings"),
     }
+}
+
+/// The files that the command line names for a question on features.
+pub(crate) fn question_files<'a>(asked: &ArgMatches<'a>) -> QuestionFiles<'a> {
+    QuestionFiles {
+        record: required(asked, "record"),
+        choice: asked.get_str("choice"),
+        table: asked.get_str("table"),
+    }
+}
+
+/// The file that the command line names for the account.
+pub(crate) fn account_file<'a>(asked: &ArgMatches<'a>) -> &'a str {
+    required(asked, "account")
 }
 
 /// The value of a required option, without which `clap` takes no command line.
@@ -102,6 +157,23 @@ binary and then name, and none stands there twice.
 Exit status: 0 if the tests are printed; 1 if a file, the record, the choice, a filter or a listing
 is refused, or the output cannot be written, with the reasons on standard error; 2 for a bad command
 line.";
+
+const ACCOUNT_HELP: &str =
+    "Output: a line of JSON with the numbers of rules by which features are switched on, in an order in
+which each rule has its premises from earlier ones. Each is the lowest rule that may stand there. Rules
+are numbered from 0: those of the choice, then those of each package's features, then those of the
+features' entries, then those of the links.
+
+Exit status: 0 if the account is printed; 1 if a file, the record or the choice is refused, or the
+output cannot be written, with the reasons on standard error; 2 for a bad command line.";
+
+const CHECK_HELP: &str =
+    "Output: `accepted`, or `refused: ` and the first fault of the account: `unknown rule at P`,
+`repeated conclusion at P` or `missing premise at P`, where P counts its entries from 0, or `not closed
+at N`, where N is the lowest rule that is left out.
+
+Exit status: 0 if the account is accepted; 1 if it or a file is refused, or the output cannot be
+written, with the reasons for the latter two on standard error; 2 for a bad command line.";
 
 const STATUSES: &str =
     "Exit status: 0 if all is done; 1 if it failed, with the reasons on standard error; 2 for a bad

@@ -6,7 +6,7 @@ ghost use Rattle.test_select.specs.declared.failure.Failure.TheVariants.{Refused
 
 use crate::file_source::FileFault;
 use clap::error::ErrorKind;
-use feature_switching::SelectError;
+use feature_switching::{SelectError, WriteAccountError};
 use record_files::ReadError;
 use std::alloc::{AllocError, AllocFailed};
 use std::{fmt, io};
@@ -22,6 +22,8 @@ pub(crate) enum Failure<'a> {
     BadFile(&'a str, ReadError),
     /// The record, the choice, a filter text or a listing is refused.
     Refused(SelectError),
+    /// The account is refused, as the output says.
+    AccountRefused,
     /// The output does not take what is written.
     CannotWrite,
     /// Memory ran out.
@@ -68,6 +70,7 @@ impl fmt::Display for Failure<'_> {
             Failure::CannotRead(name) => writeln!(f, "cannot read {name}"),
             Failure::BadFile(name, error) => write_bad_file(f, name, error),
             Failure::Refused(error) => writeln!(f, "{error}"),
+            Failure::AccountRefused => Ok(()),
             Failure::CannotWrite => f.write_str("cannot write\n"),
             Failure::Memory => f.write_str("out of memory\n"),
         }
@@ -100,6 +103,17 @@ impl From<SelectError> for Failure<'_> {
 
     fn from(error: SelectError) -> Self {
         Failure::Refused(error)
+    }
+}
+
+impl From<WriteAccountError> for Failure<'_> {
+    ghost from_gives = { λ _ f. status_of f ≡ 1 };
+
+    fn from(error: WriteAccountError) -> Self {
+        match error {
+            WriteAccountError::Memory => Failure::Memory,
+            WriteAccountError::Write(_) => Failure::CannotWrite,
+        }
     }
 }
 

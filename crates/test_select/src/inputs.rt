@@ -2,16 +2,17 @@
 
 ghost use Rattle.std.specs.Prelude.{◌≡◌, IfOk, IfErr, IsNone, IsSome, Ok};
 ghost use Rattle.test_select.specs.Failures.{status_of};
-ghost use Rattle.test_select.specs.Runs.{default_choice};
+ghost use Rattle.test_select.specs.Runs.{default_choice, KnowsNothing};
 
-use crate::command_line::TestsFiles;
+use crate::command_line::{QuestionFiles, TestsFiles};
 use crate::failure::Failure;
 use crate::file_source::FileSource;
-use record_files::{ReadError, read_choice, read_listings, read_record};
+use crate::unknown_platform::nothing_known;
+use record_files::{ReadError, read_account, read_choice, read_listings, read_record, read_table};
 use std::alloc::Global;
 use std::collections::BTreeMap;
 use test_lister::Listing;
-use workspace_record::{FeatureChoice, Standard, WorkspaceRecord};
+use workspace_record::{FeatureChoice, PlatformTable, Standard, WorkspaceRecord};
 
 /// What the command `tests` works on.
 #[derive(Drop)]
@@ -37,6 +38,33 @@ pub(crate) fn tests_inputs<'a>(
         record,
         choice,
         listings,
+    })
+}
+
+/// What is asked on features.
+#[derive(Drop)]
+pub(crate) struct FeatureQuestion {
+    pub(crate) record: WorkspaceRecord,
+    pub(crate) choice: FeatureChoice,
+    pub(crate) table: PlatformTable,
+}
+
+/// Reads and decodes the record, then the choice, then the table. The first file that fails ends the
+/// reading.
+pub(crate) fn feature_question<'a>(
+    alloc: Global,
+    names: QuestionFiles<'a>,
+    files: &mut dyn FileSource,
+) -> Result<FeatureQuestion, Failure<'a>>
+    ensures { IfErr result (λ f. status_of f ≡ 1) }
+{
+    let record = record_in(alloc, names.record, files)?;
+    let choice = choice_in(alloc, names.choice, files)?;
+    let table = table_in(alloc, names.table, files)?;
+    Ok(FeatureQuestion {
+        record,
+        choice,
+        table,
     })
 }
 
@@ -74,6 +102,33 @@ fn choice_of_defaults(alloc: Global) -> FeatureChoice
         standard: Standard::Default,
         extras: Vec::new(alloc),
     }
+}
+
+fn table_in<'a>(
+    alloc: Global,
+    name: Option<&'a str>,
+    files: &mut dyn FileSource,
+) -> Result<PlatformTable, Failure<'a>>
+    ensures absent { IfOk result (λ t. IsNone name.entry → KnowsNothing t) }
+    ensures fails { IfErr result (λ f. IsSome name.entry × (status_of f ≡ 1)) }
+{
+    let Some(name) = name else {
+        return Ok(nothing_known(alloc));
+    };
+    let bytes = bytes_in(alloc, name, files)?;
+    accepted(name, read_table(alloc, &bytes))
+}
+
+/// The account in the file with this name.
+pub(crate) fn account_in<'a>(
+    alloc: Global,
+    name: &'a str,
+    files: &mut dyn FileSource,
+) -> Result<Vec<usize>, Failure<'a>>
+    ensures { IfErr result (λ f. status_of f ≡ 1) }
+{
+    let bytes = bytes_in(alloc, name, files)?;
+    accepted(name, read_account(alloc, &bytes))
 }
 
 fn listings_in<'a>(

@@ -2,6 +2,7 @@
 //! choice of features on one platform.
 #![tactic(auto)]
 
+mod accounts;
 mod asking;
 mod command_line;
 mod failure;
@@ -25,9 +26,11 @@ pub use crate::selection::Selection;
 pub use feature_account::{
     Feature, FeatureChoice, FeatureRecord, GroupRecord, Label, LineKind, LineRecord, LinkRecord,
     MemberRecord, PackageInfo, PackageRecord, PlatformTable, Standard, TargetInfo, TargetKind,
-    TargetRecord, WorkspaceInfo, WorkspaceRecord,
+    TargetRecord, Verdict, WorkspaceInfo, WorkspaceRecord, check_account,
 };
-pub use feature_switching::{FeaturesOn, SelectError, features_on};
+pub use feature_switching::{
+    Account, FeaturesOn, SelectError, WriteAccountError, account, features_on, write_account,
+};
 pub use filter_texts::{ParseSingleError, SourceSpan};
 pub use record_files::{
     Field, Key, ReadError, read_account, read_choice, read_listings, read_record, read_table,

@@ -3,6 +3,7 @@
 ghost use Rattle.std.specs.Prelude.{◌≡◌, ◌≤◌, IfErr};
 ghost use Rattle.test_select.specs.Failures.{status_of};
 
+use crate::accounts::{print_account, print_verdict};
 use crate::command_line::{command, filters_in, tests_files};
 use crate::failure::Failure;
 use crate::file_source::FileSource;
@@ -22,7 +23,13 @@ use test_lister::FileLister;
 /// `test_select tests --record F --listings F [--choice F] [FILTER]...` reads and decodes the record,
 /// the choice and the listings, one by one and in this order, then selects, and writes the report to
 /// `out`. Without a choice the default features are on. Nothing is known of the platform, and links
-/// that are on are followed. Help and the version go to `out` too. `err` gets a line for each cause
+/// that are on are followed.
+///
+/// `test_select account --record F [--choice F] [--table F]` writes the account of what is on, and
+/// `test_select check --record F [--choice F] [--table F] --account F` what is to be said of an account:
+/// a refused one has status 1 and no line on `err`.
+///
+/// Help and the version go to `out` too. `err` gets a line for each other cause
 /// of a status other than 0; a fault of `err` changes nothing.
 pub fn run<S: AsStr, O: Write, E: Write>(
     alloc: Global,
@@ -72,6 +79,8 @@ fn carry_out<'a, O: Write>(
 {
     match matches.subcommand() {
         Some(("tests", asked)) => print_tests(alloc, asked, files, out),
+        Some(("account", asked)) => print_account(alloc, asked, files, out),
+        Some(("check", asked)) => print_verdict(alloc, asked, files, out),
         _ => Ok(()),
     }
 }

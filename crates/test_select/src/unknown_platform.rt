@@ -28,7 +28,7 @@ pub(crate) fn select_on_unknown_platform(
 }
 
 /// The table of a platform of which nothing is known.
-fn nothing_known(alloc: Global) -> PlatformTable
+pub(crate) fn nothing_known(alloc: Global) -> PlatformTable
     ensures { KnowsNothing result }
 {
     PlatformTable {
