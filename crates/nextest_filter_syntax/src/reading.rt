@@ -2,11 +2,11 @@ ghost use Rattle.std.specs.Prelude.{◌≡◌, ◌≤◌, ◌<◌, ◌+◌, ℕ,
 ghost use Rattle.nextest_filter_matchers.specs.declared.source_span.SourceSpan as source;
 ghost use Rattle.nextest_filter_tokens.specs.Bytes.{skip};
 ghost use Rattle.nextest_filter_faults.specs.Faults.{is_refusal, span_of};
-ghost use Rattle.nextest_filter_tokens.specs.FaultLists.{AreOver, AreWithin, others};
+ghost use Rattle.nextest_filter_tokens.specs.FaultLists.{AreOver, AreWithin, others, refusals};
 ghost use Rattle.nextest_filter_tokens.specs.Heads.{HeadEndsWithin, head_at};
-ghost use Rattle.nextest_filter_syntax.specs.Trees.{Tree, tree_of};
+ghost use Rattle.nextest_filter_syntax.specs.Trees.{Tree};
 ghost use Rattle.nextest_filter_syntax.specs.Grammar.{Reads};
-ghost use Rattle.nextest_filter_syntax.specs.Reading.{Ends};
+ghost use Rattle.nextest_filter_syntax.specs.Reading.{Ends, IsReading};
 
 use crate::between::{operator_after, place_after};
 use crate::parsed_expr::ParsedExpr;
@@ -124,9 +124,10 @@ pub(crate) fn tree_from(
     ensures end { IfOk result (λ p. p.1 ≤ length text.now) }
     ensures grows { OnOk result (vec_len faults.old.list ≤ vec_len faults.new.list) }
     ensures others { OnOk result (others faults.old.list.items ≤ others faults.new.list.items) }
+    ensures refusals { IfOk result (λ p. IfSome p.0 (λ _. refusals faults.new.list.items ≡ refusals faults.old.list.items)) }
     ensures within { OnOk result (AreWithin (length text.now) faults.new.list.items) }
     ensures over { OnOk result (AreOver text.now faults.new.list.items) }
-    ensures read { IfOk result (λ p. others faults.new.list.items ≡ 0 → IfSome p.0 (λ x. Reads text.now room level at (tree_of x) p.1)) }
+    ensures read { IfOk result (λ p. others faults.new.list.items ≡ 0 → IsReading text.now room level at p.0 p.1) }
     ensures spoiled { IfOk result (λ p. IfNone p.0 (0 < vec_len faults.new.list)) }
     ensures only { IfOk result (λ p. others faults.old.list.items ≡ 0 → (t : Tree source.SourceSpan) (j : ℕ) → Reads text.now room level at t j → Ends text.now level j → (p.1 ≡ j) × (others faults.new.list.items ≡ 0)) }
 {
@@ -162,9 +163,10 @@ fn operand_from(
     ensures end { IfOk result (λ p. p.1 ≤ length text.now) }
     ensures grows { OnOk result (vec_len faults.old.list ≤ vec_len faults.new.list) }
     ensures others { OnOk result (others faults.old.list.items ≤ others faults.new.list.items) }
+    ensures refusals { IfOk result (λ p. IfSome p.0 (λ _. refusals faults.new.list.items ≡ refusals faults.old.list.items)) }
     ensures within { OnOk result (AreWithin (length text.now) faults.new.list.items) }
     ensures over { OnOk result (AreOver text.now faults.new.list.items) }
-    ensures read { IfOk result (λ p. others faults.new.list.items ≡ 0 → IfSome p.0 (λ x. Reads text.now room 0 at (tree_of x) p.1)) }
+    ensures read { IfOk result (λ p. others faults.new.list.items ≡ 0 → IsReading text.now room 0 at p.0 p.1) }
     ensures spoiled { IfOk result (λ p. IfNone p.0 (0 < vec_len faults.new.list)) }
     ensures only { IfOk result (λ p. others faults.old.list.items ≡ 0 → (t : Tree source.SourceSpan) (j : ℕ) → Reads text.now room 0 at t j → (p.1 ≡ j) × (others faults.new.list.items ≡ 0)) }
 {
