@@ -1,5 +1,5 @@
 -- A matcher reads back from what is printed of it.
-use Rattle.std.proofs.Common.{◌≡◌, ℕ, ◌+◌, ◌<◌, Bool, true, false, not, ◌&&◌, List, [], ◌∷◌, ◌++◌, length, codes, Some, nat_eq, nat_le, nat_lt, refl, sym, ◌∙◌, ap, subst, arith}
+use Rattle.std.proofs.Common.{◌≡◌, ℕ, ◌+◌, Ok, ◌<◌, Bool, true, false, not, ◌&&◌, List, [], ◌∷◌, ◌++◌, length, codes, Some, nat_eq, nat_le, nat_lt, refl, sym, ◌∙◌, ap, subst, arith}
 use Rattle.std.proofs.lemmas.Bool.{and_parts, cond-true, cond-false, cond_both, leb-true, ne_eqb, or_left, or_right, not-true, or_parts}
 use Rattle.std.proofs.lemmas.List.{length-append}
 use Rattle.std.proofs.lemmas.Str.{IsUtf8-string_bytes, encodes-chars, scalars-chars}
@@ -7,6 +7,8 @@ use Rattle.std.proofs.Math.Utf8.{encodes}
 use Rattle.std.specs.Fmt.{digits}
 use Rattle.std.specs.List.{flat_map}
 use Rattle.std.specs.Str.{IsUtf8, chars}
+use Rattle.nextest_filter_matchers.specs.GlobReading.{read_glob}
+use Rattle.nextest_filter_matchers.specs.Identities.{to_read}
 use Rattle.nextest_filter_matchers.specs.Matchers.{Matcher, Equal, Contains, Glob, Regex, matcher_of}
 use Rattle.nextest_filter_matchers.specs.Printing.{matcher_text, printed_character, printed_pattern, printed_sign, printed_text}
 use Rattle.nextest_filter_matchers.specs.declared.name_matcher.NameMatcher.{NameMatcher}
@@ -24,17 +26,17 @@ use Rattle.nextest_filter_printing.proofs.WordFacts.{first_byte, first_part, is_
 use Rattle.nextest_filter_printing.proofs.TextBack.{code_word, graphic_word, is_signed, line_word, return_word, tab_word, text_back}
 use Rattle.nextest_filter_printing.proofs.PatternBack.{pattern_back}
 
--- the texts of a matcher are UTF-8
+-- the texts of a matcher are UTF-8, and the tokens of a glob those that its text reads as
 abbrev pub IsMade : Matcher → Type 0
 IsMade (Equal text implicit) = IsUtf8 text
 IsMade (Contains text implicit) = IsUtf8 text
-IsMade (Glob text tokens implicit) = IsUtf8 text
+IsMade (Glob text tokens implicit) = IsUtf8 text × (read_glob (chars text) ≡ Ok tokens)
 IsMade (Regex pattern) = IsUtf8 pattern
 
 pub matcher_made : (m : NameMatcher) → IsMade (matcher_of m)
 matcher_made (name.Equal value implicit) = IsUtf8-string_bytes value
 matcher_made (name.Contains value implicit) = IsUtf8-string_bytes value
-matcher_made (name.Glob glob implicit) = IsUtf8-string_bytes glob.text
+matcher_made (name.Glob glob implicit) = (IsUtf8-string_bytes glob.text, to_read _ _ glob.has_tokens)
 matcher_made (name.Regex regex) = IsUtf8-string_bytes regex.value.pattern.source
 
 first_of : (text cs : List ℕ) → IsUtf8 text → 0 < length text → chars text ≡ cs → (c : ℕ) × (ds : List ℕ) × (chars text ≡ c ∷ ds)
@@ -155,8 +157,8 @@ module _ (text : List ℕ) where
       styled_back implicit 61 style.Equal predicate bytes (Equal bytes implicit) i refl (says_equal i) utf8 printable refl h end
   matcher_back predicate (Contains bytes implicit) i printable utf8 h end =
       styled_back implicit 126 style.Contains predicate bytes (Contains bytes implicit) i refl (says_contains i) utf8 printable refl h end
-  matcher_back predicate (Glob bytes tokens implicit) i printable utf8 h end =
-      styled_back implicit 35 style.Glob predicate bytes (Glob bytes tokens implicit) i refl (says_glob i) utf8 printable.0 (ap (glob_made implicit bytes) printable.1) h end
+  matcher_back predicate (Glob bytes tokens implicit) i printable made h end =
+      styled_back implicit 35 style.Glob predicate bytes (Glob bytes tokens implicit) i refl (says_glob i) made.0 printable (ap (glob_made implicit bytes) made.1) h end
   matcher_back predicate (Regex pattern) i printable utf8 h end =
       let here = (and_parts (is_byte text i 47) _ h).0 in
       let word = printed_pattern false (chars pattern) in

@@ -1,8 +1,7 @@
 -- Which filters read back from what is printed of them.
-use Rattle.std.specs.Prelude.{◌≡◌, ℕ, zero, suc, ◌<◌, Bool, true, false, ◌&&◌, ◌||◌, not, List, [], ◌∷◌, length, nat_eq, Ok}
+use Rattle.std.specs.Prelude.{◌≡◌, ℕ, zero, suc, ◌<◌, Bool, true, false, ◌&&◌, ◌||◌, not, List, [], ◌∷◌, length, nat_eq}
 use Rattle.std.specs.Str.{chars}
 use Rattle.nextest_filter_matchers.specs.Matchers.{Matcher, Equal, Contains, Glob, Regex}
-use Rattle.nextest_filter_matchers.specs.GlobReading.{read_glob}
 use Rattle.nextest_filter_tokens.specs.declared.heads.Predicate.{Predicate}
 use Rattle.nextest_filter_leaves.specs.declared.signs.Style.{Style}
 use Rattle.nextest_filter_leaves.specs.declared.signs.Style.TheVariants as style
@@ -40,12 +39,10 @@ pub record IsPrintablePattern (pattern : List ℕ) : Type 0 where
   pub slashes : has_escaped_slash false (chars pattern) ≡ false
   pub last : ends_in_backslash (chars pattern) ≡ false
 
--- the tokens of a glob are those that its text reads as
 abbrev pub IsPrintableMatcher : Predicate → Matcher → Type 0
 IsPrintableMatcher predicate (Equal text implicit) = IsPrintableText style.Equal predicate text implicit
 IsPrintableMatcher predicate (Contains text implicit) = IsPrintableText style.Contains predicate text implicit
-IsPrintableMatcher predicate (Glob text tokens implicit) =
-    IsPrintableText style.Glob predicate text implicit × (read_glob (chars text) ≡ Ok tokens)
+IsPrintableMatcher predicate (Glob text tokens implicit) = IsPrintableText style.Glob predicate text implicit
 IsPrintableMatcher predicate (Regex pattern) = IsPrintablePattern pattern
 
 abbrev pub IsPrintableLeaf : {S : Type 0} → Leaf S → Type 0
