@@ -38,15 +38,15 @@ operand_from-returns-in_ok-tree-in-Negates-2-clause-only n c clean t j r =
 
 pub operand_from-returns-in_ok-tree-in-Opens-2-clause-read : goal.operand_from-returns-in_ok-tree-in-Opens-2-clause-read
 operand_from-returns-in_ok-tree-in-Opens-2-clause-read n c clean =
-    let before : others c.tree_from.new.faults.list.items ≡ 0 = omega (arith, clean, c.in_ok-after-in-Opens.ensures.others) in
-    parens_read c.args.text.now c.args.room c.args.at c.skip_blanks-start.result c.in-Opens.next c.in_ok-tree-in-Opens.end c.in_ok-after-in-Opens.after c.in_ok-tree-in-Opens.tree c.in_ok-tree-in-Opens-2.tree c.skip_blanks-start.ensures.value c.in-Opens.ensures.value (omega arith) c.in_ok-tree-in-Opens-2.ensures (c.in_ok-tree-in-Opens.ensures.read before) (c.in_ok-after-in-Opens.ensures.read clean)
+    let before : others c.tree_from.new.faults.list.items ≡ 0 = omega (arith, clean, c.in_ok-tree-in-Opens-2.ensures.others) in
+    parens_read c.args.text.now c.args.room c.args.at c.skip_blanks-start.result c.in-Opens.next c.in_ok-tree-in-Opens.end c.in_ok-tree-in-Opens-2.after c.in_ok-tree-in-Opens.tree c.in_ok-tree-in-Opens-2.tree c.skip_blanks-start.ensures.value c.in-Opens.ensures.value (omega arith) c.in_ok-tree-in-Opens-2.ensures.value (c.in_ok-tree-in-Opens.ensures.read before) (c.in_ok-tree-in-Opens-2.ensures.read clean)
 
 pub operand_from-returns-in_ok-tree-in-Opens-2-clause-only : goal.operand_from-returns-in_ok-tree-in-Opens-2-clause-only
 operand_from-returns-in_ok-tree-in-Opens-2-clause-only n c clean t j r =
     let text = c.args.text.now in
     let from = parens_only text c.args.room c.args.at c.skip_blanks-start.result c.in-Opens.next j t c.skip_blanks-start.ensures.value c.in-Opens.ensures.value r in
     let tree = c.in_ok-tree-in-Opens.ensures.only clean from.0 from.1 from.2 (close_ends text from.1 2 from.3.0) in
-    c.in_ok-after-in-Opens.ensures.only tree.1 j (subst (λ k. Stands text k 41 j) (sym tree.0) from.3)
+    c.in_ok-tree-in-Opens-2.ensures.only tree.1 j (subst (λ k. Stands text k 41 j) (sym tree.0) from.3)
 
 pub tree_from-loop-tree-init : goal.tree_from-loop-tree-init
 tree_from-loop-tree-init n c =
