@@ -1,3 +1,4 @@
 pub mod Signs
 pub mod Faults
 pub mod FaultTexts
+pub mod Copies

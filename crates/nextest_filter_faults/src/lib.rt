@@ -2,6 +2,7 @@
 
 #![tactic(auto)]
 
+mod fault_copies;
 mod filterset_kind;
 mod operators;
 mod parse_error;

@@ -1,5 +1,5 @@
 -- Leaves and their parts are read in one way alone.
-use Rattle.std.proofs.Common.{◌≡◌, ℕ, ◌+◌, ◌<◌, List, length, sym, ◌∙◌, ap, subst, arith, inl, inr}
+use Rattle.std.proofs.Common.{◌≡◌, ℕ, ◌+◌, ◌<◌, List, Option, Some, None, IfNone, length, sym, ◌∙◌, ap, subst, arith, inl, inr}
 use Rattle.std.proofs.lemmas.Bool.{false≢true, cases_lt}
 use Rattle.nextest_filter_tokens.specs.Patterns.{ReadsPattern}
 use Rattle.nextest_filter_texts.specs.Texts.{ReadsText}
@@ -7,6 +7,11 @@ use Rattle.nextest_filter_texts.proofs.TextFacts.{read_once}
 use Rattle.nextest_filter_texts.proofs.PatternFacts.{patterns_read_once}
 use Rattle.nextest_filter_leaves.specs.LeafGrammar.{IsUpToClose, PatternFrom, ReadsSome}
 use Rattle.nextest_filter_matchers.specs.Matchers.{Matcher}
+
+-- what stands in any case stands where a part is spoiled
+pub if_none : {A B : Type 0} (o : Option A) → B → IfNone o B
+if_none (Some x) b = tt
+if_none None b = b
 
 module _ (text : List ℕ) where
   -- a text that is read is the one that is not empty, if one is

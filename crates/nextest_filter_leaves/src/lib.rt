@@ -12,3 +12,4 @@ mod signs;
 pub use crate::parsed_leaf::ParsedLeaf;
 pub use crate::places::expect_byte;
 pub use crate::sets::{named_set_from, nullary_set_from, platform_set_from};
+pub use crate::signs::{Sign, Style};

@@ -3,7 +3,7 @@ ghost use Rattle.std.specs.Str.{IsCharBoundary};
 ghost use Rattle.nextest_filter_matchers.specs.Matchers.{Matcher, Regex as IsPattern, matcher_of};
 ghost use Rattle.regex.specs.Strings.{regex_source};
 ghost use Rattle.nextest_filter_tokens.specs.Bytes.{is_byte};
-ghost use Rattle.nextest_filter_tokens.specs.FaultLists.{AreOver, AreWithin, IsOverPattern, others};
+ghost use Rattle.nextest_filter_tokens.specs.FaultLists.{AreOver, AreWithin, IsOverPattern, others, refusals};
 ghost use Rattle.nextest_filter_leaves.specs.declared.signs.Style.TheVariants.{Glob as Globs};
 ghost use Rattle.nextest_filter_leaves.specs.LeafGrammar.{PatternFrom, ReadsMatcher, ReadsSome, TextFrom, made_of};
 
@@ -32,10 +32,12 @@ pub(crate) fn some_text(
     ensures end { IfOk result (λ p. p.1 ≤ length text.now) }
     ensures grows { OnOk result (vec_len faults.old.list ≤ vec_len faults.new.list) }
     ensures others { OnOk result (others faults.old.list.items ≤ others faults.new.list.items) }
+    ensures refusals { IfOk result (λ p. IfSome p.0 (λ _. refusals faults.new.list.items ≡ refusals faults.old.list.items)) }
     ensures within { OnOk result (AreWithin (length text.now) faults.new.list.items) }
     ensures over { OnOk result (AreOver text.now faults.new.list.items) }
     ensures read { IfOk result (λ p. others faults.new.list.items ≡ 0 → IfSome p.0 (λ v. ReadsSome text.now at (string_bytes v) p.1)) }
     ensures spoiled { IfOk result (λ p. IfNone p.0 (0 < vec_len faults.new.list)) }
+    ensures fault { IfOk result (λ p. IfNone p.0 (0 < others faults.new.list.items)) }
     ensures only { IfOk result (λ p. others faults.old.list.items ≡ 0 → (x : List ℕ) (j : ℕ) → ReadsSome text.now at x j → (p.1 ≡ j) × (others faults.new.list.items ≡ 0)) }
 {
     let (value, end) = text_from(alloc, text, at, faults)?;
@@ -65,10 +67,12 @@ fn glob_matcher(
 ) -> Result<Option<NameMatcher>, AllocError>
     ensures grows { OnOk result (vec_len faults.old.list ≤ vec_len faults.new.list) }
     ensures others { OnOk result (others faults.old.list.items ≤ others faults.new.list.items) }
+    ensures refusals { IfOk result (λ r. IfSome r (λ _. refusals faults.new.list.items ≡ refusals faults.old.list.items)) }
     ensures within { OnOk result ((n : ℕ) → AreWithin n faults.old.list.items → span.offset + span.len ≤ n → AreWithin n faults.new.list.items) }
     ensures over { OnOk result ((text : List ℕ) → AreOver text faults.old.list.items → AreOver text faults.new.list.items) }
     ensures read { IfOk result (λ r. IfSome r (λ m. made_of Globs implicit (string_bytes value) ≡ Some (matcher_of m))) }
     ensures spoiled { IfOk result (λ r. IfNone r (0 < vec_len faults.new.list)) }
+    ensures fault { IfOk result (λ r. IfNone r (0 < others faults.new.list.items)) }
     ensures only { IfOk result (λ r. others faults.old.list.items ≡ 0 → (m : Matcher) → made_of Globs implicit (string_bytes value) ≡ Some m → others faults.new.list.items ≡ 0) }
 {
     match GenericGlob::new(alloc, value)? {
@@ -92,10 +96,12 @@ fn made(
 ) -> Result<Option<NameMatcher>, AllocError>
     ensures grows { OnOk result (vec_len faults.old.list ≤ vec_len faults.new.list) }
     ensures others { OnOk result (others faults.old.list.items ≤ others faults.new.list.items) }
+    ensures refusals { IfOk result (λ r. IfSome r (λ _. refusals faults.new.list.items ≡ refusals faults.old.list.items)) }
     ensures within { OnOk result ((n : ℕ) → AreWithin n faults.old.list.items → span.offset + span.len ≤ n → AreWithin n faults.new.list.items) }
     ensures over { OnOk result ((text : List ℕ) → AreOver text faults.old.list.items → AreOver text faults.new.list.items) }
     ensures read { IfOk result (λ r. IfSome r (λ m. made_of style implicit (string_bytes value) ≡ Some (matcher_of m))) }
     ensures spoiled { IfOk result (λ r. IfNone r (0 < vec_len faults.new.list)) }
+    ensures fault { IfOk result (λ r. IfNone r (0 < others faults.new.list.items)) }
     ensures only { IfOk result (λ r. others faults.old.list.items ≡ 0 → (m : Matcher) → made_of style implicit (string_bytes value) ≡ Some m → others faults.new.list.items ≡ 0) }
 {
     match style {
@@ -125,10 +131,12 @@ fn text_matcher(
     ensures end { IfOk result (λ p. p.1 ≤ length text.now) }
     ensures grows { OnOk result (vec_len faults.old.list ≤ vec_len faults.new.list) }
     ensures others { OnOk result (others faults.old.list.items ≤ others faults.new.list.items) }
+    ensures refusals { IfOk result (λ p. IfSome p.0 (λ _. refusals faults.new.list.items ≡ refusals faults.old.list.items)) }
     ensures within { OnOk result (AreWithin (length text.now) faults.new.list.items) }
     ensures over { OnOk result (AreOver text.now faults.new.list.items) }
     ensures read { IfOk result (λ p. others faults.new.list.items ≡ 0 → IfSome p.0 (λ m. TextFrom text.now style implicit at (matcher_of m) p.1)) }
     ensures spoiled { IfOk result (λ p. IfNone p.0 (0 < vec_len faults.new.list)) }
+    ensures fault { IfOk result (λ p. IfNone p.0 (0 < others faults.new.list.items)) }
     ensures only { IfOk result (λ p. others faults.old.list.items ≡ 0 → (x : Matcher) (j : ℕ) → TextFrom text.now style implicit at x j → (p.1 ≡ j) × (others faults.new.list.items ≡ 0)) }
 {
     let (value, end) = some_text(alloc, text, at, faults)?;
@@ -165,6 +173,7 @@ fn built(
 ) -> Result<Option<NameMatcher>, AllocError>
     ensures grows { OnOk result (vec_len faults.old.list ≤ vec_len faults.new.list) }
     ensures others { OnOk result (others faults.new.list.items ≡ others faults.old.list.items) }
+    ensures refusals { IfOk result (λ r. IfSome r (λ _. refusals faults.new.list.items ≡ refusals faults.old.list.items)) }
     ensures within { OnOk result ((n : ℕ) → AreWithin n faults.old.list.items → span.offset + span.len ≤ n → AreWithin n faults.new.list.items) }
     ensures over { OnOk result ((text : List ℕ) → AreOver text faults.old.list.items → IsOverPattern text span.offset (span.offset + span.len) → AreOver text faults.new.list.items) }
     ensures read { IfOk result (λ r. IfSome r (λ m. matcher_of m ≡ IsPattern pattern.now)) }
@@ -198,9 +207,11 @@ fn pattern_matcher(
     ensures end { IfOk result (λ p. p.1 ≤ length text.now) }
     ensures grows { OnOk result (vec_len faults.old.list ≤ vec_len faults.new.list) }
     ensures others { OnOk result (others faults.old.list.items ≤ others faults.new.list.items) }
+    ensures refusals { IfOk result (λ p. IfSome p.0 (λ _. refusals faults.new.list.items ≡ refusals faults.old.list.items)) }
     ensures within { OnOk result (AreWithin (length text.now) faults.new.list.items) }
     ensures over { OnOk result (AreOver text.now faults.new.list.items) }
     ensures read { IfOk result (λ p. others faults.new.list.items ≡ 0 → IfSome p.0 (λ m. PatternFrom text.now (at + 1) (matcher_of m) p.1)) }
+    ensures refused { IfOk result (λ p. others faults.new.list.items ≡ 0 → IfNone p.0 ((x : Matcher) × PatternFrom text.now (at + 1) x p.1)) }
     ensures spoiled { IfOk result (λ p. IfNone p.0 (0 < vec_len faults.new.list)) }
     ensures only { IfOk result (λ p. others faults.old.list.items ≡ 0 → (x : Matcher) (j : ℕ) → PatternFrom text.now (at + 1) x j → (p.1 ≡ j) × (others faults.new.list.items ≡ 0)) }
 {
@@ -242,9 +253,11 @@ pub(crate) fn matcher_from(
     ensures end { IfOk result (λ p. p.1 ≤ length text.now) }
     ensures grows { OnOk result (vec_len faults.old.list ≤ vec_len faults.new.list) }
     ensures others { OnOk result (others faults.old.list.items ≤ others faults.new.list.items) }
+    ensures refusals { IfOk result (λ p. IfSome p.0 (λ _. refusals faults.new.list.items ≡ refusals faults.old.list.items)) }
     ensures within { OnOk result (AreWithin (length text.now) faults.new.list.items) }
     ensures over { OnOk result (AreOver text.now faults.new.list.items) }
     ensures read { IfOk result (λ p. others faults.new.list.items ≡ 0 → IfSome p.0 (λ m. ReadsMatcher text.now predicate at (matcher_of m) p.1)) }
+    ensures refused { IfOk result (λ p. others faults.new.list.items ≡ 0 → IfNone p.0 ((x : Matcher) × ReadsMatcher text.now predicate at x p.1)) }
     ensures spoiled { IfOk result (λ p. IfNone p.0 (0 < vec_len faults.new.list)) }
     ensures only { IfOk result (λ p. others faults.old.list.items ≡ 0 → (x : Matcher) (j : ℕ) → ReadsMatcher text.now predicate at x j → (p.1 ≡ j) × (others faults.new.list.items ≡ 0)) }
 {

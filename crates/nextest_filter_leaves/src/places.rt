@@ -2,7 +2,7 @@ ghost use Rattle.std.specs.Prelude.{◌≡◌, ◌≤◌, ◌<◌, ℕ, true, fa
 ghost use Rattle.std.specs.Str.{IsCharBoundary};
 ghost use Rattle.nextest_filter_faults.specs.Faults.{is_refusal};
 ghost use Rattle.nextest_filter_tokens.specs.Bytes.{is_byte, skip};
-ghost use Rattle.nextest_filter_tokens.specs.FaultLists.{AreOver, AreWithin, LiesWithin, others};
+ghost use Rattle.nextest_filter_tokens.specs.FaultLists.{AreOver, AreWithin, LiesWithin, others, refusals};
 ghost use Rattle.nextest_filter_leaves.specs.LeafGrammar.{IsUpToClose, Stands};
 
 use nextest_filter_faults::{ParseSingleError, SourceSpan};
@@ -41,6 +41,7 @@ pub fn expect_byte(
     ensures boundary { IfOk result (λ e. IsCharBoundary text.now at → IsCharBoundary text.now e) }
     ensures grows { OnOk result (vec_len faults.old.list ≤ vec_len faults.new.list) }
     ensures others { OnOk result (others faults.old.list.items ≤ others faults.new.list.items) }
+    ensures refusals { OnOk result (refusals faults.new.list.items ≡ refusals faults.old.list.items) }
     ensures within { OnOk result (AreWithin (length text.now) faults.new.list.items) }
     ensures over { OnOk result (AreOver text.now faults.new.list.items) }
     ensures read { IfOk result (λ e. others faults.new.list.items ≡ 0 → Stands text.now at byte e) }
@@ -63,6 +64,7 @@ fn after_comma(text: &str, at: usize, faults: &mut FaultList) -> Result<usize, A
     ensures end { IfOk result (λ e. e ≤ length text.now) }
     ensures grows { OnOk result (vec_len faults.old.list ≤ vec_len faults.new.list) }
     ensures others { OnOk result (others faults.old.list.items ≤ others faults.new.list.items) }
+    ensures refusals { OnOk result (refusals faults.new.list.items ≡ refusals faults.old.list.items) }
     ensures within { OnOk result (AreWithin (length text.now) faults.new.list.items) }
     ensures over { OnOk result (AreOver text.now faults.new.list.items) }
     ensures read { IfOk result (λ e. others faults.new.list.items ≡ 0 → e ≡ at) }
@@ -90,6 +92,7 @@ pub(crate) fn closed_after(
     ensures end { IfOk result (λ e. e ≤ length text.now) }
     ensures grows { OnOk result (vec_len faults.old.list ≤ vec_len faults.new.list) }
     ensures others { OnOk result (others faults.old.list.items ≤ others faults.new.list.items) }
+    ensures refusals { OnOk result (refusals faults.new.list.items ≡ refusals faults.old.list.items) }
     ensures within { OnOk result (AreWithin (length text.now) faults.new.list.items) }
     ensures over { OnOk result (AreOver text.now faults.new.list.items) }
     ensures read { IfOk result (λ e. others faults.new.list.items ≡ 0 → Stands text.now at 41 e) }

@@ -4,7 +4,7 @@ ghost use Rattle.nextest_filter_matchers.specs.Matchers.{matcher_of};
 ghost use Rattle.nextest_filter_faults.specs.Signs.{platform_text};
 ghost use Rattle.nextest_filter_faults.specs.declared.platform.BuildPlatform as declared;
 ghost use Rattle.nextest_filter_matchers.specs.declared.source_span.SourceSpan as source;
-ghost use Rattle.nextest_filter_tokens.specs.FaultLists.{AreOver, AreWithin, others};
+ghost use Rattle.nextest_filter_tokens.specs.FaultLists.{AreOver, AreWithin, others, refusals};
 ghost use Rattle.nextest_filter_leaves.specs.Leaves.{Leaf, Named, leaf_of};
 ghost use Rattle.nextest_filter_leaves.specs.LeafGrammar as spec;
 ghost use Rattle.nextest_filter_leaves.specs.LeafGrammar.{IsUpToClose, NamedFrom, NullaryFrom, PlatformFrom};
@@ -55,6 +55,7 @@ fn opened_after(text: &str, at: usize, faults: &mut FaultList) -> Result<usize, 
     ensures boundary { IfOk result (λ e. IsCharBoundary text.now e) }
     ensures grows { OnOk result (vec_len faults.old.list ≤ vec_len faults.new.list) }
     ensures others { OnOk result (others faults.old.list.items ≤ others faults.new.list.items) }
+    ensures refusals { OnOk result (refusals faults.new.list.items ≡ refusals faults.old.list.items) }
     ensures within { OnOk result (AreWithin (length text.now) faults.new.list.items) }
     ensures over { OnOk result (AreOver text.now faults.new.list.items) }
     ensures read { IfOk result (λ e. others faults.new.list.items ≡ 0 → spec.Stands text.now at 40 e) }
@@ -82,9 +83,11 @@ pub fn named_set_from(
     ensures end { IfOk result (λ p. p.1 ≤ length text.now) }
     ensures grows { OnOk result (vec_len faults.old.list ≤ vec_len faults.new.list) }
     ensures others { OnOk result (others faults.old.list.items ≤ others faults.new.list.items) }
+    ensures refusals { IfOk result (λ p. IfSome p.0 (λ _. refusals faults.new.list.items ≡ refusals faults.old.list.items)) }
     ensures within { OnOk result (AreWithin (length text.now) faults.new.list.items) }
     ensures over { OnOk result (AreOver text.now faults.new.list.items) }
     ensures read { IfOk result (λ p. others faults.new.list.items ≡ 0 → IfSome p.0 (λ l. NamedFrom text.now predicate at (leaf_of l) p.1)) }
+    ensures refused { IfOk result (λ p. others faults.new.list.items ≡ 0 → IfNone p.0 ((x : Leaf source.SourceSpan) × NamedFrom text.now predicate at x p.1)) }
     ensures spoiled { IfOk result (λ p. IfNone p.0 (0 < vec_len faults.new.list)) }
     ensures only { IfOk result (λ p. others faults.old.list.items ≡ 0 → (x : Leaf source.SourceSpan) (j : ℕ) → NamedFrom text.now predicate at x j → (p.1 ≡ j) × (others faults.new.list.items ≡ 0)) }
 {
@@ -125,10 +128,12 @@ fn platform_of(
 ) -> Result<Option<BuildPlatform>, AllocError>
     ensures grows { OnOk result (vec_len faults.old.list ≤ vec_len faults.new.list) }
     ensures others { OnOk result (others faults.old.list.items ≤ others faults.new.list.items) }
+    ensures refusals { IfOk result (λ r. IfSome r (λ _. refusals faults.new.list.items ≡ refusals faults.old.list.items)) }
     ensures within { OnOk result ((n : ℕ) → AreWithin n faults.old.list.items → span.offset + span.len ≤ n → AreWithin n faults.new.list.items) }
     ensures over { OnOk result ((text : List ℕ) → AreOver text faults.old.list.items → AreOver text faults.new.list.items) }
     ensures read { IfOk result (λ r. IfSome r (λ p. trim name.now ≡ platform_text p)) }
     ensures spoiled { IfOk result (λ r. IfNone r (0 < vec_len faults.new.list)) }
+    ensures fault { IfOk result (λ r. IfNone r (0 < others faults.new.list.items)) }
     ensures only { IfOk result (λ r. others faults.old.list.items ≡ 0 → (p : declared.BuildPlatform) → trim name.now ≡ platform_text p → others faults.new.list.items ≡ 0) }
 {
     match platform_named(name) {
@@ -155,10 +160,12 @@ pub fn platform_set_from(
     ensures end { IfOk result (λ p. p.1 ≤ length text.now) }
     ensures grows { OnOk result (vec_len faults.old.list ≤ vec_len faults.new.list) }
     ensures others { OnOk result (others faults.old.list.items ≤ others faults.new.list.items) }
+    ensures refusals { IfOk result (λ p. IfSome p.0 (λ _. refusals faults.new.list.items ≡ refusals faults.old.list.items)) }
     ensures within { OnOk result (AreWithin (length text.now) faults.new.list.items) }
     ensures over { OnOk result (AreOver text.now faults.new.list.items) }
     ensures read { IfOk result (λ p. others faults.new.list.items ≡ 0 → IfSome p.0 (λ l. PlatformFrom text.now at (leaf_of l) p.1)) }
     ensures spoiled { IfOk result (λ p. IfNone p.0 (0 < vec_len faults.new.list)) }
+    ensures fault { IfOk result (λ p. IfNone p.0 (0 < others faults.new.list.items)) }
     ensures only { IfOk result (λ p. others faults.old.list.items ≡ 0 → (x : Leaf source.SourceSpan) (j : ℕ) → PlatformFrom text.now at x j → (p.1 ≡ j) × (others faults.new.list.items ≡ 0)) }
 {
     let inner = opened_after(text, at, faults)?;
@@ -187,6 +194,7 @@ fn white_after(text: &str, at: usize, faults: &mut FaultList) -> Result<usize, A
     ensures up_to { IfOk result (λ e. IsUpToClose text.now at e) }
     ensures grows { OnOk result (vec_len faults.old.list ≤ vec_len faults.new.list) }
     ensures others { OnOk result (others faults.old.list.items ≤ others faults.new.list.items) }
+    ensures refusals { OnOk result (refusals faults.new.list.items ≡ refusals faults.old.list.items) }
     ensures within { OnOk result (AreWithin (length text.now) faults.new.list.items) }
     ensures over { OnOk result (AreOver text.now faults.new.list.items) }
     ensures read { IfOk result (λ e. others faults.new.list.items ≡ 0 → trim (slice_range text.now at e) ≡ []) }
@@ -222,6 +230,7 @@ pub fn nullary_set_from(
     ensures end { IfOk result (λ p. p.1 ≤ length text.now) }
     ensures grows { OnOk result (vec_len faults.old.list ≤ vec_len faults.new.list) }
     ensures others { OnOk result (others faults.old.list.items ≤ others faults.new.list.items) }
+    ensures refusals { OnOk result (refusals faults.new.list.items ≡ refusals faults.old.list.items) }
     ensures within { OnOk result (AreWithin (length text.now) faults.new.list.items) }
     ensures over { OnOk result (AreOver text.now faults.new.list.items) }
     ensures read { IfOk result (λ p. others faults.new.list.items ≡ 0 → NullaryFrom text.now word start at (leaf_of p.0) p.1) }

@@ -5,7 +5,7 @@ use nextest_filter_tokens::{Predicate, has_byte};
 
 /// What a text says of names.
 #[derive(Clone, Copy, Debug, PartialEq, Eq)]
-pub(crate) enum Style {
+pub enum Style {
     Equal,
     Contains,
     Glob,
@@ -13,7 +13,7 @@ pub(crate) enum Style {
 
 /// What a matcher begins with.
 #[derive(Clone, Copy, Debug, PartialEq, Eq)]
-pub(crate) enum Sign {
+pub enum Sign {
     /// A pattern follows.
     Slash,
     /// A text follows.

@@ -1,11 +1,12 @@
 -- When globs and matchers are the same.
-use Rattle.std.specs.Prelude.{◌≡◌, ℕ, Bool, true, false, ◌&&◌, List, nat_eq}
+use Rattle.std.specs.Prelude.{◌≡◌, ℕ, Bool, true, false, ◌&&◌, List, nat_eq, Result, Ok, Err}
 use Rattle.std.specs.Bool.{Decides}
 use Rattle.std.specs.Cmp.{IsEquivalence}
 use Rattle.std.specs.Cmp.Lexicographic.{pointwise, pointwise_decides, bytes_decides}
-use Rattle.std.proofs.Common.{refl, sym, ap}
+use Rattle.std.proofs.Common.{refl, sym, ap, subst}
 use Rattle.std.proofs.lemmas.Bool.{false≢true, and_parts, and_from}
 use Rattle.std.proofs.lemmas.Bool.{eqb-true, eq-eqb}
+use Rattle.nextest_filter_matchers.specs.declared.glob_error.GlobError.{GlobError}
 use Rattle.nextest_filter_matchers.specs.Globs.{Glob, Token, CharacterSet, Empty, Single, Then, Either, One, AnyText, LeadingDirectories, InnerDirectories, TrailingDirectories, Character, Any, Class}
 
 abbrev pub DecidesEquality : {X : Type 0} → (X → X → Bool) → Type 0
@@ -104,6 +105,18 @@ globs_decide (Either a b) (Either c d) =
           and_from _ _ (s.1 cc) (t.1 cc),
     )
 globs_decide _ _ = (λ h. absurd (false≢true h), λ e. cc)
+
+-- a text was read as this glob
+abbrev pub is_read_as : Result Glob GlobError → Glob → Bool
+is_read_as (Ok read) glob = glob_eq read glob
+is_read_as (Err error) glob = false
+
+pub from_read : (r : Result Glob GlobError) (glob : Glob) → r ≡ Ok glob → is_read_as r glob ≡ true
+from_read r glob e = subst (λ s. is_read_as s glob ≡ true) (sym e) ((globs_decide glob glob).1 refl)
+
+pub to_read : (r : Result Glob GlobError) (glob : Glob) → is_read_as r glob ≡ true → r ≡ Ok glob
+to_read (Ok read) glob h = ap Ok ((globs_decide read glob).0 h)
+to_read (Err error) glob h = absurd (false≢true h)
 
 -- what tells matchers apart: `implicit` for texts alone, globs by their tokens, patterns by their text
 pub data Identity : Type 0 where

@@ -1,5 +1,8 @@
-ghost use Rattle.std.specs.Prelude.{◌≡◌, ◌↔◌, IfOk, IsTrue};
+ghost use Rattle.std.specs.Prelude.{◌≡◌, ◌↔◌, IfOk, IsTrue, string_bytes, true};
 ghost use Rattle.std.specs.Str.{chars};
+ghost use Rattle.nextest_filter_matchers.specs.GlobReading.{read_glob};
+ghost use Rattle.nextest_filter_matchers.specs.GlobViews.{glob_of};
+ghost use Rattle.nextest_filter_matchers.specs.Identities.{is_read_as};
 
 use crate::glob_between::suits_whole;
 use crate::glob_error::GlobError;
@@ -15,10 +18,10 @@ pub struct GenericGlob {
     text: String,
     pattern: Pattern,
     alloc: Global,
+    ghost has_tokens: { is_read_as (read_glob (chars (string_bytes text))) (glob_of pattern) ≡ true },
 }
 
 impl GenericGlob {
-    ghost use Rattle.std.specs.Prelude.{string_bytes};
     ghost use Rattle.nextest_filter_matchers.specs.Globs.{GlobMatches};
     ghost use Rattle.nextest_filter_matchers.specs.Matchers.{glob_text, tokens_of, is_glob_read};
 

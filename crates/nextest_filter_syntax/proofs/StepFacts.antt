@@ -1,8 +1,13 @@
 -- The steps of reading: what each takes from the parts before it, and gives to those after it.
-use Rattle.std.proofs.Common.{◌≡◌, ℕ, suc, ◌-◌, ◌<◌, ◌≤◌, true, false, List, Option, Some, None, IfSome, IfNone, length, refl, sym, ◌∙◌, ap, subst, arith}
+use Rattle.std.proofs.Common.{◌≡◌, ◌↔◌, ℕ, suc, ◌+◌, ◌-◌, ◌<◌, ◌≤◌, Bool, true, false, not, cond, List, [], ◌∷◌, Option, Some, None, IfSome, IfNone, length, refl, sym, ◌∙◌, ap, subst, arith}
+use Rattle.std.proofs.lemmas.List.Sums.{sum_by-cons}
+use Rattle.std.specs.List.{count_by}
 use Rattle.nextest_filter_matchers.specs.declared.source_span.SourceSpan.{SourceSpan}
 use Rattle.nextest_filter_faults.specs.declared.operators.NotOperator.{NotOperator}
+use Rattle.nextest_filter_faults.specs.Faults.{is_refusal}
+use Rattle.nextest_filter_faults.specs.declared.parse_error.ParseSingleError.{ParseSingleError}
 use Rattle.nextest_filter_tokens.specs.Bytes.{skip}
+use Rattle.nextest_filter_tokens.specs.FaultLists.{others, refusals}
 use Rattle.nextest_filter_tokens.specs.Heads.{head_at}
 use Rattle.nextest_filter_tokens.specs.declared.heads.Head.{Head}
 use Rattle.nextest_filter_tokens.specs.declared.heads.Head.TheVariants.{Negates, Opens}
@@ -15,7 +20,7 @@ use Rattle.nextest_filter_leaves.specs.declared.parsed_leaf.ParsedLeaf.{ParsedLe
 use Rattle.nextest_filter_syntax.specs.declared.parsed_expr.ParsedExpr.{ParsedExpr}
 use Rattle.nextest_filter_syntax.specs.Trees.{Tree, not_of, parens_of, set_of, tree_of}
 use Rattle.nextest_filter_syntax.specs.Grammar.{MoreOf, Reads, ReadsWhole, chain, found_at, joined_of, leaf, negated, none, one, parens}
-use Rattle.nextest_filter_syntax.specs.Reading.{Ends, is_wrong, joined_part, leaf_part, negated_part, parens_part, part_of, place_of}
+use Rattle.nextest_filter_syntax.specs.Reading.{Ends, IsReading, IsTree, is_wrong, joined_part, leaf_part, negated_part, parens_part, part_of, place_of}
 use Rattle.nextest_filter_syntax.proofs.GrammarFacts.{OperandOf, BehindOf, behind_at, level_of_chain, operand_at, part_ends, texts_read_as_one}
 
 -- what some part says of itself, some other says that has its value
@@ -25,32 +30,68 @@ some_same e = cc
 none_some : {A : Type 0} {x : A} → None ≡ Some x → ⊥
 none_some e = cc
 
+one_of : (b : Bool) → cond (not b) 1 0 + cond b 1 0 ≡ 1
+one_of true = refl
+one_of false = refl
+
+-- each fault is that of a refused pattern or another
+count_both : {A : Type 0} (p : A → Bool) (xs : List A) → count_by (λ x. not (p x)) xs + count_by p xs ≡ length xs
+count_both p [] = refl
+count_both p (x ∷ xs) =
+    omega (arith, sum_by-cons (λ y. cond (not (p y)) 1 0) x xs, sum_by-cons (λ y. cond (p y) 1 0) x xs, one_of (p x), count_both p xs)
+
+pub all_faults : (faults : List ParseSingleError) → others faults + refusals faults ≡ length faults
+all_faults faults = count_both is_refusal faults
+
+-- where a spoiled part is a fault, it is one in a longer list
+pub spoiled_grows : {A : Type 0} (o : Option A) (n m : ℕ) → IfNone o (0 < n) → n ≤ m → IfNone o (0 < m)
+spoiled_grows (Some v) n m some more = tt
+spoiled_grows None n m some more = omega (arith, some, more)
+
+-- where a whole part has no refused pattern, there is none
+pub built_whole : {A : Type 0} (o : Option A) (i j k : ℕ) → i ≡ 0 → k ≡ j → IfSome o (λ _. j ≡ i) → IfSome o (λ _. k ≡ 0)
+built_whole (Some v) i j k empty last same = last ∙ same ∙ empty
+built_whole None i j k empty last same = tt
+
+-- a part is no spoiled one where a spoiled one is a fault and there is none
+pub fault_none : {A : Type 0} (B : Type 0) (o : Option A) (n : ℕ) → n ≡ 0 → IfNone o (0 < n) → IfNone o B
+fault_none B (Some v) n clean fault = tt
+fault_none B None n clean fault = absurd (omega (arith, clean, fault))
+
 module _ (text : List ℕ) where
-  pub leaf_read : (room at end start : ℕ) (h : Head) (l : Option (ParsedLeaf SourceSpan)) (x : Option (ParsedExpr SourceSpan)) → start ≡ skip text at → h ≡ head_at text start → part_of x ≡ leaf_part l → IfSome l (λ v. LeafBy text start (leaf_of v) end h) → IfSome x (λ v. Reads text room 0 at (tree_of v) end)
-  leaf_read room at end start h l None is begins same r = tt
-  leaf_read room at end start h None (Some v) is begins same r = absurd (none_some (sym same))
-  leaf_read room at end start h (Some w) (Some v) is begins same r =
-      let tree : tree_of v ≡ set_of (leaf_of w) = some_same same in
-      let here = subst (λ k. LeafBy text k (leaf_of w) end (head_at text k)) is (subst (λ g. LeafBy text start (leaf_of w) end g) begins r) in
-      subst (λ t. Reads text room 0 at t end) (sym tree) (leaf here)
+  -- a tree is that of the expression which has its value, unless it is spoiled
+  part_is : (x : Option (ParsedExpr SourceSpan)) (t : Tree SourceSpan) → part_of x ≡ Some t → IsTree x t
+  part_is (Some v) t same = some_same same
+  part_is None t same = tt
+
+  part_none : (x : Option (ParsedExpr SourceSpan)) (t : Tree SourceSpan) → part_of x ≡ None → IsTree x t
+  part_none (Some v) t same = absurd (none_some (sym same))
+  part_none None t same = tt
 
   pub set_read : (room at end start : ℕ) (h : Head) (l : Leaf SourceSpan) → start ≡ skip text at → h ≡ head_at text start → LeafBy text start l end h → Reads text room 0 at (set_of l) end
   set_read room at end start h l is begins r =
       leaf (subst (λ k. LeafBy text k l end (head_at text k)) is (subst (λ g. LeafBy text start l end g) begins r))
+
+  pub leaf_read : (room at end start : ℕ) (h : Head) (l : Option (ParsedLeaf SourceSpan)) (x : Option (ParsedExpr SourceSpan)) → start ≡ skip text at → h ≡ head_at text start → part_of x ≡ leaf_part l → IfSome l (λ v. LeafBy text start (leaf_of v) end h) → IfNone l ((m : Leaf SourceSpan) × LeafBy text start m end h) → IsReading text room 0 at x end
+  leaf_read room at end start h (Some w) x is begins same r otherwise =
+      (set_of (leaf_of w), set_read room at end start h (leaf_of w) is begins r, part_is x (set_of (leaf_of w)) same)
+  leaf_read room at end start h None x is begins same r otherwise =
+      (set_of otherwise.0, set_read room at end start h otherwise.0 is begins otherwise.1, part_none x (set_of otherwise.0) same)
 
   -- what an operand is made of, where it is known what it begins with
   pub operand_is : (room at j start : ℕ) (t : Tree SourceSpan) (h : Head) → start ≡ skip text at → h ≡ head_at text start → Reads text room 0 at t j → OperandOf text room at t j h
   operand_is room at j start t h is begins r =
       subst (OperandOf text room at t j) (sym (begins ∙ ap (head_at text) is)) (operand_at text room at j t r)
 
-  pub negated_read : (room at start next end : ℕ) (op : NotOperator) (x y : Option (ParsedExpr SourceSpan)) → start ≡ skip text at → Negates op next ≡ head_at text start → 0 < room → part_of y ≡ negated_part op (part_of x) → IfSome x (λ v. Reads text (room - 1) 0 next (tree_of v) end) → IfSome y (λ v. Reads text room 0 at (tree_of v) end)
-  negated_read room at start next end op x None is begins some same r = tt
-  negated_read room at start next end op None (Some v) is begins some same r = absurd (none_some (sym same))
-  negated_read room at start next end op (Some w) (Some v) is begins some same r =
-      let tree : tree_of v ≡ not_of op (tree_of w) = some_same same in
+  negated_is : (op : NotOperator) (x y : Option (ParsedExpr SourceSpan)) (t : Tree SourceSpan) → part_of y ≡ negated_part op (part_of x) → IsTree x t → IsTree y (not_of op t)
+  negated_is op (Some w) y t same is = part_is y (not_of op t) (same ∙ ap (λ u. Some (not_of op u)) is)
+  negated_is op None y t same is = part_none y (not_of op t) same
+
+  pub negated_read : (room at start next end : ℕ) (op : NotOperator) (x y : Option (ParsedExpr SourceSpan)) → start ≡ skip text at → Negates op next ≡ head_at text start → 0 < room → part_of y ≡ negated_part op (part_of x) → IsReading text (room - 1) 0 next x end → IsReading text room 0 at y end
+  negated_read room at start next end op x y is begins some same w =
       let more : suc (room - 1) ≡ room = omega arith in
-      let here = subst (λ d. Reads text d 0 at (not_of op (tree_of w)) end) more (negated (sym (begins ∙ ap (head_at text) is)) r) in
-      subst (λ t. Reads text room 0 at t end) (sym tree) here
+      let here = subst (λ d. Reads text d 0 at (not_of op w.0) end) more (negated (sym (begins ∙ ap (head_at text) is)) w.1) in
+      (not_of op w.0, here, negated_is op x y w.0 same w.2)
 
   pub negated_only : (room at start next j : ℕ) (op : NotOperator) (t : Tree SourceSpan) → start ≡ skip text at → Negates op next ≡ head_at text start → Reads text room 0 at t j → (x : Tree SourceSpan) × Reads text (room - 1) 0 next x j
   negated_only room at start next j op t is begins r =
@@ -58,14 +99,15 @@ module _ (text : List ℕ) where
       let less : w.1 ≡ room - 1 = omega (arith, w.2) in
       (w.0, subst (λ d. Reads text d 0 next w.0 j) less w.4)
 
-  pub parens_read : (room at start next end after : ℕ) (x y : Option (ParsedExpr SourceSpan)) → start ≡ skip text at → Opens next ≡ head_at text start → 0 < room → part_of y ≡ parens_part (part_of x) → IfSome x (λ v. Reads text (room - 1) 2 next (tree_of v) end) → Stands text end 41 after → IfSome y (λ v. Reads text room 0 at (tree_of v) after)
-  parens_read room at start next end after x None is begins some same r closes = tt
-  parens_read room at start next end after None (Some v) is begins some same r closes = absurd (none_some (sym same))
-  parens_read room at start next end after (Some w) (Some v) is begins some same r closes =
-      let tree : tree_of v ≡ parens_of (tree_of w) = some_same same in
+  parens_is : (x y : Option (ParsedExpr SourceSpan)) (t : Tree SourceSpan) → part_of y ≡ parens_part (part_of x) → IsTree x t → IsTree y (parens_of t)
+  parens_is (Some w) y t same is = part_is y (parens_of t) (same ∙ ap (λ u. Some (parens_of u)) is)
+  parens_is None y t same is = part_none y (parens_of t) same
+
+  pub parens_read : (room at start next end after : ℕ) (x y : Option (ParsedExpr SourceSpan)) → start ≡ skip text at → Opens next ≡ head_at text start → 0 < room → part_of y ≡ parens_part (part_of x) → IsReading text (room - 1) 2 next x end → Stands text end 41 after → IsReading text room 0 at y after
+  parens_read room at start next end after x y is begins some same w closes =
       let more : suc (room - 1) ≡ room = omega arith in
-      let here = subst (λ d. Reads text d 0 at (parens_of (tree_of w)) after) more (parens (sym (begins ∙ ap (head_at text) is)) r closes) in
-      subst (λ t. Reads text room 0 at t after) (sym tree) here
+      let here = subst (λ d. Reads text d 0 at (parens_of w.0) after) more (parens (sym (begins ∙ ap (head_at text) is)) w.1 closes) in
+      (parens_of w.0, here, parens_is x y w.0 same w.2)
 
   pub parens_only : (room at start next j : ℕ) (t : Tree SourceSpan) → start ≡ skip text at → Opens next ≡ head_at text start → Reads text room 0 at t j → (x : Tree SourceSpan) × (k : ℕ) × Reads text (room - 1) 2 next x k × Stands text k 41 j
   parens_only room at start next j t is begins r =
@@ -73,10 +115,15 @@ module _ (text : List ℕ) where
       let less : w.1 ≡ room - 1 = omega (arith, w.3) in
       (w.0, w.2, subst (λ d. Reads text d 2 next w.0 w.2) less w.5, w.6)
 
+  -- a tree is that of the expression, and the parts that join it make a part of a level
+  abbrev pub IsBegun : ℕ → ℕ → ℕ → ℕ → Option (ParsedExpr SourceSpan) → ℕ → Type 0
+  IsBegun room level lower at x end =
+      (a : Tree SourceSpan) × IsTree x a × ((t : Tree SourceSpan) (j : ℕ) → MoreOf text room lower end a t j → Reads text room level at t j)
+
   -- the first part of a level
-  pub first_read : (room level lower at end : ℕ) (x : Option (ParsedExpr SourceSpan)) → suc lower ≡ level → IfSome x (λ v. Reads text room lower at (tree_of v) end) → IfSome x (λ v. (t : Tree SourceSpan) (j : ℕ) → MoreOf text room lower end (tree_of v) t j → Reads text room level at t j)
-  first_read room level lower at end None is r = tt
-  first_read room level lower at end (Some v) is r = λ t j more. subst (λ l. Reads text room l at t j) is (chain r more)
+  pub first_read : (room level lower at end : ℕ) (x : Option (ParsedExpr SourceSpan)) → suc lower ≡ level → IsReading text room lower at x end → IsBegun room level lower at x end
+  first_read room level lower at end x is w =
+      (w.0, w.2, λ t j more. subst (λ l. Reads text room l at t j) is (chain w.1 more))
 
   pub first_only : (room level lower at j : ℕ) (t : Tree SourceSpan) → suc lower ≡ level → Reads text room level at t j → Ends text level j → (a : Tree SourceSpan) × (m : ℕ) × Reads text room lower at a m × MoreOf text room lower m a t j × Ends text lower m
   first_only room level lower at j t is r ends =
@@ -84,9 +131,8 @@ module _ (text : List ℕ) where
       (w.0, w.1, w.2, w.3, part_ends text room lower w.1 j w.0 t w.3 (subst (λ l. Ends text l j) (sym is) ends))
 
   -- the last one
-  pub last_read : (room level lower at end : ℕ) (x : Option (ParsedExpr SourceSpan)) → IfSome x (λ v. (t : Tree SourceSpan) (j : ℕ) → MoreOf text room lower end (tree_of v) t j → Reads text room level at t j) → IfSome x (λ v. Reads text room level at (tree_of v) end)
-  last_read room level lower at end None r = tt
-  last_read room level lower at end (Some v) r = r (tree_of v) end none
+  pub last_read : (room level lower at end : ℕ) (x : Option (ParsedExpr SourceSpan)) → IsBegun room level lower at x end → IsReading text room level at x end
+  last_read room level lower at end x w = (w.0, w.2 w.0 end none, w.1)
 
   pub nothing_of : (found : Found) → place_of found ≡ None → found ≡ Nothing
   nothing_of Nothing e = refl
@@ -97,19 +143,29 @@ module _ (text : List ℕ) where
   last_only room level lower end j a t found is stands nothing more ends =
       (subst (BehindOf text room lower end a t j) (sym stands ∙ nothing) (behind_at text room lower end j a t more (subst (λ l. Ends text l j) (sym is) ends))).1
 
+  joined_is : (op : Operator) (m : ℕ) (x y z : Option (ParsedExpr SourceSpan)) (a b : Tree SourceSpan) → part_of z ≡ joined_part (Right op m) (part_of x) (part_of y) → IsTree x a → IsTree y b → IsTree z (joined_of op a b)
+  joined_is op m (Some v) (Some w) z a b same is also =
+      part_is z (joined_of op a b) (same ∙ ap (λ t. Some (joined_of op t (tree_of w))) is ∙ ap (λ t. Some (joined_of op a t)) also)
+  joined_is op m (Some v) None z a b same is also = part_none z (joined_of op a b) same
+  joined_is op m None y z a b same is also = part_none z (joined_of op a b) same
+
   -- one part more
-  pub step_read : (room level lower at end next after : ℕ) (found : Found) (x y z : Option (ParsedExpr SourceSpan)) → found ≡ found_at text lower (skip text end) → place_of found ≡ Some next → part_of z ≡ joined_part found (part_of x) (part_of y) → IfSome x (λ v. (t : Tree SourceSpan) (j : ℕ) → MoreOf text room lower end (tree_of v) t j → Reads text room level at t j) → IfSome y (λ v. Reads text room lower next (tree_of v) after) → IfSome z (λ v. (t : Tree SourceSpan) (j : ℕ) → MoreOf text room lower after (tree_of v) t j → Reads text room level at t j)
-  step_read room level lower at end next after found x y None stands place same first second = tt
-  step_read room level lower at end next after Nothing x y (Some v) stands place same first second = absurd (none_some place)
-  step_read room level lower at end next after (Wrong m) x y (Some v) stands place same first second = absurd (none_some (sym same))
-  step_read room level lower at end next after (Right op m) None y (Some v) stands place same first second = absurd (none_some (sym same))
-  step_read room level lower at end next after (Right op m) (Some a) None (Some v) stands place same first second = absurd (none_some (sym same))
-  step_read room level lower at end next after (Right op m) (Some a) (Some b) (Some v) stands place same first second =
-      λ t j more.
-      let tree : tree_of v ≡ joined_of op (tree_of a) (tree_of b) = some_same same in
+  pub step_read : (room level lower at end next after : ℕ) (found : Found) (x y z : Option (ParsedExpr SourceSpan)) → found ≡ found_at text lower (skip text end) → place_of found ≡ Some next → (is_wrong found ≡ true → ⊥) → part_of z ≡ joined_part found (part_of x) (part_of y) → IsBegun room level lower at x end → IsReading text room lower next y after → IsBegun room level lower at z after
+  step_read room level lower at end next after Nothing x y z stands place right same first second = absurd (none_some place)
+  step_read room level lower at end next after (Wrong m) x y z stands place right same first second =
+      absurd (right refl)
+  step_read room level lower at end next after (Right op m) x y z stands place right same first second =
       let here : m ≡ next = some_same place in
-      let reads = subst (λ k. Reads text room lower k (tree_of b) after) (sym here) second in
-      first t j (one (sym stands) reads (subst (λ u. MoreOf text room lower after u t j) tree more))
+      let reads = subst (λ k. Reads text room lower k second.0 after) (sym here) second.1 in
+      (joined_of op first.0 second.0, joined_is op m x y z first.0 second.0 same first.1 second.2, λ t j more. first.2 t j (one (sym stands) reads more))
+
+  pub step_refusals : (found : Found) (next i j k l : ℕ) (x y z : Option (ParsedExpr SourceSpan)) → place_of found ≡ Some next → part_of z ≡ joined_part found (part_of x) (part_of y) → IfSome x (λ _. j ≡ i) → (is_wrong found ≡ false → k ≡ j) → IfSome y (λ _. l ≡ k) → IfSome z (λ _. l ≡ i)
+  step_refusals found next i j k l x y None place same first right second = tt
+  step_refusals Nothing next i j k l x y (Some v) place same first right second = absurd (none_some place)
+  step_refusals (Wrong m) next i j k l x y (Some v) place same first right second = absurd (none_some (sym same))
+  step_refusals (Right op m) next i j k l None y (Some v) place same first right second = absurd (none_some (sym same))
+  step_refusals (Right op m) next i j k l (Some a) None (Some v) place same first right second = absurd (none_some (sym same))
+  step_refusals (Right op m) next i j k l (Some a) (Some b) (Some v) place same first right second = second ∙ right refl ∙ first
 
   pub step_spoiled : (found : Found) (next n i m : ℕ) (x y z : Option (ParsedExpr SourceSpan)) → place_of found ≡ Some next → part_of z ≡ joined_part found (part_of x) (part_of y) → IfNone x (0 < n) → (is_wrong found ≡ true → 0 < i) → IfNone y (0 < m) → n ≤ m → i ≤ m → IfNone z (0 < m)
   step_spoiled found next n i m x y (Some v) place same first wrong second p q = tt
@@ -150,6 +206,25 @@ module _ (text : List ℕ) where
       behind_step room lower end next j a t found place all (subst (BehindOf text room lower end a t j) (sym stands) (behind_at text room lower end j a t more all))
 
   -- the tree that is read is the only one
-  pub whole_tree : (end : ℕ) (x : Option (ParsedExpr SourceSpan)) (t : Tree SourceSpan) → IfSome x (λ v. Reads text 256 2 0 (tree_of v) end) → skip text end ≡ length text → ReadsWhole text t → IfSome x (λ v. tree_of v ≡ t)
-  whole_tree end None t reads stands whole = tt
-  whole_tree end (Some v) t reads stands whole = texts_read_as_one text (tree_of v) t (end, reads, stands) whole
+  pub whole_tree : (end : ℕ) (x : Option (ParsedExpr SourceSpan)) (t : Tree SourceSpan) → IsReading text 256 2 0 x end → skip text end ≡ length text → ReadsWhole text t → IsTree x t
+  whole_tree end x t w stands whole =
+      subst (IsTree x) (texts_read_as_one text w.0 t (end, w.1, stands) whole) w.2
+
+  -- an expression that is not spoiled has the tree
+  whole_part : (n : ℕ) (x : Option (ParsedExpr SourceSpan)) (t : Tree SourceSpan) → n ≡ 0 → IfNone x (0 < n) → IsTree x t → part_of x ≡ Some t
+  whole_part n (Some v) t empty some is = ap Some is
+  whole_part n None t empty some is = absurd (omega (arith, empty, some))
+
+  part_some : (x : Option (ParsedExpr SourceSpan)) (t : Tree SourceSpan) {B : Type 0} → part_of x ≡ Some t → IfSome x (λ _. B) → B
+  part_some (Some v) t is b = b
+  part_some None t is b = absurd (none_some is)
+
+  -- no fault is listed exactly where the tree that is read is answered
+  pub whole_exact : (x : Option (ParsedExpr SourceSpan)) (n i k : ℕ) → i + k ≡ n → IfNone x (0 < n) → IfSome x (λ _. k ≡ 0) → (i ≡ 0 → (t : Tree SourceSpan) × ReadsWhole text t × IsTree x t) → ((t : Tree SourceSpan) → ReadsWhole text t → i ≡ 0) → (n ≡ 0 ↔ ((t : Tree SourceSpan) × ReadsWhole text t × (part_of x ≡ Some t)))
+  whole_exact x n i k all spoiled built read only = (
+    λ empty. let w = read (omega (arith, all, empty)) in (w.0, w.1, whole_part n x w.0 empty spoiled w.2),
+    λ w.
+        let clean = only w.0 w.1 in
+        let built_all = part_some x w.0 w.2 built in
+        omega (arith, all, clean, built_all),
+  )

@@ -1,5 +1,5 @@
 -- What clauses see of trees that are being read.
-use Rattle.std.specs.Prelude.{◌≡◌, ℕ, ◌<◌, Bool, true, false, List, Option, Some, None}
+use Rattle.std.specs.Prelude.{◌≡◌, ℕ, ◌<◌, Bool, true, false, List, Option, Some, None, IfSome}
 use Rattle.nextest_filter_matchers.specs.declared.source_span.SourceSpan.{SourceSpan}
 use Rattle.nextest_filter_faults.specs.declared.operators.NotOperator.{NotOperator}
 use Rattle.nextest_filter_tokens.specs.Bytes.{skip}
@@ -9,7 +9,7 @@ use Rattle.nextest_filter_leaves.specs.Leaves.{leaf_of}
 use Rattle.nextest_filter_leaves.specs.declared.parsed_leaf.ParsedLeaf.{ParsedLeaf}
 use Rattle.nextest_filter_syntax.specs.declared.parsed_expr.ParsedExpr.{ParsedExpr}
 use Rattle.nextest_filter_syntax.specs.Trees.{Tree, not_of, parens_of, set_of, tree_of}
-use Rattle.nextest_filter_syntax.specs.Grammar.{found_at, joined_of}
+use Rattle.nextest_filter_syntax.specs.Grammar.{Reads, found_at, joined_of}
 
 -- no operator of a lower level stands after the place
 abbrev pub Ends : List ℕ → ℕ → ℕ → Type 0
@@ -19,6 +19,14 @@ Ends text level j = (k : ℕ) → k < level → found_at text k (skip text j) �
 abbrev pub part_of : Option (ParsedExpr SourceSpan) → Option (Tree SourceSpan)
 part_of (Some x) = Some (tree_of x)
 part_of None = None
+
+-- the tree is that of an expression, unless it is spoiled
+abbrev pub IsTree : Option (ParsedExpr SourceSpan) → Tree SourceSpan → Type 0
+IsTree part t = IfSome part (λ x. tree_of x ≡ t)
+
+-- between two places a tree is read, and it is that of the expression, unless it is spoiled
+abbrev pub IsReading : List ℕ → ℕ → ℕ → ℕ → Option (ParsedExpr SourceSpan) → ℕ → Type 0
+IsReading text room level i part j = (t : Tree SourceSpan) × Reads text room level i t j × IsTree part t
 
 abbrev pub leaf_part : Option (ParsedLeaf SourceSpan) → Option (Tree SourceSpan)
 leaf_part (Some l) = Some (set_of (leaf_of l))

@@ -1,7 +1,7 @@
 ghost use Rattle.std.specs.Prelude.{◌≡◌, ◌≤◌, ◌<◌, true, false, IfOk, IfSome, OnOk, length, vec_len};
 ghost use Rattle.nextest_filter_faults.specs.Faults.{is_refusal, span_of};
 ghost use Rattle.nextest_filter_tokens.specs.Bytes.{skip};
-ghost use Rattle.nextest_filter_tokens.specs.FaultLists.{AreOver, AreWithin, others};
+ghost use Rattle.nextest_filter_tokens.specs.FaultLists.{AreOver, AreWithin, others, refusals};
 ghost use Rattle.nextest_filter_tokens.specs.Operators.{FoundEndsWithin};
 ghost use Rattle.nextest_filter_syntax.specs.Grammar.{found_at};
 ghost use Rattle.nextest_filter_syntax.specs.Reading.{is_wrong, place_of};
@@ -63,6 +63,7 @@ pub(crate) fn operator_after(
     ensures over { OnOk result (AreOver text.now faults.new.list.items) }
     ensures wrong { IfOk result (λ f. is_wrong f ≡ true → 0 < others faults.new.list.items) }
     ensures some { IfOk result (λ f. is_wrong f ≡ true → 0 < vec_len faults.new.list) }
+    ensures refusals { IfOk result (λ f. is_wrong f ≡ false → refusals faults.new.list.items ≡ refusals faults.old.list.items) }
     ensures same { IfOk result (λ f. is_wrong f ≡ false → others faults.new.list.items ≡ others faults.old.list.items) }
 {
     let place = skip_blanks(text, at);

@@ -1,9 +1,11 @@
-ghost use Rattle.std.specs.Prelude.{◌≡◌, ◌≤◌, ◌<◌, IfOk, IfSome, IfNone, OnOk, length, vec_len};
+ghost use Rattle.std.specs.Prelude.{◌≡◌, ◌≤◌, ◌<◌, ◌↔◌, Some, IfOk, IfSome, IfNone, OnOk, length, vec_len};
 ghost use Rattle.nextest_filter_matchers.specs.declared.source_span.SourceSpan as source;
 ghost use Rattle.nextest_filter_tokens.specs.Bytes.{skip};
-ghost use Rattle.nextest_filter_tokens.specs.FaultLists.{AreOver, AreWithin, others};
+ghost use Rattle.nextest_filter_tokens.specs.FaultLists.{AreOver, AreWithin, others, refusals};
 ghost use Rattle.nextest_filter_syntax.specs.Trees.{Tree, tree_of};
 ghost use Rattle.nextest_filter_syntax.specs.Grammar.{ReadsWhole};
+ghost use Rattle.nextest_filter_syntax.specs.Reading.{part_of};
+ghost use Rattle.nextest_filter_syntax.specs.Parsing.{ReadsSome};
 
 use crate::parsed_expr::ParsedExpr;
 use crate::reading::{rest_of, tree_from};
@@ -30,6 +32,7 @@ fn expect_end(text: &str, at: usize, faults: &mut FaultList) -> Result<(), Alloc
     requires over { AreOver text.now faults.old.list.items }
     ensures grows { OnOk result (vec_len faults.old.list ≤ vec_len faults.new.list) }
     ensures others { OnOk result (others faults.old.list.items ≤ others faults.new.list.items) }
+    ensures refusals { OnOk result (refusals faults.new.list.items ≡ refusals faults.old.list.items) }
     ensures within { OnOk result (AreWithin (length text.now) faults.new.list.items) }
     ensures over { OnOk result (AreOver text.now faults.new.list.items) }
     ensures read { OnOk result (others faults.new.list.items ≡ 0 → skip text.now at ≡ length text.now) }
@@ -48,9 +51,10 @@ pub fn parse_with_faults(
     alloc: Global,
     text: &str,
 ) -> Result<(Option<ParsedExpr>, Vec<ParseSingleError>), AllocError>
-    ensures read { IfOk result (λ r. others r.1.items ≡ 0 → IfSome r.0 (λ x. ReadsWhole text.now (tree_of x))) }
+    ensures exact { IfOk result (λ r. vec_len r.1 ≡ 0 ↔ ((t : Tree source.SourceSpan) × ReadsWhole text.now t × (part_of r.0 ≡ Some t))) }
+    ensures reads { IfOk result (λ r. others r.1.items ≡ 0 ↔ ReadsSome text.now) }
     ensures spoiled { IfOk result (λ r. IfNone r.0 (0 < vec_len r.1)) }
-    ensures only { IfOk result (λ r. (t : Tree source.SourceSpan) → ReadsWhole text.now t → others r.1.items ≡ 0) }
+    ensures built { IfOk result (λ r. IfSome r.0 (λ _. refusals r.1.items ≡ 0)) }
     ensures tree { IfOk result (λ r. (t : Tree source.SourceSpan) → ReadsWhole text.now t → IfSome r.0 (λ x. tree_of x ≡ t)) }
     ensures within { IfOk result (λ r. AreWithin (length text.now) r.1.items) }
     ensures over { IfOk result (λ r. AreOver text.now r.1.items) }

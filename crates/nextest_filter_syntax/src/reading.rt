@@ -2,11 +2,12 @@ ghost use Rattle.std.specs.Prelude.{◌≡◌, ◌≤◌, ◌<◌, ◌+◌, ℕ,
 ghost use Rattle.nextest_filter_matchers.specs.declared.source_span.SourceSpan as source;
 ghost use Rattle.nextest_filter_tokens.specs.Bytes.{skip};
 ghost use Rattle.nextest_filter_faults.specs.Faults.{is_refusal, span_of};
-ghost use Rattle.nextest_filter_tokens.specs.FaultLists.{AreOver, AreWithin, others};
+ghost use Rattle.nextest_filter_tokens.specs.FaultLists.{AreOver, AreWithin, others, refusals};
 ghost use Rattle.nextest_filter_tokens.specs.Heads.{HeadEndsWithin, head_at};
-ghost use Rattle.nextest_filter_syntax.specs.Trees.{Tree, tree_of};
+ghost use Rattle.nextest_filter_syntax.specs.Trees.{Tree};
 ghost use Rattle.nextest_filter_syntax.specs.Grammar.{Reads};
-ghost use Rattle.nextest_filter_syntax.specs.Reading.{Ends};
+ghost use Rattle.nextest_filter_syntax.specs.Reading.{Ends, IsReading, parens_part, part_of};
+ghost use Rattle.nextest_filter_leaves.specs.LeafGrammar.{Stands};
 
 use crate::between::{operator_after, place_after};
 use crate::parsed_expr::ParsedExpr;
@@ -106,6 +107,35 @@ fn report_no_operand(text: &str, at: usize, faults: &mut FaultList) -> Result<()
     Ok(())
 }
 
+/// An expression in parentheses, of which the last is expected after it, and the place after that.
+fn closed_parens(
+    alloc: Global,
+    text: &str,
+    tree: Option<ParsedExpr>,
+    at: usize,
+    faults: &mut FaultList,
+) -> Result<(Option<ParsedExpr>, usize), AllocError>
+    requires at { at ≤ length text.now }
+    requires within { AreWithin (length text.now) faults.old.list.items }
+    requires over { AreOver text.now faults.old.list.items }
+    ensures rises { IfOk result (λ p. at ≤ p.1) }
+    ensures end { IfOk result (λ p. p.1 ≤ length text.now) }
+    ensures grows { OnOk result (vec_len faults.old.list ≤ vec_len faults.new.list) }
+    ensures others { OnOk result (others faults.old.list.items ≤ others faults.new.list.items) }
+    ensures refusals { OnOk result (refusals faults.new.list.items ≡ refusals faults.old.list.items) }
+    ensures within { OnOk result (AreWithin (length text.now) faults.new.list.items) }
+    ensures over { OnOk result (AreOver text.now faults.new.list.items) }
+    ensures value { IfOk result (λ p. part_of p.0 ≡ parens_part (part_of tree)) }
+    ensures read { IfOk result (λ p. others faults.new.list.items ≡ 0 → Stands text.now at 41 p.1) }
+    ensures only { IfOk result (λ p. others faults.old.list.items ≡ 0 → (j : ℕ) → Stands text.now at 41 j → (p.1 ≡ j) × (others faults.new.list.items ≡ 0)) }
+{
+    let span = SourceSpan { offset: at, len: 0 };
+    let fault = ParseSingleError::ExpectedCloseParenthesis(span);
+    let after = expect_byte(text, at, b')', fault, faults)?;
+    let tree = in_parens(alloc, tree)?;
+    Ok((tree, after))
+}
+
 /// A part of a filter of a level from a place on, `None` where it is spoiled, and the place after it.
 #[cycle(reading)]
 pub(crate) fn tree_from(
@@ -124,9 +154,10 @@ pub(crate) fn tree_from(
     ensures end { IfOk result (λ p. p.1 ≤ length text.now) }
     ensures grows { OnOk result (vec_len faults.old.list ≤ vec_len faults.new.list) }
     ensures others { OnOk result (others faults.old.list.items ≤ others faults.new.list.items) }
+    ensures refusals { IfOk result (λ p. IfSome p.0 (λ _. refusals faults.new.list.items ≡ refusals faults.old.list.items)) }
     ensures within { OnOk result (AreWithin (length text.now) faults.new.list.items) }
     ensures over { OnOk result (AreOver text.now faults.new.list.items) }
-    ensures read { IfOk result (λ p. others faults.new.list.items ≡ 0 → IfSome p.0 (λ x. Reads text.now room level at (tree_of x) p.1)) }
+    ensures read { IfOk result (λ p. others faults.new.list.items ≡ 0 → IsReading text.now room level at p.0 p.1) }
     ensures spoiled { IfOk result (λ p. IfNone p.0 (0 < vec_len faults.new.list)) }
     ensures only { IfOk result (λ p. others faults.old.list.items ≡ 0 → (t : Tree source.SourceSpan) (j : ℕ) → Reads text.now room level at t j → Ends text.now level j → (p.1 ≡ j) × (others faults.new.list.items ≡ 0)) }
 {
@@ -162,9 +193,10 @@ fn operand_from(
     ensures end { IfOk result (λ p. p.1 ≤ length text.now) }
     ensures grows { OnOk result (vec_len faults.old.list ≤ vec_len faults.new.list) }
     ensures others { OnOk result (others faults.old.list.items ≤ others faults.new.list.items) }
+    ensures refusals { IfOk result (λ p. IfSome p.0 (λ _. refusals faults.new.list.items ≡ refusals faults.old.list.items)) }
     ensures within { OnOk result (AreWithin (length text.now) faults.new.list.items) }
     ensures over { OnOk result (AreOver text.now faults.new.list.items) }
-    ensures read { IfOk result (λ p. others faults.new.list.items ≡ 0 → IfSome p.0 (λ x. Reads text.now room 0 at (tree_of x) p.1)) }
+    ensures read { IfOk result (λ p. others faults.new.list.items ≡ 0 → IsReading text.now room 0 at p.0 p.1) }
     ensures spoiled { IfOk result (λ p. IfNone p.0 (0 < vec_len faults.new.list)) }
     ensures only { IfOk result (λ p. others faults.old.list.items ≡ 0 → (t : Tree source.SourceSpan) (j : ℕ) → Reads text.now room 0 at t j → (p.1 ≡ j) × (others faults.new.list.items ≡ 0)) }
 {
@@ -197,13 +229,7 @@ fn operand_from(
                 return Ok((None, at));
             }
             let (tree, end) = tree_from(alloc, text, room - 1, 2, next, faults)?;
-            let span = SourceSpan {
-                offset: end,
-                len: 0,
-            };
-            let fault = ParseSingleError::ExpectedCloseParenthesis(span);
-            let after = expect_byte(text, end, b')', fault, faults)?;
-            let tree = in_parens(alloc, tree)?;
+            let (tree, after) = closed_parens(alloc, text, tree, end, faults)?;
             Ok((tree, after))
         }
         Head::Misplaces(op, next) => {

@@ -33,14 +33,31 @@ impl RowRunner for FilterRows {
             None => shape.push_str("spoiled")?,
         }
         answers.push("shape", shape)?;
+        answers.push("runtime", runtime_text(alloc, &tree)?)?;
         answers.push("spans", spans)
     }
 }
 
-/// The printed tree of a text, or why there is none.
+/// The leaves that can be told only at run time.
+fn runtime_text(alloc: Global, tree: &Option<ParsedExpr>) -> Result<String, AllocError> {
+    let mut came = String::new(alloc);
+    let Some(tree) = tree else {
+        return Ok(came);
+    };
+    for leaf in tree.runtime_only_leaves(alloc)? {
+        let told = format!(in alloc; "{leaf} ")?;
+        came.push_str(told.as_str())?;
+    }
+    Ok(came)
+}
+
+/// The printed copy of a text's tree, or why there is none.
 fn printed(alloc: Global, text: &str) -> Result<String, AllocError> {
     match ParsedExpr::parse(alloc, text) {
-        Ok(tree) => format!(in alloc; "{tree}"),
+        Ok(tree) => {
+            let tree = tree.copy(alloc)?;
+            format!(in alloc; "{tree}")
+        }
         Err(ParseExprError::Faults(faults)) => {
             let count = faults.len();
             format!(in alloc; "faults: {count}")
@@ -49,11 +66,12 @@ fn printed(alloc: Global, text: &str) -> Result<String, AllocError> {
     }
 }
 
-/// The faults with their places.
+/// Copies of the faults, with their places.
 fn faults_text(alloc: Global, faults: &[ParseSingleError]) -> Result<String, AllocError> {
     let mut came = String::new(alloc);
     for fault in faults {
-        let told = fault_text(alloc, fault)?;
+        let fault = fault.copy(alloc)?;
+        let told = fault_text(alloc, &fault)?;
         if !came.is_empty() {
             came.push_str("; ")?;
         }
@@ -77,6 +95,16 @@ fn fault_text(alloc: Global, fault: &ParseSingleError) -> Result<String, AllocEr
     }
 }
 
+/// The operator that joins two parts, between blanks.
+fn operator_text(tree: &ParsedExpr, alloc: Global) -> Result<String, AllocError> {
+    match tree {
+        ParsedExpr::Union(op, ..) => format!(in alloc; " {op} "),
+        ParsedExpr::Intersection(op, ..) => format!(in alloc; " {op} "),
+        ParsedExpr::Difference(op, ..) => format!(in alloc; " {op} "),
+        _ => Ok(String::new(alloc)),
+    }
+}
+
 /// The tree with parentheses of its own around each part that is no leaf.
 fn push_shape(tree: &ParsedExpr, alloc: Global, shape: &mut String) -> Result<(), AllocError> {
     match tree {
@@ -86,24 +114,10 @@ fn push_shape(tree: &ParsedExpr, alloc: Global, shape: &mut String) -> Result<()
             push_shape(x, alloc, shape)?;
             shape.push(']')
         }
-        ParsedExpr::Union(op, x, y) => {
-            let op = format!(in alloc; " {op} ")?;
-            shape.push('[')?;
-            push_shape(x, alloc, shape)?;
-            shape.push_str(op.as_str())?;
-            push_shape(y, alloc, shape)?;
-            shape.push(']')
-        }
-        ParsedExpr::Intersection(op, x, y) => {
-            let op = format!(in alloc; " {op} ")?;
-            shape.push('[')?;
-            push_shape(x, alloc, shape)?;
-            shape.push_str(op.as_str())?;
-            push_shape(y, alloc, shape)?;
-            shape.push(']')
-        }
-        ParsedExpr::Difference(op, x, y) => {
-            let op = format!(in alloc; " {op} ")?;
+        ParsedExpr::Union(_, x, y)
+        | ParsedExpr::Intersection(_, x, y)
+        | ParsedExpr::Difference(_, x, y) => {
+            let op = operator_text(tree, alloc)?;
             shape.push('[')?;
             push_shape(x, alloc, shape)?;
             shape.push_str(op.as_str())?;

@@ -10,6 +10,10 @@ use Rattle.nextest_filter_tokens.specs.Patterns.{ReadsPattern}
 abbrev pub others : List ParseSingleError → ℕ
 others faults = count_by (λ f. not (is_refusal f)) faults
 
+-- how many of them are those of refused patterns
+abbrev pub refusals : List ParseSingleError → ℕ
+refusals faults = count_by is_refusal faults
+
 -- the fault lies within a text of this length
 abbrev pub LiesWithin : ℕ → ParseSingleError → Type 0
 LiesWithin n fault = (span_of fault).offset + (span_of fault).len ≤ n

@@ -15,7 +15,7 @@ pub struct FaultList {
 impl FaultList {
     ghost use Rattle.std.specs.Prelude.{◌≡◌, ◌+◌, ◌≤◌, ◌<◌, ℕ, List, [], false, true, IfOk, OnOk, vec_len};
     ghost use Rattle.nextest_filter_faults.specs.Faults.{is_refusal};
-    ghost use Rattle.nextest_filter_tokens.specs.FaultLists.{AreOver, AreWithin, LiesOver, LiesWithin, others};
+    ghost use Rattle.nextest_filter_tokens.specs.FaultLists.{AreOver, AreWithin, LiesOver, LiesWithin, others, refusals};
 
     /// No faults.
     pub fn new(alloc: Global) -> FaultList
@@ -35,6 +35,7 @@ impl FaultList {
         ensures other { OnOk result (is_refusal fault ≡ false → 0 < others self.new.list.items) }
         ensures refusal { OnOk result (is_refusal fault ≡ true → others self.new.list.items ≡ others self.old.list.items) }
         ensures rest { OnOk result (others self.old.list.items ≤ others self.new.list.items) }
+        ensures refusals { OnOk result (is_refusal fault ≡ false → refusals self.new.list.items ≡ refusals self.old.list.items) }
         ensures within { (n : ℕ) → AreWithin n self.old.list.items → LiesWithin n fault → AreWithin n self.new.list.items }
         ensures over { (text : List ℕ) → AreOver text self.old.list.items → LiesOver text fault → AreOver text self.new.list.items }
         ensures same_over { (text : List ℕ) → AreOver text self.old.list.items → is_refusal fault ≡ false → AreOver text self.new.list.items }

@@ -1,7 +1,8 @@
-use Rattle.std.proofs.Common.{◌+◌, ◌-◌, ◌≡◌, ◌∙◌, sym, subst, arith, true, string_bytes}
+use Rattle.std.proofs.Common.{◌+◌, ◌-◌, ◌≡◌, ◌∙◌, refl, sym, subst, arith, true, string_bytes}
+use Rattle.nextest_filter_matchers.specs.Matchers.{Regex}
 use Rattle.nextest_filter_tokens.specs.Bytes.{is_byte}
 use Rattle.nextest_filter_tokens.specs.Patterns.{ReadsPattern}
-use Rattle.nextest_filter_leaves.proofs.ReadFacts.{pattern_is}
+use Rattle.nextest_filter_leaves.proofs.ReadFacts.{if_none, pattern_is}
 use Rattle.nextest_filter_leaves.proofs.matchers.pattern_matcher.Goals as goal
 
 pub returns-in_ok-matcher-in-Some-clause-over : goal.returns-in_ok-matcher-in-Some-clause-over
@@ -19,3 +20,8 @@ pub returns-in_ok-matcher-in-Some-clause-only : goal.returns-in_ok-matcher-in-So
 returns-in_ok-matcher-in-Some-clause-only c clean m j from =
     let read = rw c.in-Some.is at c.in_ok-pattern.ensures.read in
     (sym (pattern_is c.args.text.now read from), c.in_ok-matcher-in-Some.ensures.others ∙ clean)
+
+pub returns-in_ok-matcher-in-Some-clause-refused : goal.returns-in_ok-matcher-in-Some-clause-refused
+returns-in_ok-matcher-in-Some-clause-refused c clean =
+    let reads = rw c.in-Some.is at c.in_ok-pattern.ensures.read in
+    if_none c.in_ok-matcher-in-Some.matcher (Regex (string_bytes c.in-Some.pattern), record { bytes = string_bytes c.in-Some.pattern; end = c.in-Some.end; reads = reads; is = refl; after = refl })

@@ -1,6 +1,8 @@
-use Rattle.std.proofs.Common.{◌∙◌, sym, ap, subst}
+use Rattle.std.proofs.Common.{◌≡◌, ◌∙◌, refl, sym, ap, subst, arith}
 use Rattle.nextest_filter_tokens.specs.Bytes.{skip}
-use Rattle.nextest_filter_leaves.specs.LeafGrammar.{ReadsMatcher, Stands}
+use Rattle.nextest_filter_tokens.specs.FaultLists.{others}
+use Rattle.nextest_filter_leaves.specs.Leaves.{Named}
+use Rattle.nextest_filter_leaves.specs.LeafGrammar.{ReadsMatcher, Stands, between}
 use Rattle.nextest_filter_leaves.proofs.sets.named_set_from.Goals as goal
 
 pub returns-in-Some-clause-only : goal.returns-in-Some-clause-only
@@ -20,3 +22,24 @@ returns-in-None-clause-only c clean leaf j from =
     let reads = subst (λ k. ReadsMatcher text c.args.predicate k from.matcher from.end) place from.reads in
     let matcher = c.in_ok-matcher.ensures.only opened.1 from.matcher from.end reads in
     c.in_ok-after.ensures.only matcher.1 j (subst (λ k. Stands text k 41 j) (sym matcher.0) from.closes)
+
+pub returns-in-None-clause-refused : goal.returns-in-None-clause-refused
+returns-in-None-clause-refused c clean =
+    let text = c.args.text.now in
+    let inner = c.in_ok-inner.inner in
+    let end = c.in_ok-matcher.end in
+    let after : others c.matcher_from.new.faults.list.items ≡ 0 = omega (arith, clean, c.in_ok-after.ensures.others) in
+    let opened : others c.opened_after.new.faults.list.items ≡ 0 = omega (arith, after, c.in_ok-matcher.ensures.others) in
+    let refused = rw c.in-None.is at c.in_ok-matcher.ensures.refused after in
+    let reads = subst (λ k. ReadsMatcher text c.args.predicate k refused.0 end) c.skip_blanks-start.ensures.value refused.1 in (
+      Named c.args.predicate refused.0 (between inner end),
+      record {
+        matcher = refused.0;
+        inner = inner;
+        end = end;
+        opens = c.in_ok-inner.ensures.read opened;
+        reads = reads;
+        closes = c.in_ok-after.ensures.read clean;
+        is = refl;
+      },
+    )

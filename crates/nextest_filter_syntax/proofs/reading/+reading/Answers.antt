@@ -1,25 +1,26 @@
-use Rattle.std.proofs.Common.{◌≡◌, ◌∙◌, ◌-◌, suc, ap, sym, subst, arith}
+use Rattle.std.proofs.Common.{◌≡◌, ◌∙◌, ◌-◌, suc, refl, ap, sym, subst, arith}
 use Rattle.nextest_filter_tokens.specs.FaultLists.{others}
 use Rattle.nextest_filter_tokens.specs.declared.heads.Head.TheVariants.{Says}
 use Rattle.nextest_filter_leaves.specs.Leaves.{leaf_of}
 use Rattle.nextest_filter_leaves.specs.LeafGrammar.{NullaryFrom, Stands}
+use Rattle.nextest_filter_syntax.specs.Trees.{set_of}
 use Rattle.nextest_filter_syntax.specs.Grammar.{MoreOf, joined_of}
 use Rattle.nextest_filter_syntax.specs.Reading.{is_wrong}
 use Rattle.nextest_filter_syntax.proofs.OperatorFacts.{close_ends}
-use Rattle.nextest_filter_syntax.proofs.StepFacts.{first_only, first_read, last_only, last_read, leaf_read, negated_only, negated_read, nothing_of, operand_is, parens_only, parens_read, set_read, step_only, step_read, step_spoiled}
+use Rattle.nextest_filter_syntax.proofs.StepFacts.{fault_none, first_only, first_read, last_only, last_read, leaf_read, negated_only, negated_read, nothing_of, operand_is, parens_only, parens_read, set_read, step_only, step_read, step_refusals, step_spoiled}
 use Rattle.nextest_filter_syntax.proofs.reading.+reading.Goals as goal
 
 pub operand_from-returns-in_ok-leaf-in-Names-clause-read : goal.operand_from-returns-in_ok-leaf-in-Names-clause-read
 operand_from-returns-in_ok-leaf-in-Names-clause-read n c clean =
-    leaf_read c.args.text.now c.args.room c.args.at c.in_ok-leaf-in-Names.end c.skip_blanks-start.result _ c.in_ok-leaf-in-Names.leaf _ c.skip_blanks-start.ensures.value c.in-Names.ensures.value c.leaf_expr.ensures (c.in_ok-leaf-in-Names.ensures.read clean)
+    leaf_read c.args.text.now c.args.room c.args.at c.in_ok-leaf-in-Names.end c.skip_blanks-start.result _ c.in_ok-leaf-in-Names.leaf _ c.skip_blanks-start.ensures.value c.in-Names.ensures.value c.leaf_expr.ensures (c.in_ok-leaf-in-Names.ensures.read clean) (c.in_ok-leaf-in-Names.ensures.refused clean)
 
 pub operand_from-returns-in_ok-leaf-in-Platform-clause-read : goal.operand_from-returns-in_ok-leaf-in-Platform-clause-read
 operand_from-returns-in_ok-leaf-in-Platform-clause-read n c clean =
-    leaf_read c.args.text.now c.args.room c.args.at c.in_ok-leaf-in-Platform.end c.skip_blanks-start.result _ c.in_ok-leaf-in-Platform.leaf _ c.skip_blanks-start.ensures.value c.in-Platform.ensures.value c.leaf_expr-in-Platform.ensures (c.in_ok-leaf-in-Platform.ensures.read clean)
+    leaf_read c.args.text.now c.args.room c.args.at c.in_ok-leaf-in-Platform.end c.skip_blanks-start.result _ c.in_ok-leaf-in-Platform.leaf _ c.skip_blanks-start.ensures.value c.in-Platform.ensures.value c.leaf_expr-in-Platform.ensures (c.in_ok-leaf-in-Platform.ensures.read clean) (fault_none _ c.in_ok-leaf-in-Platform.leaf _ clean c.in_ok-leaf-in-Platform.ensures.fault)
 
 pub operand_from-returns-in_ok-leaf-in-Says-clause-read : goal.operand_from-returns-in_ok-leaf-in-Says-clause-read
 operand_from-returns-in_ok-leaf-in-Says-clause-read n c clean =
-    set_read c.args.text.now c.args.room c.args.at c.in_ok-leaf-in-Says.end c.skip_blanks-start.result _ (leaf_of c.in_ok-leaf-in-Says.leaf) c.skip_blanks-start.ensures.value c.in-Says.ensures.value (c.in_ok-leaf-in-Says.ensures.read clean)
+    (set_of (leaf_of c.in_ok-leaf-in-Says.leaf), set_read c.args.text.now c.args.room c.args.at c.in_ok-leaf-in-Says.end c.skip_blanks-start.result _ (leaf_of c.in_ok-leaf-in-Says.leaf) c.skip_blanks-start.ensures.value c.in-Says.ensures.value (c.in_ok-leaf-in-Says.ensures.read clean), refl)
 
 pub operand_from-returns-in_ok-leaf-in-Says-clause-only : goal.operand_from-returns-in_ok-leaf-in-Says-clause-only
 operand_from-returns-in_ok-leaf-in-Says-clause-only n c clean t j r =
@@ -37,15 +38,15 @@ operand_from-returns-in_ok-tree-in-Negates-2-clause-only n c clean t j r =
 
 pub operand_from-returns-in_ok-tree-in-Opens-2-clause-read : goal.operand_from-returns-in_ok-tree-in-Opens-2-clause-read
 operand_from-returns-in_ok-tree-in-Opens-2-clause-read n c clean =
-    let before : others c.tree_from.new.faults.list.items ≡ 0 = omega (arith, clean, c.in_ok-after-in-Opens.ensures.others) in
-    parens_read c.args.text.now c.args.room c.args.at c.skip_blanks-start.result c.in-Opens.next c.in_ok-tree-in-Opens.end c.in_ok-after-in-Opens.after c.in_ok-tree-in-Opens.tree c.in_ok-tree-in-Opens-2.tree c.skip_blanks-start.ensures.value c.in-Opens.ensures.value (omega arith) c.in_ok-tree-in-Opens-2.ensures (c.in_ok-tree-in-Opens.ensures.read before) (c.in_ok-after-in-Opens.ensures.read clean)
+    let before : others c.tree_from.new.faults.list.items ≡ 0 = omega (arith, clean, c.in_ok-tree-in-Opens-2.ensures.others) in
+    parens_read c.args.text.now c.args.room c.args.at c.skip_blanks-start.result c.in-Opens.next c.in_ok-tree-in-Opens.end c.in_ok-tree-in-Opens-2.after c.in_ok-tree-in-Opens.tree c.in_ok-tree-in-Opens-2.tree c.skip_blanks-start.ensures.value c.in-Opens.ensures.value (omega arith) c.in_ok-tree-in-Opens-2.ensures.value (c.in_ok-tree-in-Opens.ensures.read before) (c.in_ok-tree-in-Opens-2.ensures.read clean)
 
 pub operand_from-returns-in_ok-tree-in-Opens-2-clause-only : goal.operand_from-returns-in_ok-tree-in-Opens-2-clause-only
 operand_from-returns-in_ok-tree-in-Opens-2-clause-only n c clean t j r =
     let text = c.args.text.now in
     let from = parens_only text c.args.room c.args.at c.skip_blanks-start.result c.in-Opens.next j t c.skip_blanks-start.ensures.value c.in-Opens.ensures.value r in
     let tree = c.in_ok-tree-in-Opens.ensures.only clean from.0 from.1 from.2 (close_ends text from.1 2 from.3.0) in
-    c.in_ok-after-in-Opens.ensures.only tree.1 j (subst (λ k. Stands text k 41 j) (sym tree.0) from.3)
+    c.in_ok-tree-in-Opens-2.ensures.only tree.1 j (subst (λ k. Stands text k 41 j) (sym tree.0) from.3)
 
 pub tree_from-loop-tree-init : goal.tree_from-loop-tree-init
 tree_from-loop-tree-init n c =
@@ -61,6 +62,7 @@ tree_from-loop-tree-init n c =
       within = first.within;
       over = first.over;
       read = λ clean. first_read text c.args.room c.args.level lower c.args.at c.in_ok-tree-2.end c.in_ok-tree-2.tree is (first.read clean);
+      refusals = first.refusals;
       spoiled = first.spoiled;
       only = λ clean t j r ends.
           let from = first_only text c.args.room c.args.level lower c.args.at j t is r ends in
@@ -104,7 +106,8 @@ tree_from-loop-tree-preserved n c =
       over = right.over;
       read = λ clean.
           let first : others c.loop-tree.faults.list.items ≡ 0 = omega (arith, clean, right.others, found.others) in
-          step_read text room level lower c.args.at c.loop-tree.end c.in-Some.next c.in_ok-right.after c.in_ok-found.found c.loop-tree.tree c.in_ok-right.right c.in_ok-tree-3.tree found.value place c.in_ok-tree-3.ensures (before.read first) (right.read clean);
+          step_read text room level lower c.args.at c.loop-tree.end c.in-Some.next c.in_ok-right.after c.in_ok-found.found c.loop-tree.tree c.in_ok-right.right c.in_ok-tree-3.tree found.value place (λ wrong. omega (arith, clean, right.others, found.wrong wrong)) c.in_ok-tree-3.ensures (before.read first) (right.read clean);
+      refusals = step_refusals text c.in_ok-found.found c.in-Some.next _ _ _ _ c.loop-tree.tree c.in_ok-right.right c.in_ok-tree-3.tree place c.in_ok-tree-3.ensures before.refusals found.refusals right.refusals;
       spoiled = step_spoiled text c.in_ok-found.found c.in-Some.next _ _ _ c.loop-tree.tree c.in_ok-right.right c.in_ok-tree-3.tree place c.in_ok-tree-3.ensures before.spoiled found.some right.spoiled (omega (arith, found.grows, right.grows)) right.grows;
       only = λ clean t j r ends.
           let from = before.only clean t j r ends in

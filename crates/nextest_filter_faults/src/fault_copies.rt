@@ -1,0 +1,82 @@
+ghost use Rattle.std.specs.Prelude.{◌≡◌, false, IfOk};
+ghost use Rattle.nextest_filter_faults.specs.Copies.{SameError, SameFault, holds_text};
+
+use crate::parse_error::{ParseSingleError, ParseSingleError as Fault};
+use nextest_filter_matchers::GlobConstructError;
+use std::alloc::{AllocError, Global};
+
+impl ParseSingleError {
+    /// An equal fault in memory of its own.
+    pub fn copy(&self, alloc: Global) -> Result<ParseSingleError, AllocError>
+        ensures { IfOk result (λ c. SameFault self.now c) }
+    {
+        match self {
+            Fault::InvalidRegex { span, message } => {
+                let span = *span;
+                let message = String::from_str(alloc, message.as_str())?;
+                Ok(Fault::InvalidRegex { span, message })
+            }
+            Fault::InvalidGlob { span, error } => {
+                let span = *span;
+                let error = copied_error(error, alloc)?;
+                Ok(Fault::InvalidGlob { span, error })
+            }
+            _ => Ok(copied_plain(self)),
+        }
+    }
+}
+
+/// An equal reason in memory of its own.
+fn copied_error(error: &GlobConstructError, alloc: Global) -> Result<GlobConstructError, AllocError>
+    ensures { IfOk result (λ c. SameError error.now c) }
+{
+    match error {
+        GlobConstructError::InvalidGlob(error) => Ok(GlobConstructError::InvalidGlob(*error)),
+        GlobConstructError::RegexError(message) => {
+            let message = String::from_str(alloc, message.as_str())?;
+            Ok(GlobConstructError::RegexError(message))
+        }
+    }
+}
+
+/// The same fault, of one that holds no text; of any other `Unknown`.
+fn copied_plain(fault: &ParseSingleError) -> ParseSingleError
+    ensures { holds_text fault.now ≡ false → result ≡ fault.now }
+{
+    match fault {
+        Fault::InvalidRegex { .. } | Fault::InvalidGlob { .. } | Fault::Unknown => Fault::Unknown,
+        Fault::BannedPredicate { kind, span, reason } => Fault::BannedPredicate {
+            kind: *kind,
+            span: *span,
+            reason: *reason,
+        },
+        Fault::ExprFoundBinaryOp { op, suggest, span } => Fault::ExprFoundBinaryOp {
+            op: *op,
+            suggest: *suggest,
+            span: *span,
+        },
+        Fault::ExprFoundUnaryOp { op, suggest, span } => Fault::ExprFoundUnaryOp {
+            op: *op,
+            suggest: *suggest,
+            span: *span,
+        },
+        Fault::InvalidRegexWithoutMessage(span) => Fault::InvalidRegexWithoutMessage(*span),
+        Fault::ExpectedCloseRegex(span) => Fault::ExpectedCloseRegex(*span),
+        Fault::InvalidOrOperator(span) => Fault::InvalidOrOperator(*span),
+        Fault::InvalidAndOperator(span) => Fault::InvalidAndOperator(*span),
+        Fault::UnexpectedArgument(span) => Fault::UnexpectedArgument(*span),
+        Fault::UnexpectedComma(span) => Fault::UnexpectedComma(*span),
+        Fault::InvalidString(span) => Fault::InvalidString(*span),
+        Fault::ExpectedOpenParenthesis(span) => Fault::ExpectedOpenParenthesis(*span),
+        Fault::ExpectedCloseParenthesis(span) => Fault::ExpectedCloseParenthesis(*span),
+        Fault::InvalidEscapeCharacter(span) => Fault::InvalidEscapeCharacter(*span),
+        Fault::ExpectedExpr(span) => Fault::ExpectedExpr(*span),
+        Fault::ExpectedEndOfExpression(span) => Fault::ExpectedEndOfExpression(*span),
+        Fault::NoPackageMatch(span) => Fault::NoPackageMatch(*span),
+        Fault::NoGroupMatch(span) => Fault::NoGroupMatch(*span),
+        Fault::NoBinaryIdMatch(span) => Fault::NoBinaryIdMatch(*span),
+        Fault::NoBinaryNameMatch(span) => Fault::NoBinaryNameMatch(*span),
+        Fault::InvalidPlatformArgument(span) => Fault::InvalidPlatformArgument(*span),
+        Fault::UnsupportedExpression(span) => Fault::UnsupportedExpression(*span),
+    }
+}

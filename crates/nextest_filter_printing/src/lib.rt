@@ -1,0 +1,5 @@
+//! What is printed of a filter reads as that filter.
+
+#![tactic(auto)]
+
+pub mod laws;
