@@ -60,3 +60,9 @@ module _ {T : Type 0} {eq : T → T → Bool} (laws : IsEquivalence eq) where
   pub first_step : (xs : List T) (i : ℕ) (d : T) → i < length xs → (old new : List T) → old ≡ first_of_each eq (take i xs) → d ≡ get_or xs i d → new ≡ insert_key eq old d → new ≡ first_of_each eq (take (i + 1) xs)
   first_step xs i d lt old new before is inserted =
       inserted ∙ ap (λ ks. insert_key eq ks d) before ∙ sym (first_of_each-push (take i xs) d) ∙ ap (first_of_each eq) (ap (λ z. take i xs ++ z ∷ []) is ∙ sym (take_more xs i d lt))
+
+  -- one element more, of those that are seen
+  pub first_next : {X : Type 0} (f : X → T) (xs : List X) (i : ℕ) (d : X) → i < length xs → (old new : List T) → old ≡ first_of_each eq (map f (take i xs)) → new ≡ insert_key eq old (f (get_or xs i d)) → new ≡ first_of_each eq (map f (take (i + 1) xs))
+  first_next f xs i d lt old new before inserted =
+      let x = get_or xs i d in
+      inserted ∙ ap (λ ks. insert_key eq ks (f x)) before ∙ sym (first_of_each-push (map f (take i xs)) (f x)) ∙ ap (first_of_each eq) (sym (map-take_more f xs i d lt))
