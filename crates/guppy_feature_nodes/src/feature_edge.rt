@@ -98,6 +98,15 @@ impl FeatureEdge {
     }
 }
 
+impl WeakSlashImpl {
+    /// The node for which the optional lines wait.
+    pub fn index(&self) -> WeakIndex
+        ensures value { result ≡ self.now.index }
+    {
+        self.index
+    }
+}
+
 impl ConditionalLinkImpl {
     pub(crate) fn lines(&self) -> &[(usize, usize)]
         ensures value { result.now ≡ link_lines self.now }
