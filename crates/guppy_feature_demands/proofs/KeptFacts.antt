@@ -1,0 +1,16 @@
+-- One demand more among those that are kept.
+use Rattle.std.proofs.Common.{◌≡◌, ℕ, ◌+◌, ◌<◌, List, [], ◌∷◌, ◌++◌, filter, length, get_or, map, take, ap, sym, ◌∙◌}
+use Rattle.std.proofs.lemmas.List.{map-append}
+use Rattle.std.proofs.lemmas.List.Elements.{filter-append}
+use Rattle.list_facts.proofs.Lists.{map-take_more}
+use Rattle.workspace_record.specs.Features.{FeatureValue}
+use Rattle.guppy_feature_demands.specs.Demands.{DemandValue, NumberedValue, is_between_nodes, kept_demands, with_numbers}
+
+kept-append : (nodes : List FeatureValue) (ds es : List DemandValue) → kept_demands nodes (ds ++ es) ≡ kept_demands nodes ds ++ kept_demands nodes es
+kept-append nodes ds es =
+    ap (λ xs. filter (is_between_nodes (length nodes)) xs) (map-append (with_numbers nodes) ds es) ∙ filter-append (is_between_nodes (length nodes)) (map (with_numbers nodes) ds) (map (with_numbers nodes) es)
+
+pub kept_more : {X : Type 0} (nodes : List FeatureValue) (view : X → DemandValue) (xs : List X) (i : ℕ) (d : X) → i < length xs → (old new : List NumberedValue) → old ≡ kept_demands nodes (map view (take i xs)) → new ≡ old ++ kept_demands nodes (view (get_or xs i d) ∷ []) → new ≡ kept_demands nodes (map view (take (i + 1) xs))
+kept_more nodes view xs i d lt old new before pushed =
+    let one = view (get_or xs i d) ∷ [] in
+    pushed ∙ ap (λ ks. ks ++ kept_demands nodes one) before ∙ sym (kept-append nodes (map view (take i xs)) one) ∙ ap (kept_demands nodes) (sym (map-take_more view xs i d lt))

@@ -1,0 +1,5 @@
+pub mod EntryFacts
+pub mod FirstFacts
+pub mod KeptFacts
+pub mod LinkFacts
+pub mod NumberFacts

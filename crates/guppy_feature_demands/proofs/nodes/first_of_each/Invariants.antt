@@ -1,0 +1,8 @@
+use Rattle.std.proofs.Common.{◌≡◌, map, take}
+use Rattle.workspace_record.specs.Features.{feature_eq}
+use Rattle.guppy_feature_ids.specs.IdViews.{id_view}
+use Rattle.guppy_feature_demands.specs.Nodes.{first_of_each}
+use Rattle.guppy_feature_demands.proofs.nodes.first_of_each.Given as goal
+
+abbrev pub invariant-loop-feature : goal.invariant-loop-feature
+invariant-loop-feature l = map id_view l.set.keys ≡ first_of_each feature_eq (map id_view (take l.feature-index l.features))

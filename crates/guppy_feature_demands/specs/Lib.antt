@@ -1,0 +1,13 @@
+pub mod Equivalences
+pub mod Entries
+pub mod EntryView
+pub mod Nodes
+pub mod Numbered
+pub mod NumberedViews
+pub mod Demands
+pub mod NameViews
+pub mod DemandViews
+pub mod Warnings
+pub mod LinkNames
+pub mod NamedRows
+pub mod StageViews

@@ -1,0 +1,12 @@
+use Rattle.std.specs.Prelude.{ℕ}
+use Rattle.workspace_record.specs.Records.{Line, Link}
+use Rattle.guppy_feature_demands.specs.declared.numbered.LinkAt.{LinkAt}
+use Rattle.guppy_feature_demands.specs.declared.numbered.LineAt.{LineAt}
+
+-- a link and its number
+abbrev pub link_view : LinkAt → ℕ × Link
+link_view link = (link.number, link.row.now)
+
+-- a line and its place
+abbrev pub line_view : LineAt → (ℕ × ℕ) × Line
+line_view line = (line.place, line.row.now)

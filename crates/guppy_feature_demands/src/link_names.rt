@@ -1,0 +1,113 @@
+//! The links of packages by the names that they give them.
+
+ghost use Rattle.std.specs.Prelude.{◌≡◌, ◌++◌, ◌∷◌, [], None, cond, IfNone, IfOk, IfSome, OnOk, map};
+ghost use Rattle.indexmap.specs.IndexMap.{get};
+ghost use Rattle.guppy_feature_demands.specs.LinkNames.{NamesLinks, key_eq, links_in};
+ghost use Rattle.guppy_feature_demands.specs.Numbered.{links_named};
+ghost use Rattle.guppy_feature_demands.specs.NumberedViews.{link_view};
+ghost use Rattle.guppy_feature_demands.specs.declared.link_names.LinkName.{LinkName};
+
+use crate::numbered::LinkAt;
+use indexmap::IndexMap;
+use std::alloc::{AllocError, Global};
+use std::hash::{Hash, Hasher};
+
+/// A package's id, and the name of a dependency.
+#[derive(Clone, Copy)]
+pub(crate) struct LinkName<'g> {
+    pub from: &'g str,
+    pub name: &'g str,
+}
+
+impl PartialEq for LinkName<'_> {
+    ghost use Rattle.std.specs.Cmp.{partial_equiv_from_equiv};
+    ghost use Rattle.guppy_feature_demands.specs.LinkNames.{key_eq, keys_equivalence};
+
+    ghost eq = { key_eq };
+
+    ghost laws = { partial_equiv_from_equiv keys_equivalence };
+
+    fn eq(&self, other: &Self) -> bool {
+        self.from == other.from && self.name == other.name
+    }
+}
+
+impl Eq for LinkName<'_> {
+    ghost use Rattle.guppy_feature_demands.specs.LinkNames.{keys_equivalence};
+
+    ghost laws = { keys_equivalence };
+}
+
+impl Hash for LinkName<'_> {
+    ghost use Rattle.guppy_feature_demands.specs.LinkNames.{key_view, key_writes, same_key_writes};
+
+    ghost hash_input = { λ q. key_writes (key_view q) };
+
+    ghost respects_eq = { same_key_writes };
+
+    fn hash<H: Hasher>(&self, state: &mut H) {
+        self.from.hash(state);
+        self.name.hash(state);
+    }
+}
+
+/// The links of each name.
+#[derive(Drop)]
+pub(crate) struct LinkNames<'g> {
+    groups: IndexMap<LinkName<'g>, Vec<LinkAt<'g>>>,
+}
+
+impl<'g> LinkNames<'g> {
+    /// The package's links under a name, if there are any.
+    pub(crate) fn links(&self, key: LinkName<'g>) -> Option<&[LinkAt<'g>]>
+        ensures some { IfSome result (λ group. map link_view group.now ≡ links_in (get key_eq self.now.groups key.entry)) }
+        ensures none { IfNone result (links_in (get key_eq self.now.groups key.entry) ≡ []) }
+    {
+        let group = self.groups.get(&key)?;
+        Some(group.as_slice())
+    }
+}
+
+pub(crate) fn link_names<'g>(
+    alloc: Global,
+    links: &[LinkAt<'g>],
+) -> Result<LinkNames<'g>, AllocError>
+    ensures { IfOk result (NamesLinks (map link_view links.now)) }
+{
+    let mut names: LinkNames<'g> = LinkNames {
+        groups: IndexMap::new(alloc),
+    };
+    for link in links {
+        push_link(alloc, &mut names, *link)?;
+    }
+    Ok(names)
+}
+
+fn push_link<'g>(
+    alloc: Global,
+    names: &mut LinkNames<'g>,
+    link: LinkAt<'g>,
+) -> Result<(), AllocError>
+    ensures { OnOk result ((q : LinkName) → links_in (get key_eq names.new.groups q) ≡ links_in (get key_eq names.old.groups q) ++ links_named (link_view link.entry ∷ []) q.from.now q.name.now) }
+{
+    let row = link.row;
+    let key = LinkName {
+        from: row.from.as_str(),
+        name: row.name.as_str(),
+    };
+    let mut group = take_group(alloc, names, key);
+    group.push(link)?;
+    names.groups.insert(key, group)?;
+    Ok(())
+}
+
+// The links that were found so far under a name, which are taken out.
+fn take_group<'g>(alloc: Global, names: &mut LinkNames<'g>, key: LinkName<'g>) -> Vec<LinkAt<'g>>
+    ensures taken { map link_view result.items ≡ links_in (get key_eq names.old.groups key.entry) }
+    ensures left { (q : LinkName) → get key_eq names.new.groups q ≡ cond (key_eq key.entry q) None (get key_eq names.old.groups q) }
+{
+    match names.groups.swap_remove(&key) {
+        Some(group) => group,
+        None => Vec::new(alloc),
+    }
+}

@@ -1,0 +1,136 @@
+//! The nodes of a feature graph, each found by its feature.
+
+ghost use Rattle.std.specs.Prelude.{◌≡◌, ◌∷◌, ◌++◌, ◌<◌, IfOk, OnOk, Some, length, map, slice_get, string_bytes};
+ghost use Rattle.std.specs.List.{flat_map};
+ghost use Rattle.indexmap.specs.IndexSet.{insert_key};
+ghost use Rattle.workspace_record.specs.Features.{feature_eq};
+ghost use Rattle.guppy_feature_ids.specs.IdViews.{id_view};
+ghost use Rattle.guppy_feature_demands.specs.NameViews.{name_view};
+ghost use Rattle.guppy_feature_demands.specs.Nodes.{base_of, named_of, dep_of, features_of, first_of_each, nodes_of, is_node, number_of};
+
+use crate::feature_name::FeatureName;
+use crate::package_at::PackageAt;
+use guppy_feature_ids::FeatureId;
+use guppy_row_parts::{FeatureRow, PackageId};
+use indexmap::IndexSet;
+use std::alloc::{AllocError, Global};
+use std::marker::Model;
+
+/// Features, each with its number: its place in the list.
+#[derive(Drop)]
+pub struct NodeTable<'g> {
+    ids: IndexSet<FeatureId<'g>>,
+}
+
+impl<'g> Model for NodeTable<'g> {
+    ghost use Rattle.std.specs.Prelude.{List, map};
+    ghost use Rattle.workspace_record.specs.Features.{FeatureValue};
+    ghost use Rattle.guppy_feature_ids.specs.IdViews.{id_view};
+
+    ghost Value = { List FeatureValue };
+
+    ghost view = { λ t. map id_view t.ids.keys };
+}
+
+impl<'g> NodeTable<'g> {
+    /// The features of these packages.
+    pub fn of(alloc: Global, packages: &[PackageAt<'g>]) -> Result<NodeTable<'g>, AllocError>
+        ensures nodes { IfOk result (λ t. t ≡ nodes_of (map (λ p. p.row.now) packages.now)) }
+    {
+        let features = features_of(alloc, packages)?;
+        let ids = first_of_each(alloc, &features)?;
+        Ok(NodeTable { ids })
+    }
+
+    /// The features, in the order of their numbers.
+    pub fn ids(&self) -> &[FeatureId<'g>]
+        ensures value { map id_view result.now ≡ self.now }
+    {
+        self.ids.as_slice()
+    }
+
+    /// Whether there is such a feature.
+    pub fn contains(&self, feature: FeatureName<'_>) -> bool
+        ensures answer { result ≡ is_node self.now (name_view feature.entry) }
+    {
+        self.ids.contains(feature)
+    }
+
+    /// The number of a feature; the number of features where there is none.
+    pub fn number_of(&self, feature: FeatureName<'_>) -> usize
+        ensures number { result ≡ number_of self.now (name_view feature.entry) }
+    {
+        match self.ids.get_index_of(feature) {
+            Some(number) => number,
+            None => self.ids.len(),
+        }
+    }
+
+    /// How many features there are.
+    pub fn len(&self) -> usize
+        ensures count { result ≡ length self.now }
+    {
+        self.ids.len()
+    }
+}
+
+fn features_of<'g>(
+    alloc: Global,
+    packages: &[PackageAt<'g>],
+) -> Result<Vec<FeatureId<'g>>, AllocError>
+    ensures { IfOk result (λ v. map id_view v.items ≡ flat_map features_of (map (λ p. p.row.now) packages.now)) }
+{
+    let mut features: Vec<FeatureId<'g>> = Vec::new(alloc);
+    for entry in packages {
+        push_features(*entry, &mut features)?;
+    }
+    Ok(features)
+}
+
+fn push_features<'g>(at: PackageAt<'g>, features: &mut Vec<FeatureId<'g>>) -> Result<(), AllocError>
+    ensures { OnOk result (map id_view features.new.items ≡ map id_view features.old.items ++ features_of at.entry.row.now) }
+{
+    let row = at.row;
+    features.push(FeatureId::base(at.id))?;
+    push_named(at.id, &row.features, features)?;
+    push_dependencies(at.id, &row.optional, features)
+}
+
+fn push_named<'g>(
+    id: &'g PackageId,
+    named: &'g [FeatureRow],
+    features: &mut Vec<FeatureId<'g>>,
+) -> Result<(), AllocError>
+    ensures { OnOk result (map id_view features.new.items ≡ map id_view features.old.items ++ map (λ f. named_of id.entry.now f.name) named.entry.now) }
+{
+    for feature in named {
+        features.push(FeatureId::named(id, feature.name.as_str()))?;
+    }
+    Ok(())
+}
+
+fn push_dependencies<'g>(
+    id: &'g PackageId,
+    names: &'g [String],
+    features: &mut Vec<FeatureId<'g>>,
+) -> Result<(), AllocError>
+    ensures { OnOk result (map id_view features.new.items ≡ map id_view features.old.items ++ map (dep_of id.entry.now) (map string_bytes names.entry.now)) }
+{
+    for name in names {
+        features.push(FeatureId::optional_dependency(id, name.as_str()))?;
+    }
+    Ok(())
+}
+
+fn first_of_each<'g>(
+    alloc: Global,
+    features: &[FeatureId<'g>],
+) -> Result<IndexSet<FeatureId<'g>>, AllocError>
+    ensures { IfOk result (λ set. map id_view set.keys ≡ first_of_each feature_eq (map id_view features.now)) }
+{
+    let mut set: IndexSet<FeatureId<'g>> = IndexSet::with_capacity(alloc, features.len())?;
+    for feature in features {
+        set.insert(*feature)?;
+    }
+    Ok(set)
+}

@@ -1,0 +1,401 @@
+//! What is odd about the features of rows.
+
+ghost use Rattle.std.specs.Prelude.{◌≡◌, ◌∷◌, ◌++◌, [], IfOk, OnOk, map, string_bytes};
+ghost use Rattle.std.specs.List.{flat_map};
+ghost use Rattle.guppy_row_parts.specs.Warnings.{AddNamedFeatureEdges, MissingFeature, SelfLoop};
+ghost use Rattle.guppy_feature_ids.specs.LabelViews.{label_view};
+ghost use Rattle.guppy_feature_ids.specs.Printing.{label_text};
+ghost use Rattle.guppy_row_parts.specs.WarningViews.{stage_view, warning_view};
+ghost use Rattle.guppy_feature_demands.specs.Entries.{entry_value};
+ghost use Rattle.guppy_feature_demands.specs.EntryView.{entry_view};
+ghost use Rattle.guppy_feature_demands.specs.NameViews.{name_view};
+ghost use Rattle.guppy_feature_demands.specs.NamedRows.{named_view};
+ghost use Rattle.guppy_feature_demands.specs.Nodes.{named_of};
+ghost use Rattle.guppy_feature_demands.specs.Numbered.{links_named};
+ghost use Rattle.guppy_feature_demands.specs.NumberedViews.{link_view};
+ghost use Rattle.guppy_feature_demands.specs.StageViews.{place_view};
+ghost use Rattle.guppy_feature_demands.specs.Warnings.{entry_warnings, feature_warnings, line_warnings, link_warnings, missing, optional_warnings, own_warnings, package_warnings, slash_warnings};
+
+use crate::entry::{Entry, entry_of};
+use crate::feature_name::FeatureName;
+use crate::link_names::LinkName;
+use crate::link_table::LinkTable;
+use crate::named_entries::{NamedRow, named_entries};
+use crate::nodes::NodeTable;
+use crate::numbered::LinkAt;
+use crate::package_at::PackageAt;
+use guppy_row_parts::{FeatureBuildStage, FeatureGraphWarning, LineRow, LinkRow, PackageId};
+use std::alloc::{AllocError, Global};
+
+/// Where a feature is named: by an entry of a package's feature, or by a package's dependency.
+#[derive(Clone, Copy)]
+pub(crate) enum StageAt<'g> {
+    Entry(&'g str, &'g str),
+    Line(&'g str, &'g str),
+}
+
+/// The warnings of the packages' features, and then of the links' lines.
+pub(crate) fn warnings_of<'g>(
+    alloc: Global,
+    packages: &[PackageAt<'g>],
+    rows: &'g [LinkRow],
+    nodes: &NodeTable<'g>,
+    links: &LinkTable<'g>,
+) -> Result<Vec<FeatureGraphWarning>, AllocError>
+    ensures { IfOk result (λ v. map warning_view v.items ≡ flat_map (package_warnings nodes.now links.now) (map (λ p. p.row.now) packages.now) ++ flat_map (link_warnings nodes.now) rows.entry.now) }
+{
+    let mut warnings: Vec<FeatureGraphWarning> = Vec::new(alloc);
+    push_packages(alloc, packages, nodes, links, &mut warnings)?;
+    push_links(alloc, rows, nodes, &mut warnings)?;
+    Ok(warnings)
+}
+
+fn push_packages<'g>(
+    alloc: Global,
+    packages: &[PackageAt<'g>],
+    nodes: &NodeTable<'g>,
+    links: &LinkTable<'g>,
+    warnings: &mut Vec<FeatureGraphWarning>,
+) -> Result<(), AllocError>
+    ensures { OnOk result (map warning_view warnings.new.items ≡ map warning_view warnings.old.items ++ flat_map (package_warnings nodes.now links.now) (map (λ p. p.row.now) packages.now)) }
+{
+    for at in packages {
+        push_package(alloc, *at, nodes, links, warnings)?;
+    }
+    Ok(())
+}
+
+fn push_package<'g>(
+    alloc: Global,
+    at: PackageAt<'g>,
+    nodes: &NodeTable<'g>,
+    links: &LinkTable<'g>,
+    warnings: &mut Vec<FeatureGraphWarning>,
+) -> Result<(), AllocError>
+    ensures { OnOk result (map warning_view warnings.new.items ≡ map warning_view warnings.old.items ++ package_warnings nodes.now links.now at.entry.row.now) }
+{
+    let row = at.row;
+    let features = named_entries(alloc, &row.features)?;
+    push_features(
+        alloc,
+        row.id.as_str(),
+        features.as_slice(),
+        nodes,
+        links,
+        warnings,
+    )
+}
+
+fn push_features<'g>(
+    alloc: Global,
+    id: &'g str,
+    features: &[NamedRow<'g>],
+    nodes: &NodeTable<'g>,
+    links: &LinkTable<'g>,
+    warnings: &mut Vec<FeatureGraphWarning>,
+) -> Result<(), AllocError>
+    ensures { OnOk result (map warning_view warnings.new.items ≡ map warning_view warnings.old.items ++ flat_map (feature_warnings nodes.now links.now id.entry.now) (map named_view features.now)) }
+{
+    for feature in features {
+        push_feature(alloc, id, *feature, nodes, links, warnings)?;
+    }
+    Ok(())
+}
+
+fn push_feature<'g>(
+    alloc: Global,
+    id: &'g str,
+    feature: NamedRow<'g>,
+    nodes: &NodeTable<'g>,
+    links: &LinkTable<'g>,
+    warnings: &mut Vec<FeatureGraphWarning>,
+) -> Result<(), AllocError>
+    ensures { OnOk result (map warning_view warnings.new.items ≡ map warning_view warnings.old.items ++ feature_warnings nodes.now links.now id.entry.now (named_view feature.entry)) }
+{
+    let row = feature.row;
+    push_entries(
+        alloc,
+        id,
+        row.name.as_str(),
+        &row.enables,
+        nodes,
+        links,
+        warnings,
+    )
+}
+
+fn push_entries<'g>(
+    alloc: Global,
+    id: &'g str,
+    from: &'g str,
+    entries: &'g [String],
+    nodes: &NodeTable<'g>,
+    links: &LinkTable<'g>,
+    warnings: &mut Vec<FeatureGraphWarning>,
+) -> Result<(), AllocError>
+    ensures { OnOk result (map warning_view warnings.new.items ≡ map warning_view warnings.old.items ++ flat_map (λ e. entry_warnings nodes.now links.now id.entry.now from.entry.now (entry_value e)) (map string_bytes entries.entry.now)) }
+{
+    for text in entries {
+        push_entry(
+            alloc,
+            id,
+            from,
+            entry_of(text.as_str()),
+            nodes,
+            links,
+            warnings,
+        )?;
+    }
+    Ok(())
+}
+
+fn push_entry<'g>(
+    alloc: Global,
+    id: &'g str,
+    from: &'g str,
+    entry: Entry<'g>,
+    nodes: &NodeTable<'g>,
+    links: &LinkTable<'g>,
+    warnings: &mut Vec<FeatureGraphWarning>,
+) -> Result<(), AllocError>
+    ensures { OnOk result (map warning_view warnings.new.items ≡ map warning_view warnings.old.items ++ entry_warnings nodes.now links.now id.entry.now from.entry.now (entry_view entry.entry)) }
+{
+    match entry {
+        Entry::OwnFeature(name) => push_own(alloc, id, from, name, nodes, warnings),
+        Entry::Dependency(name) => {
+            let dep = FeatureName::dep(id, name);
+            push_missing(alloc, StageAt::Entry(id, from), dep, nodes, warnings)
+        }
+        Entry::Strong(name, feature) | Entry::Weak(name, feature) => {
+            push_slash(alloc, id, from, name, feature, nodes, links, warnings)
+        }
+    }
+}
+
+fn push_own<'g>(
+    alloc: Global,
+    id: &'g str,
+    from: &'g str,
+    name: &'g str,
+    nodes: &NodeTable<'g>,
+    warnings: &mut Vec<FeatureGraphWarning>,
+) -> Result<(), AllocError>
+    ensures { OnOk result (map warning_view warnings.new.items ≡ map warning_view warnings.old.items ++ own_warnings nodes.now id.entry.now from.entry.now name.entry.now) }
+{
+    if name == from {
+        warnings.push(self_loop(alloc, id, from)?)?;
+        Ok(())
+    } else {
+        let feature = FeatureName::named(id, name);
+        push_missing(alloc, StageAt::Entry(id, from), feature, nodes, warnings)
+    }
+}
+
+fn push_slash<'g>(
+    alloc: Global,
+    id: &'g str,
+    from: &'g str,
+    name: &'g str,
+    feature: &'g str,
+    nodes: &NodeTable<'g>,
+    links: &LinkTable<'g>,
+    warnings: &mut Vec<FeatureGraphWarning>,
+) -> Result<(), AllocError>
+    ensures { OnOk result (map warning_view warnings.new.items ≡ map warning_view warnings.old.items ++ slash_warnings nodes.now (AddNamedFeatureEdges id.entry.now from.entry.now) feature.entry.now (links_named links.now id.entry.now name.entry.now)) }
+{
+    let stage = StageAt::Entry(id, from);
+    match links.named(LinkName { from: id, name }) {
+        Some(group) => push_slash_links(alloc, stage, feature, group, nodes, warnings),
+        None => Ok(()),
+    }
+}
+
+fn push_slash_links<'g>(
+    alloc: Global,
+    stage: StageAt<'g>,
+    feature: &'g str,
+    links: &[LinkAt<'g>],
+    nodes: &NodeTable<'g>,
+    warnings: &mut Vec<FeatureGraphWarning>,
+) -> Result<(), AllocError>
+    ensures { OnOk result (map warning_view warnings.new.items ≡ map warning_view warnings.old.items ++ slash_warnings nodes.now (place_view stage.entry) feature.entry.now (map link_view links.now)) }
+{
+    for link in links {
+        push_slash_link(alloc, stage, feature, *link, nodes, warnings)?;
+    }
+    Ok(())
+}
+
+fn push_slash_link<'g>(
+    alloc: Global,
+    stage: StageAt<'g>,
+    feature: &'g str,
+    link: LinkAt<'g>,
+    nodes: &NodeTable<'g>,
+    warnings: &mut Vec<FeatureGraphWarning>,
+) -> Result<(), AllocError>
+    ensures { OnOk result (map warning_view warnings.new.items ≡ map warning_view warnings.old.items ++ missing nodes.now (place_view stage.entry) (named_of link.entry.row.now.to feature.entry.now)) }
+{
+    let row = link.row;
+    let to = FeatureName::named(row.to.as_str(), feature);
+    push_missing(alloc, stage, to, nodes, warnings)
+}
+
+fn push_links<'g>(
+    alloc: Global,
+    rows: &'g [LinkRow],
+    nodes: &NodeTable<'g>,
+    warnings: &mut Vec<FeatureGraphWarning>,
+) -> Result<(), AllocError>
+    ensures { OnOk result (map warning_view warnings.new.items ≡ map warning_view warnings.old.items ++ flat_map (link_warnings nodes.now) rows.entry.now) }
+{
+    for row in rows {
+        push_lines(alloc, row, &row.lines, nodes, warnings)?;
+    }
+    Ok(())
+}
+
+fn push_lines<'g>(
+    alloc: Global,
+    link: &'g LinkRow,
+    lines: &'g [LineRow],
+    nodes: &NodeTable<'g>,
+    warnings: &mut Vec<FeatureGraphWarning>,
+) -> Result<(), AllocError>
+    ensures { OnOk result (map warning_view warnings.new.items ≡ map warning_view warnings.old.items ++ flat_map (line_warnings nodes.now link.entry.now) lines.entry.now) }
+{
+    for line in lines {
+        push_line(alloc, link, line, nodes, warnings)?;
+    }
+    Ok(())
+}
+
+fn push_line<'g>(
+    alloc: Global,
+    link: &'g LinkRow,
+    line: &'g LineRow,
+    nodes: &NodeTable<'g>,
+    warnings: &mut Vec<FeatureGraphWarning>,
+) -> Result<(), AllocError>
+    ensures { OnOk result (map warning_view warnings.new.items ≡ map warning_view warnings.old.items ++ line_warnings nodes.now link.entry.now line.entry.now) }
+{
+    let stage = StageAt::Line(link.from.as_str(), link.name.as_str());
+    push_optional(alloc, stage, link, line, nodes, warnings)?;
+    push_listed(
+        alloc,
+        stage,
+        link.to.as_str(),
+        &line.features,
+        nodes,
+        warnings,
+    )
+}
+
+fn push_optional<'g>(
+    alloc: Global,
+    stage: StageAt<'g>,
+    link: &'g LinkRow,
+    line: &'g LineRow,
+    nodes: &NodeTable<'g>,
+    warnings: &mut Vec<FeatureGraphWarning>,
+) -> Result<(), AllocError>
+    ensures { OnOk result (map warning_view warnings.new.items ≡ map warning_view warnings.old.items ++ optional_warnings nodes.now (place_view stage.entry) link.entry.now line.entry.now) }
+{
+    if line.optional {
+        let dep = FeatureName::dep(link.from.as_str(), link.name.as_str());
+        push_missing(alloc, stage, dep, nodes, warnings)
+    } else {
+        Ok(())
+    }
+}
+
+fn push_listed<'g>(
+    alloc: Global,
+    stage: StageAt<'g>,
+    to: &'g str,
+    names: &'g [String],
+    nodes: &NodeTable<'g>,
+    warnings: &mut Vec<FeatureGraphWarning>,
+) -> Result<(), AllocError>
+    ensures { OnOk result (map warning_view warnings.new.items ≡ map warning_view warnings.old.items ++ flat_map (λ x. missing nodes.now (place_view stage.entry) (named_of to.entry.now x)) (map string_bytes names.entry.now)) }
+{
+    for name in names {
+        let feature = FeatureName::named(to, name.as_str());
+        push_missing(alloc, stage, feature, nodes, warnings)?;
+    }
+    Ok(())
+}
+
+fn push_missing<'g>(
+    alloc: Global,
+    stage: StageAt<'g>,
+    feature: FeatureName<'g>,
+    nodes: &NodeTable<'g>,
+    warnings: &mut Vec<FeatureGraphWarning>,
+) -> Result<(), AllocError>
+    ensures { OnOk result (map warning_view warnings.new.items ≡ map warning_view warnings.old.items ++ missing nodes.now (place_view stage.entry) (name_view feature.entry)) }
+{
+    if !nodes.contains(feature) {
+        warnings.push(missing_feature(alloc, stage, feature)?)?;
+    }
+    Ok(())
+}
+
+fn missing_feature(
+    alloc: Global,
+    stage: StageAt<'_>,
+    feature: FeatureName<'_>,
+) -> Result<FeatureGraphWarning, AllocError>
+    ensures { IfOk result (λ w. warning_view w ≡ MissingFeature (place_view stage.entry) feature.entry.package_id.now (label_text (label_view feature.entry.label))) }
+{
+    let stage = stage_of(alloc, stage)?;
+    let package_id = id_of(alloc, feature.package_id)?;
+    let label = feature.label;
+    let feature_name = format!(in alloc; "{label}")?;
+    Ok(FeatureGraphWarning::MissingFeature {
+        stage,
+        package_id,
+        feature_name,
+    })
+}
+
+fn self_loop(alloc: Global, id: &str, feature: &str) -> Result<FeatureGraphWarning, AllocError>
+    ensures { IfOk result (λ w. warning_view w ≡ SelfLoop id.now feature.now) }
+{
+    let package_id = id_of(alloc, id)?;
+    let feature_name = String::from_str(alloc, feature)?;
+    Ok(FeatureGraphWarning::SelfLoop {
+        package_id,
+        feature_name,
+    })
+}
+
+fn stage_of(alloc: Global, stage: StageAt<'_>) -> Result<FeatureBuildStage, AllocError>
+    ensures { IfOk result (λ s. stage_view s ≡ place_view stage.entry) }
+{
+    match stage {
+        StageAt::Entry(id, from) => {
+            let package_id = id_of(alloc, id)?;
+            let from_feature = String::from_str(alloc, from)?;
+            Ok(FeatureBuildStage::AddNamedFeatureEdges {
+                package_id,
+                from_feature,
+            })
+        }
+        StageAt::Line(id, name) => {
+            let package_id = id_of(alloc, id)?;
+            let dep_name = String::from_str(alloc, name)?;
+            Ok(FeatureBuildStage::AddDependencyEdges {
+                package_id,
+                dep_name,
+            })
+        }
+    }
+}
+
+fn id_of(alloc: Global, text: &str) -> Result<PackageId, AllocError>
+    ensures { IfOk result (λ id. id ≡ text.now) }
+{
+    let text = String::from_str(alloc, text)?;
+    Ok(PackageId::new(text))
+}

@@ -1,0 +1,3 @@
+pub mod GroupFacts
+pub mod JoinFacts
+pub mod WeightFacts

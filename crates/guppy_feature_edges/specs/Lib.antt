@@ -1,0 +1,5 @@
+pub mod Joining
+pub mod JoinedViews
+pub mod KeyViews
+pub mod HeadViews
+pub mod LineGroups

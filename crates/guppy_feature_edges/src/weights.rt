@@ -1,0 +1,59 @@
+//! The demands that give way to others.
+
+ghost use Rattle.std.specs.Prelude.{◌≡◌, ◌||◌, IfOk, OnOk, map};
+ghost use Rattle.std.specs.List.{list_any};
+ghost use Rattle.guppy_feature_demands.specs.DemandViews.{form_view, numbered_view};
+ghost use Rattle.guppy_feature_edges.specs.Joining.{FindsWeights, Key, ends_of, gives_way_to, key_eq, weight_key};
+ghost use Rattle.guppy_feature_edges.specs.KeyViews.{key_view};
+
+use crate::edge_key::EdgeKey;
+use guppy_feature_demands::{Form, NumberedDemand};
+use indexmap::IndexSet;
+use std::alloc::{AllocError, Global};
+
+/// The weights of the demands.
+pub(crate) fn weights_of<'g>(
+    alloc: Global,
+    demands: &[NumberedDemand<'g>],
+) -> Result<IndexSet<EdgeKey<'g>>, AllocError>
+    ensures { IfOk result (λ set. FindsWeights (map numbered_view demands.now) (map key_view set.keys)) }
+{
+    let mut set: IndexSet<EdgeKey<'g>> = IndexSet::with_capacity(alloc, demands.len())?;
+    for demand in demands {
+        insert_weight(&mut set, *demand)?;
+    }
+    Ok(set)
+}
+
+fn insert_weight<'g>(
+    set: &mut IndexSet<EdgeKey<'g>>,
+    demand: NumberedDemand<'g>,
+) -> Result<(), AllocError>
+    ensures { OnOk result ((key : Key) → list_any (key_eq key) (map key_view set.new.keys) ≡ (list_any (key_eq key) (map key_view set.old.keys) || key_eq key (weight_key (numbered_view demand.entry)))) }
+{
+    set.insert(EdgeKey::weight(demand))?;
+    Ok(())
+}
+
+/// Whether some demand has the weight.
+fn has_weight<'g>(weights: &IndexSet<EdgeKey<'g>>, key: EdgeKey<'g>) -> bool
+    ensures { result ≡ list_any (key_eq (key_view key.entry)) (map key_view weights.now.keys) }
+{
+    weights.contains(&key)
+}
+
+/// Whether a demand gives way to one of those with these weights.
+pub(crate) fn gives_way<'g>(weights: &IndexSet<EdgeKey<'g>>, demand: NumberedDemand<'g>) -> bool
+    ensures { result ≡ list_any (λ w. list_any (key_eq (ends_of (numbered_view demand.entry), w)) (map key_view weights.now.keys)) (gives_way_to (form_view demand.entry.form)) }
+{
+    match demand.form {
+        Form::FeatureToBase | Form::NamedFeature | Form::NamedFeatureDepColon => false,
+        Form::StrongSlash(_) | Form::DependenciesSection => {
+            has_weight(weights, EdgeKey::always(demand))
+        }
+        Form::WeakSlash(name) => {
+            has_weight(weights, EdgeKey::always(demand))
+                || has_weight(weights, EdgeKey::strong(demand, name))
+        }
+    }
+}

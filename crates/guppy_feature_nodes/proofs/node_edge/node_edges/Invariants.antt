@@ -1,0 +1,8 @@
+use Rattle.std.proofs.Common.{◌≡◌, map}
+use Rattle.guppy_feature_edges.specs.JoinedViews.{joined_view}
+use Rattle.guppy_feature_nodes.specs.EdgeViews.{edge_view}
+use Rattle.guppy_feature_nodes.specs.GraphEdges.{edge_value}
+use Rattle.guppy_feature_nodes.proofs.node_edge.node_edges.Given as goal
+
+abbrev pub invariant-loop-edge : goal.invariant-loop-edge
+invariant-loop-edge l = map edge_view l.edges.items ≡ map (edge_value l.nodes) (map joined_view l.yielded)

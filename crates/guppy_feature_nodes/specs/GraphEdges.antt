@@ -1,0 +1,57 @@
+-- The edges of a feature graph.
+use Rattle.std.specs.Prelude.{◌≡◌, ℕ, List, [], length, map, slice_get}
+use Rattle.std.specs.Option.{option_map_or}
+use Rattle.workspace_record.specs.Records.{Text, Package, Link}
+use Rattle.workspace_record.specs.Features.{FeatureValue}
+use Rattle.guppy_feature_demands.specs.Demands.{FormValue, FeatureToBase, NamedFeature, NamedFeatureDepColon, StrongSlash, WeakSlash, DependenciesSection, demands_of, kept_demands}
+use Rattle.guppy_feature_demands.specs.Nodes.{dep_of, nodes_of, number_of}
+use Rattle.guppy_feature_edges.specs.Joining.{AreJoined, JoinedValue}
+
+-- why an edge is there; the optional half of a weak one waits for a node, which is told by its number
+pub data EdgeForm : Type 0 where
+  ToBase : EdgeForm
+  ToFeature : EdgeForm
+  ToDependency : EdgeForm
+  ByStrongEntries : EdgeForm
+  ByWeakEntries : ℕ → EdgeForm
+  ByLines : EdgeForm
+
+-- an edge from a node to another, with the lines behind it, each told by the number of its link and by its own there
+pub record EdgeValue : Type 0 where
+  pub from : ℕ
+  pub to : ℕ
+  pub form : EdgeForm
+  pub lines : List (ℕ × ℕ)
+
+-- the node of the optional dependency that a feature's weak entry names; past the end where there is none
+abbrev pub waits_for : List FeatureValue → ℕ → Text → ℕ
+waits_for nodes from name =
+    option_map_or (λ f. number_of nodes (dep_of f.package_id name)) (slice_get nodes from) (length nodes)
+
+-- the form of an edge from a node
+abbrev pub edge_form : List FeatureValue → ℕ → FormValue → EdgeForm
+edge_form nodes from FeatureToBase = ToBase
+edge_form nodes from NamedFeature = ToFeature
+edge_form nodes from NamedFeatureDepColon = ToDependency
+edge_form nodes from (StrongSlash name) = ByStrongEntries
+edge_form nodes from (WeakSlash name) = ByWeakEntries (waits_for nodes from name)
+edge_form nodes from DependenciesSection = ByLines
+
+-- no lines stand behind an edge that is crossed always
+abbrev pub edge_lines : FormValue → List (ℕ × ℕ) → List (ℕ × ℕ)
+edge_lines FeatureToBase lines = []
+edge_lines NamedFeature lines = []
+edge_lines NamedFeatureDepColon lines = []
+edge_lines (StrongSlash name) lines = lines
+edge_lines (WeakSlash name) lines = lines
+edge_lines DependenciesSection lines = lines
+
+abbrev pub edge_value : List FeatureValue → JoinedValue → EdgeValue
+edge_value nodes e =
+    record { from = e.head.from; to = e.head.to; form = edge_form nodes e.head.from e.head.form; lines = edge_lines e.head.form e.lines }
+
+-- the edges are joined from what the rows demand
+pub record AreEdges (packages : List Package) (links : List Link) (edges : List EdgeValue) : Type 0 where
+  pub joined : List JoinedValue
+  pub joins : AreJoined (kept_demands (nodes_of packages) (demands_of packages links)) joined
+  pub values : edges ≡ map (edge_value (nodes_of packages)) joined

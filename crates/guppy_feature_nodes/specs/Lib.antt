@@ -1,0 +1,3 @@
+pub mod GraphEdges
+pub mod EdgeViews
+pub mod Graphs

@@ -1,0 +1,72 @@
+//! Edges between nodes.
+
+ghost use Rattle.std.specs.Prelude.{◌≡◌, IfOk, map};
+ghost use Rattle.guppy_feature_demands.specs.DemandViews as demands;
+ghost use Rattle.guppy_feature_edges.specs.JoinedViews.{joined_view};
+ghost use Rattle.guppy_feature_nodes.specs.EdgeViews.{edge_view, form_view, lines_view};
+ghost use Rattle.guppy_feature_nodes.specs.GraphEdges.{edge_form, edge_lines, edge_value, waits_for};
+
+use crate::feature_edge::FeatureEdge;
+use guppy_feature_demands::{FeatureName, Form, NodeTable, NumberedDemand};
+use guppy_feature_edges::JoinedEdge;
+use guppy_row_parts::SortedSet;
+use std::alloc::{AllocError, Global};
+
+/// An edge from one node to another, which are told by their numbers.
+#[derive(Debug, Drop)]
+pub struct NodeEdge {
+    pub from: usize,
+    pub to: usize,
+    pub edge: FeatureEdge,
+}
+
+pub(crate) fn node_edges<'g>(
+    alloc: Global,
+    nodes: &NodeTable<'g>,
+    joined: Vec<JoinedEdge<'g>>,
+) -> Result<Vec<NodeEdge>, AllocError>
+    ensures { IfOk result (λ v. map edge_view v.items ≡ map (edge_value nodes.now) (map joined_view joined.entry.items)) }
+{
+    let mut edges = Vec::with_capacity(alloc, joined.len())?;
+    for edge in joined {
+        edges.push(node_edge(nodes, edge))?;
+    }
+    Ok(edges)
+}
+
+fn node_edge<'g>(nodes: &NodeTable<'g>, joined: JoinedEdge<'g>) -> NodeEdge
+    ensures { edge_view result ≡ edge_value nodes.now (joined_view joined.entry) }
+{
+    let JoinedEdge { head, lines } = joined;
+    let (from, to) = (head.from, head.to);
+    let edge = feature_edge(nodes, head, lines);
+    NodeEdge { from, to, edge }
+}
+
+fn feature_edge<'g>(
+    nodes: &NodeTable<'g>,
+    head: NumberedDemand<'g>,
+    lines: SortedSet<(usize, usize)>,
+) -> FeatureEdge
+    ensures form { form_view result ≡ edge_form nodes.now head.entry.from (demands.form_view head.entry.form) }
+    ensures lines { lines_view result ≡ edge_lines (demands.form_view head.entry.form) lines }
+{
+    match head.form {
+        Form::FeatureToBase => FeatureEdge::FeatureToBase,
+        Form::NamedFeature => FeatureEdge::NamedFeature,
+        Form::NamedFeatureDepColon => FeatureEdge::NamedFeatureDepColon,
+        Form::StrongSlash(_) => FeatureEdge::strong(lines),
+        Form::WeakSlash(name) => FeatureEdge::weak(lines, waits_for(nodes, head.from, name)),
+        Form::DependenciesSection => FeatureEdge::by_lines(lines),
+    }
+}
+
+// The node of the optional dependency that a feature's weak entry names.
+fn waits_for(nodes: &NodeTable<'_>, from: usize, name: &str) -> usize
+    ensures { result ≡ waits_for nodes.now from name.now }
+{
+    match nodes.ids().get(from) {
+        Some(id) => nodes.number_of(FeatureName::dep(id.package_id().repr(), name)),
+        None => nodes.len(),
+    }
+}

@@ -1,0 +1,28 @@
+//! The rows of a package graph's packages, each with its id.
+
+ghost use Rattle.std.specs.Prelude.{◌≡◌, IfOk, Some, map, slice_get};
+ghost use Rattle.guppy_package_graph.specs.Views.{graph_of, place_of};
+
+use guppy_feature_demands::PackageAt;
+use guppy_package_graph::{PackageGraph, PackageMetadata};
+use std::alloc::{AllocError, Global};
+
+pub(crate) fn package_rows<'g>(
+    alloc: Global,
+    graph: &'g PackageGraph,
+) -> Result<Vec<PackageAt<'g>>, AllocError>
+    ensures { IfOk result (λ v. map (λ at. at.row.now) v.items ≡ graph.entry.now.packages) }
+{
+    let mut rows: Vec<PackageAt<'g>> = Vec::with_capacity(alloc, graph.package_count())?;
+    let mut packages = graph.packages();
+    while let Some(metadata) = packages.next() {
+        rows.push(package_at(metadata))?;
+    }
+    Ok(rows)
+}
+
+fn package_at<'g>(metadata: PackageMetadata<'g>) -> PackageAt<'g>
+    ensures { slice_get (graph_of metadata.entry).packages (place_of metadata.entry) ≡ Some result.row.now }
+{
+    PackageAt::new(metadata.id(), metadata.row())
+}

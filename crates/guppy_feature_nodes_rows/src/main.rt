@@ -1,0 +1,18 @@
+//! Feature graphs of the records of `rows.json`: the nodes, edges and warnings of each, through the
+//! public calls, against what they have to be.
+#![tactic(auto)]
+
+mod graph_rows;
+mod texts;
+
+use crate::graph_rows::GraphRows;
+use row_program::run_rows;
+use std::process::ExitCode;
+use std::{fs, io};
+
+fn main(rt: HostRuntime) -> io::Result<ExitCode> {
+    let file = fs::read(&rt, "rows.json")?;
+    let mut out = rt.stdout();
+    let same = run_rows(rt.alloc(), &file, &mut GraphRows, &mut out)?;
+    Ok(ExitCode::from(if same { 0 } else { 1 }))
+}
