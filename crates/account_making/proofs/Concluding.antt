@@ -11,7 +11,7 @@ use Rattle.feature_account.specs.Closed.{FeatureSet, has_premises, is_open}
 use Rattle.feature_account.specs.declared.rule.Premises.{Premises}
 use Rattle.feature_account.specs.declared.rule.Premises.TheVariants as premises
 use Rattle.feature_account.specs.declared.rule.Rule.{Rule}
-use Rattle.feature_account.proofs.AccountFacts.{conclusions-push, IsSoundAfter-push, is_open_both, Contains-slice_get}
+use Rattle.feature_account.proofs.AccountFacts.{concludes-push, conclusions-push, IsSoundAfter-push, is_open_both, Contains-slice_get}
 use Rattle.account_making.specs.Lowest.{IsLowestAfter}
 
 -- a list concludes what it holds
@@ -20,11 +20,6 @@ concluded_iff found f = (
   λ h. let p = list_any_cases (feature_eq f) found h in subst (Contains found) (sym ((features_decide f p.0).0 p.2)) p.1,
   λ h. list_any-from_Contains (feature_eq f) found f h ((features_decide f f).1 refl),
 )
-
--- what an account with one entry more concludes
-pub concludes-push : (rules : List Rule) (account : List ℕ) (n : ℕ) (r : Rule) → slice_get rules n ≡ Some r → (f : FeatureValue) → concludes rules (account ++ n ∷ []) f ≡ (concludes rules account f || (feature_eq f r.conclusion || false))
-concludes-push rules account n r known f =
-    ap (λ xs. concluded_set xs f) (conclusions-push rules account n r known) ∙ list_any-append (feature_eq f) (conclusions rules account) (r.conclusion ∷ [])
 
 -- the number of an open rule may be the next entry
 pub sound-push : (rules : List Rule) (account : List ℕ) (n : ℕ) (r : Rule) → IsSound rules account → slice_get rules n ≡ Some r → is_open (concludes rules account) r ≡ true → IsSound rules (account ++ n ∷ [])

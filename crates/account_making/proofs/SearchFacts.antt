@@ -21,11 +21,12 @@ use Rattle.feature_account.specs.Closed.{FeatureSet, has_premises, is_open, IsCl
 use Rattle.feature_account.specs.declared.rule.Premises.{Premises}
 use Rattle.feature_account.specs.declared.rule.Premises.TheVariants as premises
 use Rattle.feature_account.specs.declared.rule.Rule.{Rule}
-use Rattle.feature_account.proofs.AccountFacts.{conclusions-push, is_open_both}
+use Rattle.feature_account.proofs.AccountFacts.{concludes-push, conclusions-push, is_open_both}
 use Rattle.feature_account.proofs.ClosedSets.{concludes_iff}
 use Rattle.account_making.specs.Lowest.{IsLowestAfter, IsLowestAccount, IsLooksOf}
-use Rattle.account_making.specs.Waiting.{found_set, waits_for, waiting_at, IsWaiting, has, IsEach, IsWith}
-use Rattle.account_making.proofs.Concluding.{concludes-push, sound-push, lowest-push, left_out, left_out-falls, same_open}
+use Rattle.feature_account.specs.Found.{found_set}
+use Rattle.account_making.specs.Waiting.{waits_for, waiting_at, IsWaiting, has, IsEach, IsWith}
+use Rattle.account_making.proofs.Concluding.{sound-push, lowest-push, left_out, left_out-falls, same_open}
 
 -- what the search keeps: the account so far, and among the numbers to be looked at each open rule's
 pub record Keeps (rules : List Rule) (ready : BTreeSet ℕ) (found : BTreeSet (Bor FeatureValue)) (account : List ℕ) (looks : ℕ) : Type 0 where

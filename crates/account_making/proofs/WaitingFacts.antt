@@ -1,4 +1,4 @@
--- Features that a set or a map of lent features finds.
+-- The numbers that a map has for lent features.
 use Rattle.std.proofs.Common.{◌≡◌, ℕ, ◌+◌, ◌≤◌, ◌<◌, Bool, true, false, cond, not, ◌||◌, List, [], ◌∷◌, ◌++◌, ◌⊎◌, inl, inr, ⊎_elim, Option, Some, None, Vec, refl, sym, ap, ◌∙◌, subst, Bor, length, length-append, append-nil, slice_get, nat_eq, unwrap_or, true≢false, Result, Ok, Err, OnOk, arith}
 use Rattle.std.specs.BTreeMap as tree
 use Rattle.std.specs.BTreeMap.{BTreeMap}
@@ -17,29 +17,8 @@ use Rattle.std.specs.Map.{lookup}
 use Rattle.workspace_record.specs.Equality.{equivalence}
 use Rattle.workspace_record.specs.Features.{FeatureValue, feature_eq, feature_cmp, feature_ties, features_decide}
 use Rattle.feature_account.specs.declared.rule.Rule.{Rule}
-use Rattle.account_making.specs.Waiting.{found_set, waits_for, waiting_at, IsWaiting}
-
--- a feature behind a reference
-abbrev pub lent : FeatureValue → Bor FeatureValue
-lent f = record { ref_ptr = (0, 0); now = f }
-
-abbrev pub lent_cmp : Bor FeatureValue → Bor FeatureValue → Ordering
-lent_cmp a b = feature_cmp a.now b.now
-
--- the order ties two features exactly where they are the same, either way round
-pub tied : (f g : FeatureValue) → eq_by_cmp feature_cmp g f ≡ feature_eq f g
-tied f g = sym (feature_ties g f) ∙ IsEquivalence.symm (equivalence features_decide) g f
-
-joined : (a b : Bool) → cond a true b ≡ (b || (a || false))
-joined true true = refl
-joined true false = refl
-joined false true = refl
-joined false false = refl
-
--- one feature more is found
-pub found_more : (old new : BTreeSet (Bor FeatureValue)) (g : FeatureValue) → set.UpdatesBy lent_cmp (λ k. feature_cmp g k.now) old new true → (f : FeatureValue) → found_set new f ≡ (found_set old f || (feature_eq f g || false))
-found_more old new g put f =
-    put.0 (lent f) ∙ ap (λ b. cond b true (found_set old f)) (tied f g) ∙ joined (feature_eq f g) (found_set old f)
+use Rattle.feature_account.proofs.FoundFacts.{lent, lent_cmp, tied}
+use Rattle.account_making.specs.Waiting.{waits_for, waiting_at, IsWaiting}
 
 -- the map with a number more for one feature
 module _ (m0 m1 m2 : BTreeMap (Bor FeatureValue) (Vec ℕ Global)) (k : Bor FeatureValue) (numbers : Vec ℕ Global) (n : ℕ) (taken : tree.UpdatesBy lent_cmp (lent_cmp k) m0 m1 None) (put : tree.UpdatesBy lent_cmp (lent_cmp k) m1 m2 (Some numbers)) where

@@ -1,23 +1,18 @@
--- What a search over rules keeps: what was found, which rules wait for a feature, and which are to be looked at.
+-- What a search over rules keeps: which rules wait for a feature, and which are to be looked at.
 use Rattle.std.specs.Prelude.{◌≡◌, ℕ, ◌+◌, ◌<◌, ◌≤◌, Bool, true, false, ◌||◌, List, [], Some, length, slice_get, Vec, nat_eq, Contains}
 use Rattle.std.specs.BTreeMap as tree
 use Rattle.std.specs.BTreeMap.{BTreeMap}
 use Rattle.std.specs.BTreeSet as set
-use Rattle.std.specs.BTreeSet.{BTreeSet, contains_by, btree_set_len}
+use Rattle.std.specs.BTreeSet.{BTreeSet, btree_set_len}
 use Rattle.std.specs.Borrow.{Bor}
 use Rattle.std.specs.Global.{Global}
 use Rattle.std.specs.List.{list_any}
 use Rattle.std.specs.Option.{option_map_or}
 use Rattle.std.specs.Ordering.{nat_cmp}
 use Rattle.workspace_record.specs.Features.{FeatureValue, feature_eq, feature_cmp}
-use Rattle.feature_account.specs.Closed.{FeatureSet}
 use Rattle.feature_account.specs.declared.rule.Premises.{Premises}
 use Rattle.feature_account.specs.declared.rule.Premises.TheVariants.{None, One, Two}
 use Rattle.feature_account.specs.declared.rule.Rule.{Rule}
-
--- the features that the set finds
-abbrev pub found_set : BTreeSet (Bor FeatureValue) → FeatureSet
-found_set found f = contains_by (λ k. feature_cmp f k.now) found
 
 -- the feature is one of the premises
 abbrev pub waits_for : Premises → FeatureValue → Bool

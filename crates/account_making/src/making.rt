@@ -3,14 +3,14 @@
 ghost use Rattle.std.specs.Prelude.{◌≡◌, ◌↔◌, IfOk, IsTrue};
 ghost use Rattle.workspace_record.specs.Features.{FeatureValue};
 ghost use Rattle.feature_account.specs.Accounts.{concludes};
-ghost use Rattle.feature_account.specs.Closed.{has_premises, is_open, IsOn};
+ghost use Rattle.feature_account.specs.Closed.{IsOn};
 ghost use Rattle.account_making.specs.Lowest.{IsLowestAccount, IsLooksOf};
-ghost use Rattle.account_making.specs.Waiting.{found_set};
 
 use crate::account::Account;
 use crate::ready::{each_number, wake};
 use crate::waiting::waiting_rules;
-use feature_account::{Premises, Rule};
+use feature_account::Rule;
+use feature_account::found::{insert, is_open};
 use std::alloc::{AllocError, Global};
 use std::collections::BTreeSet;
 use workspace_record::Feature;
@@ -33,7 +33,7 @@ pub fn account_of(alloc: Global, rules: &[Rule]) -> Result<Account, AllocError>
         looks += 1;
         let rule = &rules[number];
         if is_open(&found, rule) {
-            found.insert(&rule.conclusion)?;
+            insert(&mut found, &rule.conclusion)?;
             account.push(number)?;
             wake(&mut ready, &waiting, &rule.conclusion)?;
         }
@@ -42,26 +42,4 @@ pub fn account_of(alloc: Global, rules: &[Rule]) -> Result<Account, AllocError>
         rules: account,
         looks,
     })
-}
-
-fn is_open<'a>(found: &BTreeSet<&'a Feature>, rule: &'a Rule) -> bool
-    ensures { result ≡ is_open (found_set found.now) rule.entry.now }
-{
-    has_premises(found, &rule.premises) && !contains(found, &rule.conclusion)
-}
-
-fn has_premises<'a>(found: &BTreeSet<&'a Feature>, premises: &'a Premises) -> bool
-    ensures { result ≡ has_premises (found_set found.now) premises.entry.now }
-{
-    match premises {
-        Premises::None => true,
-        Premises::One(a) => contains(found, a),
-        Premises::Two(a, b) => contains(found, a) && contains(found, b),
-    }
-}
-
-fn contains<'a>(found: &BTreeSet<&'a Feature>, feature: &'a Feature) -> bool
-    ensures { result ≡ found_set found.now feature.entry.now }
-{
-    found.contains(&feature)
 }

@@ -1,17 +1,17 @@
 -- An account, read entry by entry.
-use Rattle.std.proofs.Common.{◌≡◌, ℕ, zero, suc, ◌+◌, ◌<◌, Bool, true, false, cond, not, ◌&&◌, List, [], ◌∷◌, ◌++◌, Option, Some, None, length, take, get_or, append-nil, append_assoc, refl, sym, ◌∙◌, ap, subst, slice_get, Contains, position, nat_lt, length-take, get_or-take, true≢false, unwrap_or, Result, Ok, Err, IfOk, ◌↔◌, ◌≤◌, arith}
-use Rattle.std.specs.List.{cons_option, position_or_len}
+use Rattle.std.proofs.Common.{Bor, ◌≡◌, ℕ, zero, suc, ◌+◌, ◌<◌, ◌⊎◌, ⊎_elim, Bool, true, false, not, ◌&&◌, ◌||◌, List, [], ◌∷◌, ◌++◌, Option, Some, None, length, take, get_or, append-nil, append_assoc, refl, sym, ◌∙◌, ap, subst, slice_get, Contains, true≢false, unwrap_or, Result, Ok, Err, IfOk, ◌↔◌}
+use Rattle.std.specs.BTreeMap as tree
+use Rattle.std.specs.BTreeSet.{BTreeSet}
+use Rattle.std.specs.List.{list_any, cons_option}
 use Rattle.std.specs.Option.{option_map}
-use Rattle.std.proofs.lemmas.Bool.Decides.{nat_tests}
-use Rattle.std.proofs.lemmas.List.{take_more, take_all}
-use Rattle.std.proofs.lemmas.List.Elements.{filter_map-append}
-use Rattle.std.proofs.lemmas.List.Quantifiers.{position-Some}
-use Rattle.std.proofs.lemmas.List.Sums.{fails_before_first}
+use Rattle.std.proofs.lemmas.List.{take_more}
+use Rattle.std.proofs.lemmas.List.Elements.{filter_map-append, Contains-push_cases}
+use Rattle.std.proofs.lemmas.List.Folds.{list_any-append}
 use Rattle.std.proofs.lemmas.Option.{slice_get_within, get_or_from_slice_get, slice_get-get_or}
-use Rattle.workspace_record.specs.Features.{FeatureValue}
+use Rattle.workspace_record.specs.Features.{FeatureValue, feature_eq, feature_cmp}
 use Rattle.feature_account.specs.Closed.{FeatureSet, has_premises, is_open, IsClosed}
-use Rattle.feature_account.specs.Accounts.{conclusions, concluded_set, MayStand, IsSoundAfter, IsSound, IsFirstFault, IsUnknown, IsRepeated, IsUnsupported, IsFirstOpen, IsVerdict, IsValidAccount}
-use Rattle.feature_account.specs.RuleList.{given, base_of}
+use Rattle.feature_account.specs.Accounts.{conclusions, concluded_set, concludes, MayStand, IsSoundAfter, IsSound, IsFirstFault, IsUnknown, IsRepeated, IsUnsupported, IsFirstOpen, IsVerdict, IsValidAccount}
+use Rattle.feature_account.specs.Found.{found_set}
 use Rattle.feature_account.specs.declared.rule.Rule.{Rule}
 use Rattle.feature_account.specs.declared.verdict.Verdict.{Verdict}
 use Rattle.feature_account.specs.declared.verdict.Verdict.TheVariants.{Accepted, UnknownRule, RepeatedConclusion, MissingPremise, NotClosed}
@@ -20,10 +20,17 @@ use Rattle.feature_account.specs.declared.verdict.Verdict.TheVariants.{Accepted,
 pub Contains-slice_get : {X : Type 0} (xs : List X) (n : ℕ) (x : X) → slice_get xs n ≡ Some x → Contains xs x
 Contains-slice_get xs n x e = (n, slice_get_within xs n x e, get_or_from_slice_get xs n x x e)
 
--- the first entries were read: what they conclude, and that each may stand
-pub record SoFar (rules : List Rule) (account : List ℕ) (place : ℕ) (found : List FeatureValue) : Type 0 where
-  pub found_is : found ≡ conclusions rules (take place account)
+-- the first entries were read: the set of what they conclude, and that each may stand
+pub record SoFar (rules : List Rule) (account : List ℕ) (place : ℕ) (found : FeatureSet) : Type 0 where
+  pub found_is : found ≡ concludes rules (take place account)
   pub sound : IsSound rules (take place account)
+
+-- nothing was read
+pub begins : (rules : List Rule) (account : List ℕ) (found : BTreeSet (Bor FeatureValue)) → found.keys ≡ [] → SoFar rules account 0 (found_set found)
+begins rules account found empty = record {
+  found_is = λ i f. list_any (tree.is_at (λ (k : Bor FeatureValue). feature_cmp f k.now)) (empty i);
+  sound = tt;
+}
 
 pub conclusions-push : (rules : List Rule) (account : List ℕ) (n : ℕ) (r : Rule) → slice_get rules n ≡ Some r → conclusions rules (account ++ n ∷ []) ≡ conclusions rules account ++ r.conclusion ∷ []
 conclusions-push rules account n r e =
@@ -34,32 +41,37 @@ IsSoundAfter-push rules earlier [] n r sound e may = (r, e, subst (λ xs. MaySta
 IsSoundAfter-push rules earlier (m ∷ account) n r sound e may =
     (sound.0, sound.1, sound.2, IsSoundAfter-push rules (earlier ++ m ∷ []) account n r sound.3 e (subst (λ xs. MayStand rules xs r) (sym (append_assoc earlier (m ∷ []) account)) may))
 
-module _ (rules : List Rule) (account : List ℕ) (place n : ℕ) (found : List FeatureValue) (so_far : SoFar rules account place found) (stands : slice_get account place ≡ Some n) where
+-- what an account with one entry more concludes
+pub concludes-push : (rules : List Rule) (account : List ℕ) (n : ℕ) (r : Rule) → slice_get rules n ≡ Some r → (f : FeatureValue) → concludes rules (account ++ n ∷ []) f ≡ (concludes rules account f || (feature_eq f r.conclusion || false))
+concludes-push rules account n r known f =
+    ap (λ xs. concluded_set xs f) (conclusions-push rules account n r known) ∙ list_any-append (feature_eq f) (conclusions rules account) (r.conclusion ∷ [])
+
+module _ (rules : List Rule) (account : List ℕ) (place n : ℕ) (found : FeatureSet) (so_far : SoFar rules account place found) (stands : slice_get account place ≡ Some n) where
   pub unknown_at : slice_get rules n ≡ None → IsVerdict rules account (UnknownRule place)
   unknown_at e = record { before = so_far.sound; entry = n; stands = stands; fault = e }
 
   module _ (r : Rule) (known : slice_get rules n ≡ Some r) where
-    pub repeated_at : concluded_set found r.conclusion ≡ true → IsVerdict rules account (RepeatedConclusion place)
+    pub repeated_at : found r.conclusion ≡ true → IsVerdict rules account (RepeatedConclusion place)
     repeated_at h =
-        record { before = so_far.sound; entry = n; stands = stands; fault = subst (IsRepeated rules (take place account)) (sym known) (subst (λ xs. concluded_set xs r.conclusion ≡ true) so_far.found_is h) }
+        record { before = so_far.sound; entry = n; stands = stands; fault = subst (IsRepeated rules (take place account)) (sym known) (subst (λ xs. xs r.conclusion ≡ true) so_far.found_is h) }
 
-    pub unsupported_at : concluded_set found r.conclusion ≡ false → has_premises (concluded_set found) r.premises ≡ false → IsVerdict rules account (MissingPremise place)
+    pub unsupported_at : found r.conclusion ≡ false → has_premises found r.premises ≡ false → IsVerdict rules account (MissingPremise place)
     unsupported_at new h =
-        record { before = so_far.sound; entry = n; stands = stands; fault = subst (IsUnsupported rules (take place account)) (sym known) (subst (λ xs. (concluded_set xs r.conclusion ≡ false) × (has_premises (concluded_set xs) r.premises ≡ false)) so_far.found_is (new, h)) }
+        record { before = so_far.sound; entry = n; stands = stands; fault = subst (IsUnsupported rules (take place account)) (sym known) (subst (λ xs. (xs r.conclusion ≡ false) × (has_premises xs r.premises ≡ false)) so_far.found_is (new, h)) }
 
-    may_stand : concluded_set found r.conclusion ≡ false → has_premises (concluded_set found) r.premises ≡ true → MayStand rules (take place account) r
+    may_stand : found r.conclusion ≡ false → has_premises found r.premises ≡ true → MayStand rules (take place account) r
     may_stand new supported = record {
-      new = subst (λ xs. concluded_set xs r.conclusion ≡ false) so_far.found_is new;
-      supported = subst (λ xs. has_premises (concluded_set xs) r.premises ≡ true) so_far.found_is supported;
+      new = subst (λ xs. xs r.conclusion ≡ false) so_far.found_is new;
+      supported = subst (λ xs. has_premises xs r.premises ≡ true) so_far.found_is supported;
     }
 
-    pub reads_on : concluded_set found r.conclusion ≡ false → has_premises (concluded_set found) r.premises ≡ true → SoFar rules account (place + 1) (found ++ r.conclusion ∷ [])
-    reads_on new supported =
+    pub reads_on : found r.conclusion ≡ false → has_premises found r.premises ≡ true → (more : FeatureSet) → ((f : FeatureValue) → more f ≡ (found f || (feature_eq f r.conclusion || false))) → SoFar rules account (place + 1) more
+    reads_on new supported more grown =
         let within = slice_get_within account place n stands in
-        let more : take (place + 1) account ≡ take place account ++ n ∷ [] = take_more account place n within ∙ ap (λ m. take place account ++ m ∷ []) (get_or_from_slice_get account place n n stands) in
+        let longer : take (place + 1) account ≡ take place account ++ n ∷ [] = take_more account place n within ∙ ap (λ m. take place account ++ m ∷ []) (get_or_from_slice_get account place n n stands) in
         record {
-          found_is = ap (λ xs. xs ++ r.conclusion ∷ []) so_far.found_is ∙ sym (conclusions-push rules (take place account) n r known) ∙ ap (conclusions rules) (sym more);
-          sound = subst (IsSound rules) (sym more) (IsSoundAfter-push rules [] (take place account) n r so_far.sound known (may_stand new supported));
+          found_is = (λ i f. (grown f ∙ ap (λ s. s f || (feature_eq f r.conclusion || false)) so_far.found_is ∙ sym (concludes-push rules (take place account) n r known f)) i) ∙ ap (concludes rules) (sym longer);
+          sound = subst (IsSound rules) (sym longer) (IsSoundAfter-push rules [] (take place account) n r so_far.sound known (may_stand new supported));
         }
 
 -- a set that has the premises of a rule that is not open has its conclusion
@@ -73,52 +85,35 @@ is_open_both true true e = absurd (true≢false (sym e))
 is_open_both true false e = (refl, refl)
 is_open_both false c e = absurd (true≢false (sym e))
 
-module _ (s : FeatureSet) (rules : List Rule) where
-  closed_below : (n : ℕ) → ((k : ℕ) (d : Rule) → k < n → is_open s (get_or rules k d) ≡ false) → IsClosed (take n rules) s
-  closed_below n none r (k, within, e) held =
-      let lt : k < n = omega (arith, length-take n rules, within) in
-      not_open _ _ (subst (λ q. is_open s q ≡ false) (sym (get_or-take n rules k r lt) ∙ e) (none k r lt)) held
+-- a set closed under the first rules is so under one more that is not open
+pub closed_more : (s : FeatureSet) (rules : List Rule) (n : ℕ) (r : Rule) → n < length rules → r ≡ get_or rules n r → is_open s r ≡ false → IsClosed (take n rules) s → IsClosed (take (n + 1) rules) s
+closed_more s rules n r lt at shut closed q inside held =
+    ⊎_elim (λ early. closed q early held) (λ e. subst (λ d. s d.conclusion ≡ true) e (not_open _ _ shut (subst (λ d. has_premises s d.premises ≡ true) (sym e) held))) (Contains-push_cases (take n rules) r q (subst (λ xs. Contains xs q) (take_more rules n r lt ∙ ap (λ d. take n rules ++ d ∷ []) (sym at)) inside))
 
-  none_passes : position (is_open s) rules ≡ None → length rules ≤ position_or_len (is_open s) rules
-  none_passes e = by (nat_lt (position_or_len (is_open s) rules) (length rules)) refl e
-    where
-      by : (b : Bool) → nat_lt (position_or_len (is_open s) rules) (length rules) ≡ b → cond b (Some (position_or_len (is_open s) rules)) None ≡ None → length rules ≤ position_or_len (is_open s) rules
-      by true h g = absurd cc
-      by false h g = grind (arith, nat_tests)
+-- the rule after those that a set is closed under is the lowest that is open
+pub first_open_at : (s : FeatureSet) (rules : List Rule) (n : ℕ) (r : Rule) → n < length rules → r ≡ get_or rules n r → is_open s r ≡ true → IsClosed (take n rules) s → IsFirstOpen rules s n
+first_open_at s rules n r lt at opened closed =
+    let both = is_open_both _ _ opened in
+    record {
+      rule = r;
+      stands = slice_get-get_or rules n r lt ∙ ap Some (sym at);
+      supported = both.0;
+      left_out = both.1;
+      lowest = closed;
+    }
 
-  pub closed_from_position : position (is_open s) rules ≡ None → IsClosed rules s
-  closed_from_position e =
-      let past = none_passes e in
-      subst (λ xs. IsClosed xs s) (take_all (length rules) rules (omega arith)) (closed_below (length rules) (λ k d lt. fails_before_first (is_open s) rules k d (omega arith)))
-
-module _ (rules : List Rule) (account : List ℕ) (place : ℕ) (found : List FeatureValue) (so_far : SoFar rules account place found) (all : take place account ≡ account) where
-  found_all : found ≡ conclusions rules account
-  found_all = so_far.found_is ∙ ap (conclusions rules) all
+module _ (rules : List Rule) (account : List ℕ) (place : ℕ) (found : FeatureSet) (so_far : SoFar rules account place found) (all : take place account ≡ account) where
+  found_all : found ≡ concludes rules account
+  found_all = so_far.found_is ∙ ap (concludes rules) all
 
   sound_all : IsSound rules account
   sound_all = subst (IsSound rules) all so_far.sound
 
-  pub accepted_at_end : position (is_open (concluded_set found)) rules ≡ None → IsVerdict rules account Accepted
-  accepted_at_end e = record {
-    sound = sound_all;
-    closed = subst (λ xs. IsClosed rules (concluded_set xs)) found_all (closed_from_position (concluded_set found) rules e);
-  }
+  pub accepted_at_end : IsClosed rules found → IsVerdict rules account Accepted
+  accepted_at_end closed = record { sound = sound_all; closed = subst (IsClosed rules) found_all closed }
 
-  pub not_closed_at_end : (n : ℕ) → position (is_open (concluded_set found)) rules ≡ Some n → IsVerdict rules account (NotClosed n)
-  not_closed_at_end n e =
-      let s = concluded_set found in
-      let some_rule = given (base_of []) in
-      let first = position-Some (is_open s) rules n some_rule e in
-      let both = is_open_both _ _ first.1 in (
-        sound_all,
-        subst (λ xs. IsFirstOpen rules (concluded_set xs) n) found_all (record {
-          rule = get_or rules n some_rule;
-          stands = slice_get-get_or rules n some_rule first.0;
-          supported = both.0;
-          left_out = both.1;
-          lowest = closed_below s rules n (λ k d lt. (position-Some (is_open s) rules n d e).2 k lt);
-        }),
-      )
+  pub not_closed_at_end : (n : ℕ) → IsFirstOpen rules found n → IsVerdict rules account (NotClosed n)
+  not_closed_at_end n first = (sound_all, subst (λ s. IsFirstOpen rules s n) found_all first)
 
 -- an entry of a sound account is the number of a rule that may stand
 stands_at : (rules : List Rule) (earlier account : List ℕ) (place n : ℕ) → IsSoundAfter rules earlier account → slice_get account place ≡ Some n → (r : Rule) × (slice_get rules n ≡ Some r) × MayStand rules (earlier ++ take place account) r

@@ -1,5 +1,6 @@
 pub mod FirstOfEach
 pub mod EntryFacts
+pub mod FoundFacts
 pub mod AccountFacts
 pub mod ClosedSets
 pub mod EntryReading

@@ -3,6 +3,7 @@
 
 mod account_check;
 mod entry;
+pub mod found;
 pub mod laws;
 pub mod lines;
 pub mod own_features;

@@ -1,6 +1,6 @@
-use Rattle.std.proofs.Common.{map}
+use Rattle.feature_account.specs.Found.{found_set}
 use Rattle.feature_account.proofs.AccountFacts.{SoFar}
 use Rattle.feature_account.proofs.account_check.verdict_of.Given as goal
 
 abbrev pub invariant-loop-place : goal.invariant-loop-place
-invariant-loop-place l = SoFar l.rules l.account l.place (map (λ f. f.now) l.concluded.items)
+invariant-loop-place l = SoFar l.rules l.account l.place (found_set l.concluded)
