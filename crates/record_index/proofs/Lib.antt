@@ -1,0 +1,3 @@
+pub mod PackageFacts
+pub mod LinkFacts
+pub mod TextFacts

@@ -1,0 +1,4 @@
+pub mod Packages
+pub mod TextSets
+pub mod LinkNames
+pub mod Indices

@@ -1,0 +1,22 @@
+-- Which package an id means, and which packages are the workspace's.
+use Rattle.std.specs.Prelude.{Bool, ◌&&◌, not, List, [], ◌∷◌, Option, find, filter}
+use Rattle.std.specs.List.{list_any}
+use Rattle.std.specs.Str.{bytes_eq}
+use Rattle.workspace_record.specs.Records.{Text, Package, Workspace}
+
+-- the package with this id: of several the first
+abbrev pub package_of : Workspace → Text → Option Package
+package_of w id = find (λ p. bytes_eq id p.id) w.packages
+
+-- of packages with one id the first
+abbrev pub first_of_each : List Package → List Package
+first_of_each [] = []
+first_of_each (p ∷ ps) = p ∷ filter (λ q. not (bytes_eq p.id q.id)) (first_of_each ps)
+
+-- the id stands among the members
+abbrev pub is_member : Workspace → Text → Bool
+is_member w id = list_any (λ m. bytes_eq id m.package_id) w.workspace.members
+
+-- a workspace package stands among the packages and among the members
+abbrev pub is_workspace_package : Workspace → Text → Bool
+is_workspace_package w id = list_any (λ p. bytes_eq id p.id) w.packages && is_member w id

@@ -1,0 +1,65 @@
+//! A package, with its features and its optional dependencies found by name.
+
+ghost use Rattle.std.specs.Prelude.{◌≡◌, IfOk};
+ghost use Rattle.std.specs.List.{list_any};
+ghost use Rattle.std.specs.Str.{bytes_eq};
+
+use crate::text_sets::{feature_names, text_set};
+use indexmap::IndexSet;
+use std::alloc::{AllocError, Global};
+use std::marker::Model;
+use workspace_record::PackageRecord;
+
+/// A package of a record.
+#[derive(Drop)]
+pub struct PackageIndex<'a> {
+    row: &'a PackageRecord,
+    features: IndexSet<&'a str>,
+    optional: IndexSet<&'a str>,
+}
+
+impl<'a> Model for PackageIndex<'a> {
+    ghost use Rattle.workspace_record.specs.Records.{Package};
+    ghost use Rattle.record_index.specs.Indices.{FindsNames};
+
+    ghost Value = { Package };
+
+    ghost view = { λ p. p.row.now };
+
+    ghost invariant = { λ p. FindsNames p.row.now p.features p.optional };
+}
+
+impl<'a> PackageIndex<'a> {
+    pub(crate) fn of(alloc: Global, row: &'a PackageRecord) -> Result<PackageIndex<'a>, AllocError>
+        ensures { IfOk result (λ p. p ≡ row.entry.now) }
+    {
+        let features = feature_names(alloc, &row.features)?;
+        let optional = text_set(alloc, &row.optional)?;
+        Ok(PackageIndex {
+            row,
+            features,
+            optional,
+        })
+    }
+
+    /// The package's record.
+    pub fn row(&self) -> &'a PackageRecord
+        ensures value { result.now ≡ self.now }
+    {
+        self.row
+    }
+
+    /// Whether the package's manifest names the feature.
+    pub fn has_feature(&self, name: &str) -> bool
+        ensures answer { result ≡ list_any (λ f. bytes_eq name.now f.name) self.now.features }
+    {
+        self.features.contains(name)
+    }
+
+    /// Whether the package has an optional dependency of this name.
+    pub fn has_optional(&self, name: &str) -> bool
+        ensures answer { result ≡ list_any (bytes_eq name.now) self.now.optional }
+    {
+        self.optional.contains(name)
+    }
+}
