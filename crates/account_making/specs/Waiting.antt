@@ -45,3 +45,10 @@ pub record IsWith (old : BTreeSet ℕ) (numbers : List ℕ) (new : BTreeSet ℕ)
   pub finds : (n : ℕ) → has new n ≡ (list_any (nat_eq n) numbers || has old n)
   pub more : btree_set_len old ≤ btree_set_len new
   pub few : btree_set_len new ≤ btree_set_len old + length numbers
+
+-- the number is the least of those that the set had, and was taken out
+pub record IsTakenLeast (old new : BTreeSet ℕ) (n : ℕ) : Type 0 where
+  pub member : has old n ≡ true
+  pub least : set.IsLowerBound nat_cmp old n
+  pub updates : set.Updates nat_cmp old new n false
+  pub len : btree_set_len new + 1 ≡ btree_set_len old

@@ -7,7 +7,7 @@ ghost use Rattle.feature_account.specs.Closed.{IsOn};
 ghost use Rattle.account_making.specs.Lowest.{IsLowestAccount, IsLooksOf};
 
 use crate::account::Account;
-use crate::ready::{each_number, wake};
+use crate::ready::{each_number, take_least, wake};
 use crate::waiting::waiting_rules;
 use feature_account::Rule;
 use feature_account::found::{insert, is_open};
@@ -29,7 +29,7 @@ pub fn account_of(alloc: Global, rules: &[Rule]) -> Result<Account, AllocError>
     let mut found: BTreeSet<&Feature> = BTreeSet::new(alloc);
     let mut account = Vec::new(alloc);
     let mut looks = 0;
-    while let Some(number) = ready.pop_first() {
+    while let Some(number) = take_least(&mut ready) {
         looks += 1;
         let rule = &rules[number];
         if is_open(&found, rule) {

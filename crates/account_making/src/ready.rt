@@ -1,8 +1,9 @@
 //! The numbers of the rules that are still to be looked at.
 
-ghost use Rattle.std.specs.Prelude.{◌≡◌, OnOk, IfOk};
+ghost use Rattle.std.specs.Prelude.{◌≡◌, OnOk, IfOk, IfSome, IfNone};
+ghost use Rattle.std.specs.BTreeSet.{btree_set_len};
 ghost use Rattle.workspace_record.specs.Features.{FeatureValue};
-ghost use Rattle.account_making.specs.Waiting.{waiting_at, IsEach, IsWith};
+ghost use Rattle.account_making.specs.Waiting.{waiting_at, IsEach, IsTakenLeast, IsWith};
 
 use std::alloc::{AllocError, Global};
 use std::collections::{BTreeMap, BTreeSet};
@@ -17,6 +18,14 @@ pub(crate) fn each_number(alloc: Global, count: usize) -> Result<BTreeSet<usize>
         ready.insert(number)?;
     }
     Ok(ready)
+}
+
+/// Takes out the least number, if there is one.
+pub(crate) fn take_least(ready: &mut BTreeSet<usize>) -> Option<usize>
+    ensures least { IfSome result (IsTakenLeast ready.old ready.new) }
+    ensures none { IfNone result (btree_set_len ready.old ≡ 0) }
+{
+    ready.pop_first()
 }
 
 /// Has the rules that wait for the feature looked at again.

@@ -1,6 +1,7 @@
 -- The rules of a record, a choice and a table, in their order.
+pub use Rattle.record_index.specs.Packages.{has_feature, has_optional}
 use Rattle.std.specs.Prelude.{Bool, false, ◌&&◌, List, [], ◌∷◌, ◌++◌, map, filter, codes, if◌then◌else◌}
-use Rattle.std.specs.List.{list_any, flat_map}
+use Rattle.std.specs.List.{flat_map}
 use Rattle.std.specs.Option.{option_map_or}
 use Rattle.std.specs.Str.{bytes_eq}
 use Rattle.workspace_record.specs.Records.{Text, FeatureEntry, Package, Line, Link, Workspace}
@@ -35,14 +36,6 @@ implies f g = record { premises = premises.One f; conclusion = g }
 -- where f and g are on, h is
 abbrev pub both_imply : FeatureValue → FeatureValue → FeatureValue → Rule
 both_imply f g h = record { premises = premises.Two f g; conclusion = h }
-
--- the package's manifest names the feature
-abbrev pub has_feature : Package → Text → Bool
-has_feature p name = list_any (λ f. bytes_eq name f.name) p.features
-
--- the package has an optional dependency of this name
-abbrev pub has_optional : Package → Text → Bool
-has_optional p name = list_any (bytes_eq name) p.optional
 
 -- the features that a package has beside its Base: those that it names, and its optional dependencies
 abbrev pub own_features : Package → List FeatureValue

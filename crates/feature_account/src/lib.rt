@@ -6,7 +6,7 @@ mod entry;
 pub mod found;
 pub mod laws;
 pub mod lines;
-pub mod own_features;
+mod own_features;
 mod rule;
 mod rule_list;
 mod verdict;

@@ -1,32 +1,15 @@
 //! The features that packages have, and those that a choice switches on by itself.
 
 ghost use Rattle.std.specs.Prelude.{◌≡◌, ◌++◌, OnOk, IfOk, map, string_bytes};
-ghost use Rattle.std.specs.List.{flat_map, list_any};
-ghost use Rattle.std.specs.Str.{bytes_eq};
-ghost use Rattle.feature_account.specs.RuleList.{has_feature, has_optional, named_of, dep_of, own_features, default_features, standard_features, member_features, chosen_features};
+ghost use Rattle.std.specs.List.{flat_map};
+ghost use Rattle.feature_account.specs.RuleList.{named_of, dep_of, own_features, default_features, standard_features, member_features, chosen_features};
 
-use crate::lines::is_member;
+use record_index::{PackageIndex, RecordIndex};
 use std::alloc::{AllocError, Global};
-use workspace_record::{
-    Feature, FeatureChoice, FeatureRecord, PackageRecord, Standard, WorkspaceRecord,
-};
+use workspace_record::{Feature, FeatureChoice, FeatureRecord, PackageRecord, Standard};
 
 /// The feature that Cargo switches on by default.
 pub(crate) const DEFAULT: &str = "default";
-
-/// Whether the package's manifest names the feature.
-pub fn has_feature(row: &PackageRecord, name: &str) -> bool
-    ensures { result ≡ has_feature row.now name.now }
-{
-    row.features.iter().any(|f| f.name.as_str() == name)
-}
-
-/// Whether the package has an optional dependency of this name.
-pub fn has_optional(row: &PackageRecord, name: &str) -> bool
-    ensures { result ≡ has_optional row.now name.now }
-{
-    contains_text(&row.optional, name)
-}
 
 pub(crate) fn own_features(alloc: Global, row: &PackageRecord) -> Result<Vec<Feature>, AllocError>
     ensures { IfOk result (λ v. v.items ≡ own_features row.now) }
@@ -78,12 +61,13 @@ fn push_dependencies(
 
 fn push_default(
     alloc: Global,
-    row: &PackageRecord,
+    owner: &PackageIndex<'_>,
     features: &mut Vec<Feature>,
 ) -> Result<(), AllocError>
-    ensures { OnOk result (features.new.items ≡ features.old.items ++ default_features row.now) }
+    ensures { OnOk result (features.new.items ≡ features.old.items ++ default_features owner.now) }
 {
-    if has_feature(row, DEFAULT) {
+    if owner.has_feature(DEFAULT) {
+        let row = owner.row();
         features.push(Feature::named(alloc, row.id.as_str(), DEFAULT)?)?;
     }
     Ok(())
@@ -92,45 +76,46 @@ fn push_default(
 fn push_standard(
     alloc: Global,
     standard: Standard,
-    row: &PackageRecord,
+    owner: &PackageIndex<'_>,
     features: &mut Vec<Feature>,
 ) -> Result<(), AllocError>
-    ensures { OnOk result (features.new.items ≡ features.old.items ++ standard_features standard row.now) }
+    ensures { OnOk result (features.new.items ≡ features.old.items ++ standard_features standard owner.now) }
 {
     match standard {
         Standard::None => Ok(()),
-        Standard::Default => push_default(alloc, row, features),
-        Standard::All => push_own_features(alloc, row, features),
+        Standard::Default => push_default(alloc, owner, features),
+        Standard::All => push_own_features(alloc, owner.row(), features),
     }
 }
 
 fn push_member_features(
     alloc: Global,
-    record: &WorkspaceRecord,
+    index: &RecordIndex<'_>,
     standard: Standard,
-    row: &PackageRecord,
+    owner: &PackageIndex<'_>,
     features: &mut Vec<Feature>,
 ) -> Result<(), AllocError>
-    ensures { OnOk result (features.new.items ≡ features.old.items ++ member_features record.now standard row.now) }
+    ensures { OnOk result (features.new.items ≡ features.old.items ++ member_features index.now standard owner.now) }
 {
-    if is_member(record, row.id.as_str()) {
+    let row = owner.row();
+    if index.is_member(row.id.as_str()) {
         features.push(Feature::base(alloc, row.id.as_str())?)?;
-        push_standard(alloc, standard, row, features)?;
+        push_standard(alloc, standard, owner, features)?;
     }
     Ok(())
 }
 
 fn push_members_features(
     alloc: Global,
-    record: &WorkspaceRecord,
+    index: &RecordIndex<'_>,
     standard: Standard,
-    packages: &[&PackageRecord],
+    packages: &[PackageIndex<'_>],
     features: &mut Vec<Feature>,
 ) -> Result<(), AllocError>
-    ensures { OnOk result (features.new.items ≡ features.old.items ++ flat_map (member_features record.now standard) (map (λ p. p.now) packages.now)) }
+    ensures { OnOk result (features.new.items ≡ features.old.items ++ flat_map (member_features index.now standard) packages.now) }
 {
-    for row in packages {
-        push_member_features(alloc, record, standard, row, features)?;
+    for owner in packages {
+        push_member_features(alloc, index, standard, owner, features)?;
     }
     Ok(())
 }
@@ -148,29 +133,22 @@ fn push_extras(
     Ok(())
 }
 
-/// What the choice switches on by itself, of these packages.
+/// What the choice switches on by itself.
 pub(crate) fn chosen_features(
     alloc: Global,
-    record: &WorkspaceRecord,
-    packages: &[&PackageRecord],
+    index: &RecordIndex<'_>,
     choice: &FeatureChoice,
 ) -> Result<Vec<Feature>, AllocError>
-    ensures { IfOk result (λ v. v.items ≡ flat_map (member_features record.now choice.now.standard) (map (λ p. p.now) packages.now) ++ choice.now.extras) }
+    ensures { IfOk result (λ v. v.items ≡ chosen_features index.now choice.now) }
 {
     let mut features = Vec::new(alloc);
-    push_members_features(alloc, record, choice.standard, packages, &mut features)?;
+    push_members_features(
+        alloc,
+        index,
+        choice.standard,
+        index.packages(),
+        &mut features,
+    )?;
     push_extras(alloc, &choice.extras, &mut features)?;
     Ok(features)
-}
-
-fn contains_text(texts: &[String], name: &str) -> bool
-    ensures { result ≡ list_any (bytes_eq name.now) (map string_bytes texts.now) }
-{
-    stands_in(name, texts)
-}
-
-fn stands_in(name: &str, texts: &[String]) -> bool
-    ensures { result ≡ list_any (λ t. bytes_eq name.now (string_bytes t)) texts.now }
-{
-    texts.iter().any(|text| text.as_str() == name)
 }

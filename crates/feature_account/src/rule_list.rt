@@ -5,13 +5,15 @@ ghost use Rattle.std.specs.List.{flat_map};
 ghost use Rattle.std.specs.Option.{option_map_or};
 ghost use Rattle.feature_account.specs.EntryView.{entry_view};
 ghost use Rattle.feature_account.specs.Entries.{entry_value};
+ghost use Rattle.record_index.specs.LinkNames.{link_view};
 ghost use Rattle.feature_account.specs.Lines.{counts, counting_lines};
 ghost use Rattle.feature_account.specs.RuleList.{given, implies, named_of, dep_of, has_feature, has_optional, base_rules, target_has, is_slash_link, slash_lines, dependency_features, strong_targets, strong_features, weak_rule, weak_rules, rules_of_entry, feature_rules, entry_rules, line_start, asked_features, line_features, line_rules, link_rules, rule_list};
 
 use crate::entry::{Entry, entry_of};
-use crate::lines::{counts, first_of_each_id, package_of};
-use crate::own_features::{DEFAULT, chosen_features, has_feature, has_optional, own_features};
+use crate::lines::counts;
+use crate::own_features::{DEFAULT, chosen_features, own_features};
 use crate::rule::{Premises, Rule};
+use record_index::{LentLink, PackageIndex, RecordIndex};
 use std::alloc::{AllocError, Global};
 use workspace_record::{
     Feature, FeatureChoice, FeatureRecord, LineRecord, LinkRecord, PackageRecord, PlatformTable,
@@ -24,8 +26,8 @@ use workspace_record::{
 /// A rule whose conclusion is among its premises stays in the list. Of packages with one id the
 /// first counts. Of a link's target that is not found only the base feature is known.
 ///
-/// The work grows with the packages times the packages and links, and with the entries times the
-/// links.
+/// The work grows with the packages, features, entries, links and lines, and with the rules: packages,
+/// features and links are found by maps.
 pub fn rules(
     alloc: Global,
     record: &WorkspaceRecord,
@@ -34,15 +36,12 @@ pub fn rules(
 ) -> Result<Vec<Rule>, AllocError>
     ensures { IfOk result (λ v. v.items ≡ rule_list record.now choice.now table.now) }
 {
-    let packages = first_of_each_id(alloc, &record.packages)?;
+    let index = RecordIndex::of(alloc, record)?;
     let mut rules = Vec::new(alloc);
-    push_given(
-        chosen_features(alloc, record, &packages, choice)?,
-        &mut rules,
-    )?;
-    push_packages_base_rules(alloc, &packages, &mut rules)?;
-    push_packages_entry_rules(alloc, record, table, &packages, &mut rules)?;
-    push_links_rules(alloc, record, table, &record.links, &mut rules)?;
+    push_given(chosen_features(alloc, &index, choice)?, &mut rules)?;
+    push_packages_base_rules(alloc, index.packages(), &mut rules)?;
+    push_packages_entry_rules(alloc, &index, table, index.packages(), &mut rules)?;
+    push_links_rules(alloc, &index, table, &record.links, &mut rules)?;
     Ok(rules)
 }
 
@@ -95,56 +94,56 @@ fn push_base_rules(
 
 fn push_packages_base_rules(
     alloc: Global,
-    packages: &[&PackageRecord],
+    packages: &[PackageIndex<'_>],
     rules: &mut Vec<Rule>,
 ) -> Result<(), AllocError>
-    ensures { OnOk result (rules.new.items ≡ rules.old.items ++ flat_map base_rules (map (λ p. p.now) packages.now)) }
+    ensures { OnOk result (rules.new.items ≡ rules.old.items ++ flat_map base_rules packages.now) }
 {
-    for row in packages {
-        push_base_rules(alloc, row, rules)?;
+    for owner in packages {
+        push_base_rules(alloc, owner.row(), rules)?;
     }
     Ok(())
 }
 
 fn counting_lines<'a>(
     alloc: Global,
-    record: &WorkspaceRecord,
+    index: &RecordIndex<'_>,
     table: &PlatformTable,
     link: &'a LinkRecord,
 ) -> Result<Vec<&'a LineRecord>, AllocError>
-    ensures { IfOk result (λ v. map (λ l. l.now) v.items ≡ counting_lines record.now table.now link.entry.now) }
+    ensures { IfOk result (λ v. map (λ l. l.now) v.items ≡ counting_lines index.now table.now link.entry.now) }
 {
-    lines_that_count(alloc, record, table, link.from.as_str(), &link.lines)
+    lines_that_count(alloc, index, table, link.from.as_str(), &link.lines)
 }
 
 fn lines_that_count<'a>(
     alloc: Global,
-    record: &WorkspaceRecord,
+    index: &RecordIndex<'_>,
     table: &PlatformTable,
     source: &str,
     lines: &'a [LineRecord],
 ) -> Result<Vec<&'a LineRecord>, AllocError>
-    ensures { IfOk result (λ v. map (λ l. l.now) v.items ≡ filter (counts record.now table.now source.now) lines.entry.now) }
+    ensures { IfOk result (λ v. map (λ l. l.now) v.items ≡ filter (counts index.now table.now source.now) lines.entry.now) }
 {
     let mut counting: Vec<&'a LineRecord> = Vec::new(alloc);
     for line in lines {
-        if counts(record, table, source, line) {
+        if counts(index, table, source, line) {
             counting.push(line)?;
         }
     }
     Ok(counting)
 }
 
-fn target_has(record: &WorkspaceRecord, link: &LinkRecord, name: &str) -> bool
-    ensures { result ≡ target_has record.now link.now name.now }
+fn target_has(index: &RecordIndex<'_>, link: &LinkRecord, name: &str) -> bool
+    ensures { result ≡ target_has index.now link.now name.now }
 {
-    match package_of(record, link.to.as_str()) {
-        Some(target) => has_feature(target, name),
+    match index.package_of(link.to.as_str()) {
+        Some(target) => target.has_feature(name),
         None => false,
     }
 }
 
-/// An entry with a slash of a feature of a package.
+/// An entry with a slash of a feature of a owner.
 #[derive(Clone, Copy)]
 struct SlashEntry<'a> {
     row: &'a PackageRecord,
@@ -154,40 +153,41 @@ struct SlashEntry<'a> {
 
 fn slash_lines<'a>(
     alloc: Global,
-    record: &WorkspaceRecord,
+    index: &RecordIndex<'_>,
     table: &PlatformTable,
     entry: SlashEntry<'_>,
     link: &'a LinkRecord,
 ) -> Result<Vec<&'a LineRecord>, AllocError>
-    ensures { IfOk result (λ v. map (λ l. l.now) v.items ≡ slash_lines record.now table.now entry.entry.row.now entry.entry.name.now entry.entry.feature.now link.entry.now) }
+    ensures { IfOk result (λ v. map (λ l. l.now) v.items ≡ slash_lines index.now table.now entry.entry.row.now entry.entry.name.now entry.entry.feature.now link.entry.now) }
 {
-    if is_slash_link(record, entry, link) {
-        counting_lines(alloc, record, table, link)
+    if is_slash_link(index, entry, link) {
+        counting_lines(alloc, index, table, link)
     } else {
         Ok(Vec::new(alloc))
     }
 }
 
-fn is_slash_link(record: &WorkspaceRecord, entry: SlashEntry<'_>, link: &LinkRecord) -> bool
-    ensures { result ≡ is_slash_link record.now entry.entry.row.now entry.entry.name.now entry.entry.feature.now link.now }
+fn is_slash_link(index: &RecordIndex<'_>, entry: SlashEntry<'_>, link: &LinkRecord) -> bool
+    ensures { result ≡ is_slash_link index.now entry.entry.row.now entry.entry.name.now entry.entry.feature.now link.now }
 {
     let row = entry.row;
     row.id == link.from
         && entry.name == link.name.as_str()
-        && target_has(record, link, entry.feature)
+        && target_has(index, link, entry.feature)
 }
 
 fn push_dependency_features(
     alloc: Global,
-    row: &PackageRecord,
+    owner: &PackageIndex<'_>,
     name: &str,
     features: &mut Vec<Feature>,
 ) -> Result<(), AllocError>
-    ensures { OnOk result (features.new.items ≡ features.old.items ++ dependency_features row.now name.now) }
+    ensures { OnOk result (features.new.items ≡ features.old.items ++ dependency_features owner.now name.now) }
 {
-    if has_optional(row, name) {
+    let row = owner.row();
+    if owner.has_optional(name) {
         features.push(Feature::dep(alloc, row.id.as_str(), name)?)?;
-        if has_feature(row, name) {
+        if owner.has_feature(name) {
             features.push(Feature::named(alloc, row.id.as_str(), name)?)?;
         }
     }
@@ -211,44 +211,65 @@ fn push_targets(
 
 fn push_strong_targets(
     alloc: Global,
-    record: &WorkspaceRecord,
+    index: &RecordIndex<'_>,
     table: &PlatformTable,
     entry: SlashEntry<'_>,
     link: &LinkRecord,
     features: &mut Vec<Feature>,
 ) -> Result<(), AllocError>
-    ensures { OnOk result (features.new.items ≡ features.old.items ++ strong_targets record.now table.now entry.entry.row.now entry.entry.name.now entry.entry.feature.now link.now) }
+    ensures { OnOk result (features.new.items ≡ features.old.items ++ strong_targets index.now table.now entry.entry.row.now entry.entry.name.now entry.entry.feature.now link.now) }
 {
-    let lines = slash_lines(alloc, record, table, entry, link)?;
+    let lines = slash_lines(alloc, index, table, entry, link)?;
     push_targets(alloc, link.to.as_str(), entry.feature, &lines, features)
 }
 
-fn push_links_targets(
+fn push_named_targets(
     alloc: Global,
-    record: &WorkspaceRecord,
+    index: &RecordIndex<'_>,
     table: &PlatformTable,
     entry: SlashEntry<'_>,
+    links: &[LentLink<'_>],
     features: &mut Vec<Feature>,
 ) -> Result<(), AllocError>
-    ensures { OnOk result (features.new.items ≡ features.old.items ++ flat_map (strong_targets record.now table.now entry.entry.row.now entry.entry.name.now entry.entry.feature.now) record.now.links) }
+    ensures { OnOk result (features.new.items ≡ features.old.items ++ flat_map (strong_targets index.now table.now entry.entry.row.now entry.entry.name.now entry.entry.feature.now) (map link_view links.now)) }
 {
-    for link in &record.links {
-        push_strong_targets(alloc, record, table, entry, link, features)?;
+    for link in links {
+        push_strong_targets(alloc, index, table, entry, link.row, features)?;
     }
     Ok(())
 }
 
-fn strong_features(
+fn push_links_targets<'a>(
     alloc: Global,
-    record: &WorkspaceRecord,
+    index: &RecordIndex<'a>,
     table: &PlatformTable,
-    entry: SlashEntry<'_>,
-) -> Result<Vec<Feature>, AllocError>
-    ensures { IfOk result (λ v. v.items ≡ strong_features record.now table.now entry.entry.row.now entry.entry.name.now entry.entry.feature.now) }
+    entry: SlashEntry<'a>,
+    features: &mut Vec<Feature>,
+) -> Result<(), AllocError>
+    ensures { OnOk result (features.new.items ≡ features.old.items ++ flat_map (strong_targets index.now table.now entry.entry.row.now entry.entry.name.now entry.entry.feature.now) index.now.links) }
 {
+    let row = entry.row;
+    match index.links_named(row.id.as_str(), entry.name) {
+        Some(links) => push_named_targets(alloc, index, table, entry, links, features),
+        None => Ok(()),
+    }
+}
+
+fn strong_features<'a>(
+    alloc: Global,
+    index: &RecordIndex<'a>,
+    table: &PlatformTable,
+    owner: &PackageIndex<'a>,
+    name: &'a str,
+    feature: &'a str,
+) -> Result<Vec<Feature>, AllocError>
+    ensures { IfOk result (λ v. v.items ≡ strong_features index.now table.now owner.now name.entry.now feature.entry.now) }
+{
+    let row = owner.row();
     let mut features = Vec::new(alloc);
-    push_links_targets(alloc, record, table, entry, &mut features)?;
-    push_dependency_features(alloc, entry.row, entry.name, &mut features)?;
+    let entry = SlashEntry { row, name, feature };
+    push_links_targets(alloc, index, table, entry, &mut features)?;
+    push_dependency_features(alloc, owner, name, &mut features)?;
     Ok(features)
 }
 
@@ -294,14 +315,15 @@ fn push_weak_rules(
 
 fn push_own_feature(
     alloc: Global,
-    row: &PackageRecord,
+    owner: &PackageIndex<'_>,
     premise: &Feature,
     name: &str,
     rules: &mut Vec<Rule>,
 ) -> Result<(), AllocError>
-    ensures { OnOk result (rules.new.items ≡ rules.old.items ++ (if has_feature row.now name.now then implies premise.now (named_of row.now.id name.now) ∷ [] else [])) }
+    ensures { OnOk result (rules.new.items ≡ rules.old.items ++ (if has_feature owner.now name.now then implies premise.now (named_of owner.now.id name.now) ∷ [] else [])) }
 {
-    if has_feature(row, name) {
+    if owner.has_feature(name) {
+        let row = owner.row();
         let premises = Premises::One(premise.copy(alloc)?);
         let conclusion = Feature::named(alloc, row.id.as_str(), name)?;
         rules.push(Rule {
@@ -314,14 +336,15 @@ fn push_own_feature(
 
 fn push_dependency(
     alloc: Global,
-    row: &PackageRecord,
+    owner: &PackageIndex<'_>,
     premise: &Feature,
     name: &str,
     rules: &mut Vec<Rule>,
 ) -> Result<(), AllocError>
-    ensures { OnOk result (rules.new.items ≡ rules.old.items ++ (if has_optional row.now name.now then implies premise.now (dep_of row.now.id name.now) ∷ [] else [])) }
+    ensures { OnOk result (rules.new.items ≡ rules.old.items ++ (if has_optional owner.now name.now then implies premise.now (dep_of owner.now.id name.now) ∷ [] else [])) }
 {
-    if has_optional(row, name) {
+    if owner.has_optional(name) {
+        let row = owner.row();
         let premises = Premises::One(premise.copy(alloc)?);
         let conclusion = Feature::dep(alloc, row.id.as_str(), name)?;
         rules.push(Rule {
@@ -332,124 +355,152 @@ fn push_dependency(
     Ok(())
 }
 
-fn push_rules_of_entry(
+fn push_rules_of_entry<'a>(
     alloc: Global,
-    record: &WorkspaceRecord,
+    index: &RecordIndex<'a>,
     table: &PlatformTable,
-    row: &PackageRecord,
+    owner: &PackageIndex<'a>,
     premise: &Feature,
-    entry: Entry<'_>,
+    entry: Entry<'a>,
     rules: &mut Vec<Rule>,
 ) -> Result<(), AllocError>
-    ensures { OnOk result (rules.new.items ≡ rules.old.items ++ rules_of_entry record.now table.now row.now premise.now (entry_view entry.entry)) }
+    ensures { OnOk result (rules.new.items ≡ rules.old.items ++ rules_of_entry index.now table.now owner.now premise.now (entry_view entry.entry)) }
 {
     match entry {
-        Entry::OwnFeature(name) => push_own_feature(alloc, row, premise, name, rules),
-        Entry::Dependency(name) => push_dependency(alloc, row, premise, name, rules),
+        Entry::OwnFeature(name) => push_own_feature(alloc, owner, premise, name, rules),
+        Entry::Dependency(name) => push_dependency(alloc, owner, premise, name, rules),
         Entry::Strong(name, feature) => {
-            let entry = SlashEntry { row, name, feature };
-            let features = strong_features(alloc, record, table, entry)?;
+            let features = strong_features(alloc, index, table, owner, name, feature)?;
             push_implications(alloc, premise, features, rules)
         }
         Entry::Weak(name, feature) => {
+            let row = owner.row();
             let entry = SlashEntry { row, name, feature };
-            push_weak_entry(alloc, record, table, premise, entry, rules)
+            push_weak_entry(alloc, index, table, premise, entry, rules)
         }
     }
 }
 
 fn push_link_weak_rules(
     alloc: Global,
-    record: &WorkspaceRecord,
+    index: &RecordIndex<'_>,
     table: &PlatformTable,
     premise: &Feature,
     entry: SlashEntry<'_>,
     link: &LinkRecord,
     rules: &mut Vec<Rule>,
 ) -> Result<(), AllocError>
-    ensures { OnOk result (rules.new.items ≡ rules.old.items ++ weak_rules record.now table.now entry.entry.row.now premise.now entry.entry.name.now entry.entry.feature.now link.now) }
+    ensures { OnOk result (rules.new.items ≡ rules.old.items ++ weak_rules index.now table.now entry.entry.row.now premise.now entry.entry.name.now entry.entry.feature.now link.now) }
 {
-    let lines = slash_lines(alloc, record, table, entry, link)?;
+    let lines = slash_lines(alloc, index, table, entry, link)?;
     let target = Feature::named(alloc, link.to.as_str(), entry.feature)?;
     push_weak_rules(
         alloc, premise, entry.row, entry.name, &target, &lines, rules,
     )
 }
 
-fn push_weak_entry(
+fn push_named_weak_rules(
     alloc: Global,
-    record: &WorkspaceRecord,
+    index: &RecordIndex<'_>,
     table: &PlatformTable,
     premise: &Feature,
     entry: SlashEntry<'_>,
+    links: &[LentLink<'_>],
     rules: &mut Vec<Rule>,
 ) -> Result<(), AllocError>
-    ensures { OnOk result (rules.new.items ≡ rules.old.items ++ flat_map (weak_rules record.now table.now entry.entry.row.now premise.now entry.entry.name.now entry.entry.feature.now) record.now.links) }
+    ensures { OnOk result (rules.new.items ≡ rules.old.items ++ flat_map (weak_rules index.now table.now entry.entry.row.now premise.now entry.entry.name.now entry.entry.feature.now) (map link_view links.now)) }
 {
-    for link in &record.links {
-        push_link_weak_rules(alloc, record, table, premise, entry, link, rules)?;
+    for link in links {
+        push_link_weak_rules(alloc, index, table, premise, entry, link.row, rules)?;
     }
     Ok(())
 }
 
-fn push_rules_of_entries(
+fn push_weak_entry<'a>(
     alloc: Global,
-    record: &WorkspaceRecord,
+    index: &RecordIndex<'a>,
     table: &PlatformTable,
-    row: &PackageRecord,
     premise: &Feature,
-    entries: &[String],
+    entry: SlashEntry<'a>,
     rules: &mut Vec<Rule>,
 ) -> Result<(), AllocError>
-    ensures { OnOk result (rules.new.items ≡ rules.old.items ++ flat_map (λ e. rules_of_entry record.now table.now row.now premise.now (entry_value e)) (map string_bytes entries.now)) }
+    ensures { OnOk result (rules.new.items ≡ rules.old.items ++ flat_map (weak_rules index.now table.now entry.entry.row.now premise.now entry.entry.name.now entry.entry.feature.now) index.now.links) }
+{
+    let row = entry.row;
+    match index.links_named(row.id.as_str(), entry.name) {
+        Some(links) => push_named_weak_rules(alloc, index, table, premise, entry, links, rules),
+        None => Ok(()),
+    }
+}
+
+fn push_rules_of_entries<'a>(
+    alloc: Global,
+    index: &RecordIndex<'a>,
+    table: &PlatformTable,
+    owner: &PackageIndex<'a>,
+    premise: &Feature,
+    entries: &'a [String],
+    rules: &mut Vec<Rule>,
+) -> Result<(), AllocError>
+    ensures { OnOk result (rules.new.items ≡ rules.old.items ++ flat_map (λ e. rules_of_entry index.now table.now owner.now premise.now (entry_value e)) (map string_bytes entries.entry.now)) }
 {
     for entry in entries {
         let entry = entry_of(entry.as_str());
-        push_rules_of_entry(alloc, record, table, row, premise, entry, rules)?;
+        push_rules_of_entry(alloc, index, table, owner, premise, entry, rules)?;
     }
     Ok(())
 }
 
-fn push_feature_rules(
+fn push_feature_rules<'a>(
     alloc: Global,
-    record: &WorkspaceRecord,
+    index: &RecordIndex<'a>,
     table: &PlatformTable,
-    row: &PackageRecord,
-    feature: &FeatureRecord,
+    owner: &PackageIndex<'a>,
+    feature: &'a FeatureRecord,
     rules: &mut Vec<Rule>,
 ) -> Result<(), AllocError>
-    ensures { OnOk result (rules.new.items ≡ rules.old.items ++ feature_rules record.now table.now row.now feature.now) }
+    ensures { OnOk result (rules.new.items ≡ rules.old.items ++ feature_rules index.now table.now owner.now feature.entry.now) }
 {
+    let row = owner.row();
     let premise = Feature::named(alloc, row.id.as_str(), feature.name.as_str())?;
-    push_rules_of_entries(alloc, record, table, row, &premise, &feature.enables, rules)
+    push_rules_of_entries(
+        alloc,
+        index,
+        table,
+        owner,
+        &premise,
+        &feature.enables,
+        rules,
+    )
 }
 
-fn push_entry_rules(
+fn push_entry_rules<'a>(
     alloc: Global,
-    record: &WorkspaceRecord,
+    index: &RecordIndex<'a>,
     table: &PlatformTable,
-    row: &PackageRecord,
+    owner: &PackageIndex<'a>,
     rules: &mut Vec<Rule>,
 ) -> Result<(), AllocError>
-    ensures { OnOk result (rules.new.items ≡ rules.old.items ++ entry_rules record.now table.now row.now) }
+    ensures { OnOk result (rules.new.items ≡ rules.old.items ++ entry_rules index.now table.now owner.now) }
 {
+    let row = owner.row();
     for feature in &row.features {
-        push_feature_rules(alloc, record, table, row, feature, rules)?;
+        push_feature_rules(alloc, index, table, owner, feature, rules)?;
     }
     Ok(())
 }
 
-fn push_packages_entry_rules(
+fn push_packages_entry_rules<'a>(
     alloc: Global,
-    record: &WorkspaceRecord,
+    index: &RecordIndex<'a>,
     table: &PlatformTable,
-    packages: &[&PackageRecord],
+    packages: &[PackageIndex<'a>],
     rules: &mut Vec<Rule>,
 ) -> Result<(), AllocError>
-    ensures { OnOk result (rules.new.items ≡ rules.old.items ++ flat_map (entry_rules record.now table.now) (map (λ p. p.now) packages.now)) }
+    ensures { OnOk result (rules.new.items ≡ rules.old.items ++ flat_map (entry_rules index.now table.now) packages.now) }
 {
-    for row in packages {
-        push_entry_rules(alloc, record, table, row, rules)?;
+    for owner in packages {
+        push_entry_rules(alloc, index, table, owner, rules)?;
     }
     Ok(())
 }
@@ -468,12 +519,12 @@ fn push_asked_features(
     alloc: Global,
     id: &str,
     line: &LineRecord,
-    target: &PackageRecord,
+    target: &PackageIndex<'_>,
     features: &mut Vec<Feature>,
 ) -> Result<(), AllocError>
     ensures { OnOk result (features.new.items ≡ features.old.items ++ asked_features id.now line.now target.now) }
 {
-    if line.default_features && has_feature(target, DEFAULT) {
+    if line.default_features && target.has_feature(DEFAULT) {
         features.push(Feature::named(alloc, id, DEFAULT)?)?;
     }
     push_listed_features(alloc, id, &line.features, target, features)
@@ -483,13 +534,13 @@ fn push_listed_features(
     alloc: Global,
     id: &str,
     names: &[String],
-    target: &PackageRecord,
+    target: &PackageIndex<'_>,
     features: &mut Vec<Feature>,
 ) -> Result<(), AllocError>
     ensures { OnOk result (features.new.items ≡ features.old.items ++ map (named_of id.now) (filter (has_feature target.now) (map string_bytes names.now))) }
 {
     for name in names {
-        if has_feature(target, name.as_str()) {
+        if target.has_feature(name.as_str()) {
             features.push(Feature::named(alloc, id, name.as_str())?)?;
         }
     }
@@ -498,15 +549,15 @@ fn push_listed_features(
 
 fn line_features(
     alloc: Global,
-    record: &WorkspaceRecord,
+    index: &RecordIndex<'_>,
     link: &LinkRecord,
     line: &LineRecord,
 ) -> Result<Vec<Feature>, AllocError>
-    ensures { IfOk result (λ v. v.items ≡ line_features record.now link.now line.now) }
+    ensures { IfOk result (λ v. v.items ≡ line_features index.now link.now line.now) }
 {
     let mut features = Vec::new(alloc);
     features.push(Feature::base(alloc, link.to.as_str())?)?;
-    if let Some(target) = package_of(record, link.to.as_str()) {
+    if let Some(target) = index.package_of(link.to.as_str()) {
         push_asked_features(alloc, link.to.as_str(), line, target, &mut features)?;
     }
     Ok(features)
@@ -514,61 +565,61 @@ fn line_features(
 
 fn push_line_rules(
     alloc: Global,
-    record: &WorkspaceRecord,
+    index: &RecordIndex<'_>,
     link: &LinkRecord,
     line: &LineRecord,
     rules: &mut Vec<Rule>,
 ) -> Result<(), AllocError>
-    ensures { OnOk result (rules.new.items ≡ rules.old.items ++ line_rules record.now link.now line.now) }
+    ensures { OnOk result (rules.new.items ≡ rules.old.items ++ line_rules index.now link.now line.now) }
 {
     let start = line_start(alloc, link, line)?;
     push_implications(
         alloc,
         &start,
-        line_features(alloc, record, link, line)?,
+        line_features(alloc, index, link, line)?,
         rules,
     )
 }
 
 fn push_lines_rules(
     alloc: Global,
-    record: &WorkspaceRecord,
+    index: &RecordIndex<'_>,
     link: &LinkRecord,
     lines: &[&LineRecord],
     rules: &mut Vec<Rule>,
 ) -> Result<(), AllocError>
-    ensures { OnOk result (rules.new.items ≡ rules.old.items ++ flat_map (line_rules record.now link.now) (map (λ l. l.now) lines.now)) }
+    ensures { OnOk result (rules.new.items ≡ rules.old.items ++ flat_map (line_rules index.now link.now) (map (λ l. l.now) lines.now)) }
 {
     for line in lines {
-        push_line_rules(alloc, record, link, line, rules)?;
+        push_line_rules(alloc, index, link, line, rules)?;
     }
     Ok(())
 }
 
 fn push_link_rules(
     alloc: Global,
-    record: &WorkspaceRecord,
+    index: &RecordIndex<'_>,
     table: &PlatformTable,
     link: &LinkRecord,
     rules: &mut Vec<Rule>,
 ) -> Result<(), AllocError>
-    ensures { OnOk result (rules.new.items ≡ rules.old.items ++ link_rules record.now table.now link.now) }
+    ensures { OnOk result (rules.new.items ≡ rules.old.items ++ link_rules index.now table.now link.now) }
 {
-    let lines = counting_lines(alloc, record, table, link)?;
-    push_lines_rules(alloc, record, link, &lines, rules)
+    let lines = counting_lines(alloc, index, table, link)?;
+    push_lines_rules(alloc, index, link, &lines, rules)
 }
 
 fn push_links_rules(
     alloc: Global,
-    record: &WorkspaceRecord,
+    index: &RecordIndex<'_>,
     table: &PlatformTable,
     links: &[LinkRecord],
     rules: &mut Vec<Rule>,
 ) -> Result<(), AllocError>
-    ensures { OnOk result (rules.new.items ≡ rules.old.items ++ flat_map (link_rules record.now table.now) links.now) }
+    ensures { OnOk result (rules.new.items ≡ rules.old.items ++ flat_map (link_rules index.now table.now) links.now) }
 {
     for link in links {
-        push_link_rules(alloc, record, table, link, rules)?;
+        push_link_rules(alloc, index, table, link, rules)?;
     }
     Ok(())
 }

@@ -9,7 +9,8 @@ ghost use Rattle.feature_switching.specs.OnLines.{HasRequired, LinkIsOn};
 
 use crate::features::FeaturesOn;
 use feature_account::lines::counts;
-use workspace_record::{LineRecord, LinkRecord, PlatformTable, TargetRecord, WorkspaceRecord};
+use record_index::RecordIndex;
+use workspace_record::{LineRecord, LinkRecord, PlatformTable, TargetRecord};
 
 /// Whether each feature that the target requires of its package is on.
 pub fn is_available(on: &FeaturesOn, package_id: &str, target: &TargetRecord) -> bool
@@ -28,39 +29,39 @@ fn contains_all_named(on: &FeaturesOn, package_id: &str, names: &[String]) -> bo
 
 /// Whether a line of the link is on: it counts, and its start is on.
 pub fn link_is_on(
-    record: &WorkspaceRecord,
+    index: &RecordIndex<'_>,
     table: &PlatformTable,
     on: &FeaturesOn,
     link: &LinkRecord,
 ) -> bool
-    ensures { IsTrue result ↔ LinkIsOn record.now table.now (λ f. Contains on.now f) link.now }
+    ensures { IsTrue result ↔ LinkIsOn index.now table.now (λ f. Contains on.now f) link.now }
 {
-    has_line_on(record, table, on, link)
+    has_line_on(index, table, on, link)
 }
 
 fn has_line_on(
-    record: &WorkspaceRecord,
+    index: &RecordIndex<'_>,
     table: &PlatformTable,
     on: &FeaturesOn,
     link: &LinkRecord,
 ) -> bool
-    ensures { result ≡ list_any (λ line. counts record.now table.now link.now.from line && concluded_set on.now (line_start link.now line)) link.now.lines }
+    ensures { result ≡ list_any (λ line. counts index.now table.now link.now.from line && concluded_set on.now (line_start link.now line)) link.now.lines }
 {
     link.lines
         .iter()
-        .any(|line| line_is_on(record, table, on, link, line))
+        .any(|line| line_is_on(index, table, on, link, line))
 }
 
 fn line_is_on(
-    record: &WorkspaceRecord,
+    index: &RecordIndex<'_>,
     table: &PlatformTable,
     on: &FeaturesOn,
     link: &LinkRecord,
     line: &LineRecord,
 ) -> bool
-    ensures { result ≡ (counts record.now table.now link.now.from line.now && concluded_set on.now (line_start link.now line.now)) }
+    ensures { result ≡ (counts index.now table.now link.now.from line.now && concluded_set on.now (line_start link.now line.now)) }
 {
-    counts(record, table, link.from.as_str(), line) && start_is_on(on, link, line)
+    counts(index, table, link.from.as_str(), line) && start_is_on(on, link, line)
 }
 
 fn start_is_on(on: &FeaturesOn, link: &LinkRecord, line: &LineRecord) -> bool

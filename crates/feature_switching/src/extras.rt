@@ -4,41 +4,40 @@ ghost use Rattle.std.specs.Prelude.{◌≡◌, not, position};
 ghost use Rattle.workspace_record.specs.LabelView.{label_view};
 ghost use Rattle.feature_switching.specs.Extras.{has_label, is_found_feature, is_known_extra};
 
-use feature_account::lines::{is_workspace_package, package_of};
-use feature_account::own_features::{has_feature, has_optional};
-use workspace_record::{Feature, FeatureChoice, Label, PackageRecord, WorkspaceRecord};
+use record_index::{PackageIndex, RecordIndex};
+use workspace_record::{Feature, FeatureChoice, Label};
 
 /// The place of the first extra that no workspace package has.
-pub(crate) fn unknown_extra(record: &WorkspaceRecord, choice: &FeatureChoice) -> Option<usize>
-    ensures { result ≡ position (λ f. not (is_known_extra record.now f)) choice.now.extras }
+pub(crate) fn unknown_extra(index: &RecordIndex<'_>, choice: &FeatureChoice) -> Option<usize>
+    ensures { result ≡ position (λ f. not (is_known_extra index.now f)) choice.now.extras }
 {
     choice
         .extras
         .iter()
-        .position(|extra| !is_known_extra(record, extra))
+        .position(|extra| !is_known_extra(index, extra))
 }
 
-fn is_known_extra(record: &WorkspaceRecord, extra: &Feature) -> bool
-    ensures { result ≡ is_known_extra record.now extra.now }
+fn is_known_extra(index: &RecordIndex<'_>, extra: &Feature) -> bool
+    ensures { result ≡ is_known_extra index.now extra.now }
 {
-    is_workspace_package(record, extra.package.as_str()) && is_found_feature(record, extra)
+    index.is_workspace_package(extra.package.as_str()) && is_found_feature(index, extra)
 }
 
-fn is_found_feature(record: &WorkspaceRecord, extra: &Feature) -> bool
-    ensures { result ≡ is_found_feature record.now extra.now }
+fn is_found_feature(index: &RecordIndex<'_>, extra: &Feature) -> bool
+    ensures { result ≡ is_found_feature index.now extra.now }
 {
-    match package_of(record, extra.package.as_str()) {
+    match index.package_of(extra.package.as_str()) {
         None => false,
-        Some(row) => has_label(row, &extra.label),
+        Some(owner) => has_label(owner, &extra.label),
     }
 }
 
-fn has_label(row: &PackageRecord, label: &Label) -> bool
-    ensures { result ≡ has_label row.now (label_view label.now) }
+fn has_label(owner: &PackageIndex<'_>, label: &Label) -> bool
+    ensures { result ≡ has_label owner.now (label_view label.now) }
 {
     match label {
         Label::Base => true,
-        Label::Named(name) => has_feature(row, name.as_str()),
-        Label::Dep(name) => has_optional(row, name.as_str()),
+        Label::Named(name) => owner.has_feature(name.as_str()),
+        Label::Dep(name) => owner.has_optional(name.as_str()),
     }
 }

@@ -14,6 +14,7 @@ use crate::features::{FeaturesOn, features_of};
 use crate::select_error::SelectError;
 use account_making::{Account, account_of};
 use feature_account::rules;
+use record_index::RecordIndex;
 use record_rules::check_record;
 use std::alloc::{AllocError, Global};
 use workspace_record::{FeatureChoice, PlatformTable, WorkspaceRecord};
@@ -61,7 +62,8 @@ fn check_question(
     ensures { AnswersOrRefuses (λ _. IsServed record.now choice.now) record.now choice.now result }
 {
     check_record(alloc, record)?;
-    match unknown_extra(record, choice) {
+    let index = RecordIndex::of(alloc, record)?;
+    match unknown_extra(&index, choice) {
         Some(place) => Err(SelectError::UnknownExtra(place)),
         None => Ok(()),
     }

@@ -1,20 +1,19 @@
 -- What is kept beside a record, so that nothing is searched for.
 use Rattle.std.specs.Prelude.{◌≡◌, List}
 use Rattle.std.specs.Borrow.{Bor}
-use Rattle.std.specs.List.{list_any, AllByRecursion}
-use Rattle.std.specs.Str.{bytes_eq}
+use Rattle.std.specs.List.{AllByRecursion}
 use Rattle.indexmap.specs.IndexMap.{IndexMap, values}
 use Rattle.indexmap.specs.IndexSet.{IndexSet}
 use Rattle.workspace_record.specs.Records.{Text, Package, Workspace}
 use Rattle.record_index.specs.LinkNames.{NamesLinks}
-use Rattle.record_index.specs.Packages.{first_of_each, is_member}
+use Rattle.record_index.specs.Packages.{first_of_each, has_feature, has_optional, is_member}
 use Rattle.record_index.specs.TextSets.{has_text}
 use Rattle.record_index.specs.declared.link_names.LinkNames.{LinkNames}
 
 -- the sets have the package's features and its optional dependencies
 pub record FindsNames {S T : Type 0} (p : Package) (features : IndexSet (Bor Text) S) (optional : IndexSet (Bor Text) T) : Type 0 where
-  pub named : (x : Text) → has_text features x ≡ list_any (λ f. bytes_eq x f.name) p.features
-  pub dependencies : (x : Text) → has_text optional x ≡ list_any (bytes_eq x) p.optional
+  pub named : (x : Text) → has_text features x ≡ has_feature p x
+  pub dependencies : (x : Text) → has_text optional x ≡ has_optional p x
 
 -- the map has the packages, of each id the first, in their order, each under its id
 pub record FindsPackages {S : Type 0} (packages : List Package) (found : IndexMap (Bor Text) Package S) : Type 0 where

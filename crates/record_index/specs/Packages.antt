@@ -1,4 +1,4 @@
--- Which package an id means, and which packages are the workspace's.
+-- Which package an id means, what it has, and which packages are the workspace's.
 use Rattle.std.specs.Prelude.{Bool, ◌&&◌, not, List, [], ◌∷◌, Option, find, filter}
 use Rattle.std.specs.List.{list_any}
 use Rattle.std.specs.Str.{bytes_eq}
@@ -12,6 +12,14 @@ package_of w id = find (λ p. bytes_eq id p.id) w.packages
 abbrev pub first_of_each : List Package → List Package
 first_of_each [] = []
 first_of_each (p ∷ ps) = p ∷ filter (λ q. not (bytes_eq p.id q.id)) (first_of_each ps)
+
+-- the package's manifest names the feature
+abbrev pub has_feature : Package → Text → Bool
+has_feature p name = list_any (λ f. bytes_eq name f.name) p.features
+
+-- the package has an optional dependency of this name
+abbrev pub has_optional : Package → Text → Bool
+has_optional p name = list_any (bytes_eq name) p.optional
 
 -- the id stands among the members
 abbrev pub is_member : Workspace → Text → Bool

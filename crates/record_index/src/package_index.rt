@@ -1,8 +1,7 @@
 //! A package, with its features and its optional dependencies found by name.
 
 ghost use Rattle.std.specs.Prelude.{◌≡◌, IfOk};
-ghost use Rattle.std.specs.List.{list_any};
-ghost use Rattle.std.specs.Str.{bytes_eq};
+ghost use Rattle.record_index.specs.Packages.{has_feature, has_optional};
 
 use crate::text_sets::{feature_names, text_set};
 use indexmap::IndexSet;
@@ -51,14 +50,14 @@ impl<'a> PackageIndex<'a> {
 
     /// Whether the package's manifest names the feature.
     pub fn has_feature(&self, name: &str) -> bool
-        ensures answer { result ≡ list_any (λ f. bytes_eq name.now f.name) self.now.features }
+        ensures answer { result ≡ has_feature self.now name.now }
     {
         self.features.contains(name)
     }
 
     /// Whether the package has an optional dependency of this name.
     pub fn has_optional(&self, name: &str) -> bool
-        ensures answer { result ≡ list_any (bytes_eq name.now) self.now.optional }
+        ensures answer { result ≡ has_optional self.now name.now }
     {
         self.optional.contains(name)
     }

@@ -3,7 +3,7 @@
 use crate::question::{Question, lister_in};
 use row_program::{Answers, Row, RowFault};
 use std::alloc::{AllocError, Global};
-use test_select::{FileLister, LinkScope, SelectError, Selection, select, write_report};
+use test_select::{FileLister, LinkScope, SelectError, Selection, select, select_plain, write_report};
 
 /// Selects in the scope, and tells the report or what is refused, the ids that were asked and how many
 /// calls failed.
@@ -29,7 +29,13 @@ fn select_by(
     answers: &mut Answers,
 ) -> Result<(), RowFault> {
     let texts = row.texts(alloc, "texts")?;
-    match selected(alloc, question, scope, texts.as_slice(), lister) {
+    let texts = texts.as_slice();
+    let answer = if row.get("plain").is_some() {
+        selected_plainly(alloc, question, scope, texts, lister)
+    } else {
+        selected(alloc, question, scope, texts, lister)
+    };
+    match answer {
         Ok(selection) => tell_report(alloc, &selection, answers),
         Err(error) => tell_refusal(alloc, &error, answers),
     }
@@ -48,6 +54,21 @@ fn selected(
         table,
     } = question;
     select(alloc, record, choice, table, scope, texts, lister)
+}
+
+fn selected_plainly(
+    alloc: Global,
+    question: Question<'_>,
+    scope: LinkScope,
+    texts: &[&str],
+    lister: &mut FileLister,
+) -> Result<Selection, SelectError> {
+    let Question {
+        record,
+        choice,
+        table,
+    } = question;
+    select_plain(alloc, record, choice, table, scope, texts, lister)
 }
 
 fn tell_refusal(alloc: Global, error: &SelectError, answers: &mut Answers) -> Result<(), RowFault> {

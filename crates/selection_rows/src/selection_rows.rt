@@ -7,8 +7,8 @@ use std::alloc::Global;
 use test_select::{FeatureChoice, LinkScope, WorkspaceRecord};
 
 /// Rows of selections. A row's `files` are `record.json`, and where it has them `choice.json`,
-/// `table.json`, `listings.json` and `switched.json`, and its `texts` the filter texts. What comes, in
-/// one `scope` or else in both, is
+/// `table.json`, `listings.json` and `switched.json`, and its `texts` the filter texts; where it has
+/// `plain`, each available binary is asked for. What comes, in one `scope` or else in both, is
 /// - `report`, the lines of the report; `refused`, the error; `asked`, the ids that were asked; and
 ///   `failures`, the lister's count;
 /// - `binaries`, a line for each test binary;
@@ -19,7 +19,7 @@ pub(crate) struct SelectionRows;
 
 impl RowRunner for SelectionRows {
     fn inputs(&self) -> &'static [&'static str] {
-        &["files", "texts", "scope"]
+        &["files", "texts", "scope", "plain"]
     }
 
     fn run_row(

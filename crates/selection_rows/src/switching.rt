@@ -3,6 +3,7 @@
 use crate::features::features_text;
 use crate::question::{Question, record_in};
 use feature_switching::availability::{is_available, link_is_on};
+use record_index::RecordIndex;
 use row_program::{Answers, Row, RowFault};
 use std::alloc::{AllocError, Global};
 use test_select::{FeaturesOn, PlatformTable, SelectError, WorkspaceRecord, features_on};
@@ -52,9 +53,10 @@ fn links_text(
     table: &PlatformTable,
     on: &FeaturesOn,
 ) -> Result<String, AllocError> {
+    let index = RecordIndex::of(alloc, record)?;
     let mut text = String::new(alloc);
     for link in &record.links {
-        let switched = link_is_on(record, table, on, link);
+        let switched = link_is_on(&index, table, on, link);
         push_line(&mut text, link.from.as_str(), link.name.as_str(), switched)?;
     }
     Ok(text)

@@ -20,8 +20,9 @@ use Rattle.feature_switching.specs.Switching.{AreOn}
 use Rattle.test_select.specs.Kept.{HoldsThose}
 use Rattle.test_select.specs.Plans.{MayMatch, IsPlan}
 use Rattle.test_select.specs.Questions.{Question, LeadsOn, IsFollowed}
-use Rattle.test_select.specs.Selecting.{IsAvailableBinary, IsLetThrough, IsAsked}
+use Rattle.test_select.specs.Selecting.{IsAvailableBinary, IsWanted, IsAsked}
 use Rattle.test_select.specs.declared.scope.LinkScope.{LinkScope}
+use Rattle.test_select.proofs.WantedFacts.{wanted_in}
 use Rattle.test_select.specs.declared.scope.LinkScope.TheVariants.{SwitchedOn, Declared}
 
 -- what is on in one set is on in another that holds all of it
@@ -53,18 +54,18 @@ module _ (q : Question) (on : List FeatureValue) (are_on : AreOn q.workspace q.c
 
   module _ (filters : List TestFilter) (stand : StandForEach q.workspace (IsInContext q.workspace) (IsFollowed q) (given_texts q.texts) filters) where
     -- the binaries that were kept are those that are available and let through
-    kept_iff : (kept : List Binary) → HoldsThose (MayMatch IsIn filters) (binaries q.workspace) kept → (b : Binary) → Contains kept b ↔ (IsAvailableBinary q b × IsLetThrough q b)
+    kept_iff : (kept : List Binary) → HoldsThose (MayMatch q.asks IsIn filters) (binaries q.workspace) kept → (b : Binary) → Contains kept b ↔ (IsAvailableBinary q b × IsWanted q b)
     kept_iff kept found b =
-        let there : Contains kept b → IsAvailableBinary q b × IsLetThrough q b = λ h.
+        let there : Contains kept b → IsAvailableBinary q b × IsWanted q b = λ h.
         let r = (found b).0 h in
-        (record { declared = r.0; available = available_in (λ f. (are_on.members f).0) b r.1.0 }, (stand.may_hold b.owner.id).0 r.1.1) in
-        let back : (IsAvailableBinary q b × IsLetThrough q b) → Contains kept b = λ h.
-        (found b).1 (h.0.declared, (available_in (λ f. (are_on.members f).1) b h.0.available, (stand.may_hold b.owner.id).1 h.1)) in
+        (record { declared = r.0; available = available_in (λ f. (are_on.members f).0) b r.1.0 }, wanted_in q.asks (stand.may_hold b.owner.id).0 r.1.1) in
+        let back : (IsAvailableBinary q b × IsWanted q b) → Contains kept b = λ h.
+        (found b).1 (h.0.declared, (available_in (λ f. (are_on.members f).1) b h.0.available, wanted_in q.asks (stand.may_hold b.owner.id).1 h.1)) in
         (there, back)
 
     -- They are put in the order of their ids.
-    module _ (kept sorted : List TestBinary) (found : HoldsThose (MayMatch IsIn filters) (binaries q.workspace) (map binary_view kept)) (ascending : IsAscendingOf text_cmp (map (λ b. string_bytes b.id) kept) (map (λ b. string_bytes b.id) sorted)) (all_kept : (b : TestBinary) → Contains sorted b → Contains kept b) where
-      let_through_iff : (b : Binary) → Contains (map binary_view kept) b ↔ (IsAvailableBinary q b × IsLetThrough q b)
+    module _ (kept sorted : List TestBinary) (found : HoldsThose (MayMatch q.asks IsIn filters) (binaries q.workspace) (map binary_view kept)) (ascending : IsAscendingOf text_cmp (map (λ b. string_bytes b.id) kept) (map (λ b. string_bytes b.id) sorted)) (all_kept : (b : TestBinary) → Contains sorted b → Contains kept b) where
+      let_through_iff : (b : Binary) → Contains (map binary_view kept) b ↔ (IsAvailableBinary q b × IsWanted q b)
       let_through_iff = kept_iff (map binary_view kept) found
 
       -- a binary of the kept ones has its id among the sorted ones, and binaries are told apart by their ids
@@ -75,12 +76,12 @@ module _ (q : Question) (on : List FeatureValue) (are_on : AreOn q.workspace q.c
           let same : binary_view id.0 ≡ binary_view t = binaries_told_apart q.workspace are_on.served.checked.0 (binary_view id.0) (binary_view t) (declared id.0 (all_kept id.0 id.1)) (declared t inside) id.2 in
           subst (Contains (map binary_view sorted)) same (Contains-map binary_view sorted id.0 id.1)
 
-      sorted_iff : (b : Binary) → Contains (map binary_view sorted) b ↔ (IsAvailableBinary q b × IsLetThrough q b)
+      sorted_iff : (b : Binary) → Contains (map binary_view sorted) b ↔ (IsAvailableBinary q b × IsWanted q b)
       sorted_iff b =
-          let there : Contains (map binary_view sorted) b → IsAvailableBinary q b × IsLetThrough q b = λ h.
+          let there : Contains (map binary_view sorted) b → IsAvailableBinary q b × IsWanted q b = λ h.
           let t = Contains-map_cases binary_view sorted b h in
           (let_through_iff b).0 (subst (Contains (map binary_view kept)) t.2 (Contains-map binary_view kept t.0 (all_kept t.0 t.1))) in
-          let back : (IsAvailableBinary q b × IsLetThrough q b) → Contains (map binary_view sorted) b = λ h.
+          let back : (IsAvailableBinary q b × IsWanted q b) → Contains (map binary_view sorted) b = λ h.
           let t = Contains-map_cases binary_view kept b ((let_through_iff b).1 h) in
           subst (Contains (map binary_view sorted)) t.2 (stays t.0 t.1) in
           (there, back)

@@ -1,7 +1,8 @@
 -- From a plan that was carried out to the answer of the question.
-use Rattle.std.proofs.Common.{◌≡◌, ◌<◌, length, All, true, List, take, sym, subst, ◌↔◌, inr, Result, Ok, Err}
-use Rattle.list_facts.specs.Ascending.{IsAscendingOf, text_cmp}
-use Rattle.list_facts.proofs.Ascending.{one_ascending, text_total, text_exact}
+use Rattle.std.proofs.Common.{◌≡◌, ◌<◌, length, All, true, List, take, sym, subst, ◌↔◌, Contains, inr, Result, Ok, Err}
+use Rattle.std.specs.List.Sorted.{IsStrictlySortedBy}
+use Rattle.list_facts.specs.Ascending.{IsAscendingOf, pair_cmp, text_cmp}
+use Rattle.list_facts.proofs.Ascending.{one_ascending, pair_total, pair_exact, text_total, text_exact}
 use Rattle.workspace_record.specs.Records.{Text, Link, Workspace}
 use Rattle.test_lister.specs.Listers.{Shown, Asked, largest}
 use Rattle.test_lister.specs.Asking.{HoldsWellFormed}
@@ -16,6 +17,7 @@ use Rattle.test_select.specs.Plans.{IsPlan}
 use Rattle.test_select.specs.Questions.{Question}
 use Rattle.test_select.specs.Selecting.{IsChosen, IsAsked, Selects, Answers}
 use Rattle.test_select.specs.Selections.{Selected}
+use Rattle.test_select.proofs.WantedFacts.{wanted_if}
 
 -- where a text holds of a test, some answers let its binary through
 module _ (w : Workspace) (context : Text → Type 0) (among : Link → Type 0) where
@@ -27,6 +29,11 @@ module _ (w : Workspace) (context : Text → Type 0) (among : Link → Type 0) w
 
   pub texts_may_hold : (texts : List Text) (package_id test : Text) → SomeTextHolds w context among texts package_id test → SomeTextMayHold w context among texts package_id
   texts_may_hold texts package_id test h = let t = h.2 in (h.0, h.1, (t.0, t.1, may_hold t.0 package_id test t.2))
+
+-- two ascending lists of the same pairs are one
+pub one_report : {a b : List (Text × Text)} → ((pair : Text × Text) → Contains a pair ↔ Contains b pair) → IsStrictlySortedBy pair_cmp a → IsStrictlySortedBy pair_cmp b → a ≡ b
+one_report {a} {b} same ascending other =
+    one_ascending pair_total pair_exact a a b (record { members = λ pair. (λ h. h, λ h. h); ascending = ascending }) (record { members = same; ascending = other })
 
 module _ (q : Question) where
   -- the ids to ask for are one list
@@ -51,7 +58,7 @@ module _ (q : Question) where
         } in
         let back : IsChosen q old.listing_of pair → IsMatched filters asked old.listing_of pair = λ h. record {
           binary = h.binary;
-          is_asked = (plan.binaries h.binary).1 (h.available, texts_may_hold _ _ _ _ h.binary.owner.id pair.1 h.holds);
+          is_asked = (plan.binaries h.binary).1 (h.available, wanted_if q.asks (texts_may_hold _ _ _ _ h.binary.owner.id pair.1 h.holds));
           id = h.id;
           names = h.names;
           listing = h.listing;

@@ -7,3 +7,4 @@ pub mod Runs
 pub mod Selecting
 pub mod Selections
 pub mod Told
+pub mod Laws

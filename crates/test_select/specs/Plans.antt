@@ -17,13 +17,14 @@ use Rattle.feature_switching.specs.OnLines.{IsAvailable}
 use Rattle.feature_switching.specs.Switching.{IsRefused, unknown_extra}
 use Rattle.feature_switching.specs.declared.select_error.SelectError.{SelectError}
 use Rattle.feature_switching.specs.declared.select_error.SelectError.TheVariants.{Record, UnknownExtra, Filter, Lister, BadListing, Memory}
-use Rattle.test_select.specs.Questions.{Question}
-use Rattle.test_select.specs.Selecting.{IsAvailableBinary, IsLetThrough, TextsHold, IsAsked, IsAnswered, RefusesText}
+use Rattle.test_select.specs.Questions.{Question, WantedIn}
+use Rattle.test_select.specs.Selecting.{IsAvailableBinary, IsWanted, TextsHold, IsAsked, IsAnswered, RefusesText}
+use Rattle.test_select.specs.declared.asked_binaries.AskedBinaries.{AskedBinaries}
 use Rattle.test_select.specs.declared.plan.Plan.{Plan}
 
--- a binary is available, and some test there may match
-abbrev pub MayMatch : (FeatureValue → Type 0) → List TestFilter → Binary → Type 0
-MayMatch on filters b = IsAvailable on b × IsTrue (any_may_match filters b.owner.id)
+-- a binary is available and wanted, it being let through where some test there may match
+abbrev pub MayMatch : AskedBinaries → (FeatureValue → Type 0) → List TestFilter → Binary → Type 0
+MayMatch asks on filters b = IsAvailable on b × WantedIn asks (IsTrue (any_may_match filters b.owner.id))
 
 -- what compiling the texts of a question comes to
 abbrev pub CompilesFor : Workspace → (Link → Type 0) → List Text → Result (Vec TestFilter Global) SelectError → Type 0
@@ -40,7 +41,7 @@ module _ (q : Question) where
   pub record IsPlan (filters : List TestFilter) (asked : List Binary) : Type 0 where
     pub answered : IsAnswered q
     pub ids : IsAsked q (map (λ b. b.id) asked)
-    pub binaries : (b : Binary) → Contains asked b ↔ (IsAvailableBinary q b × IsLetThrough q b)
+    pub binaries : (b : Binary) → Contains asked b ↔ (IsAvailableBinary q b × IsWanted q b)
     pub holds : (b : Binary) (test : Text) → IsTrue (any_matches filters b.owner.id test) ↔ TextsHold q b test
 
   -- what planning comes to

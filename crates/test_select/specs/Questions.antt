@@ -7,16 +7,24 @@ use Rattle.workspace_record.specs.declared.choice.PlatformTable.{PlatformTable}
 use Rattle.feature_account.specs.Closed.{IsOn}
 use Rattle.feature_account.specs.RuleList.{rule_list}
 use Rattle.feature_switching.specs.OnLines.{LinkIsOn}
+use Rattle.test_select.specs.declared.asked_binaries.AskedBinaries.{AskedBinaries}
+use Rattle.test_select.specs.declared.asked_binaries.AskedBinaries.TheVariants.{LetThrough, Available}
 use Rattle.test_select.specs.declared.scope.LinkScope.{LinkScope}
 use Rattle.test_select.specs.declared.scope.LinkScope.TheVariants.{SwitchedOn, Declared}
 
--- the tests of which workspace, under which choice, on which platform, over which links, and by which texts
+-- the tests of which workspace, under which choice, on which platform, over which links, by which texts, and which available binaries are asked
 pub record Question : Type 0 where
   pub workspace : Workspace
   pub choice : Choice
   pub table : PlatformTable
   pub scope : LinkScope
   pub texts : List Text
+  pub asks : AskedBinaries
+
+-- a binary is wanted, where this says that it is let through
+abbrev pub WantedIn : AskedBinaries → Type 0 → Type 0
+WantedIn LetThrough through = through
+WantedIn Available through = Unit {0}
 
 -- a link leads on in the scope: where links have to be on, it is
 abbrev pub LeadsOn : Workspace → PlatformTable → (FeatureValue → Type 0) → LinkScope → Link → Type 0

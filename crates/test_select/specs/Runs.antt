@@ -8,6 +8,7 @@ use Rattle.test_lister.specs.Listers.{Shown}
 use Rattle.feature_switching.specs.declared.select_error.SelectError.{SelectError}
 use Rattle.test_select.specs.Selecting.{Answers}
 use Rattle.test_select.specs.Selections.{Selected}
+use Rattle.test_select.specs.declared.asked_binaries.AskedBinaries.{AskedBinaries}
 use Rattle.test_select.specs.declared.scope.LinkScope.TheVariants as scope
 
 -- nothing is known of the platform, and what is unknown counts
@@ -20,5 +21,5 @@ abbrev pub default_choice : Choice
 default_choice = record { standard = standard.Default; extras = [] }
 
 -- a selection over the links that are on, on a platform of which nothing is known
-abbrev pub AnswersOnUnknownPlatform : Workspace → Choice → List Text → Shown → Result Selected SelectError → Shown → Type 0
-AnswersOnUnknownPlatform w choice texts old result new = (table : PlatformTable) × KnowsNothing table × Answers (record { workspace = w; choice = choice; table = table; scope = scope.SwitchedOn; texts = texts }) old result new
+abbrev pub AnswersOnUnknownPlatform : Workspace → Choice → List Text → AskedBinaries → Shown → Result Selected SelectError → Shown → Type 0
+AnswersOnUnknownPlatform w choice texts asks old result new = (table : PlatformTable) × KnowsNothing table × Answers (record { workspace = w; choice = choice; table = table; scope = scope.SwitchedOn; texts = texts; asks = asks }) old result new

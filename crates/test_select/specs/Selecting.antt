@@ -16,7 +16,7 @@ use Rattle.feature_switching.specs.OnLines.{IsAvailable}
 use Rattle.feature_switching.specs.Switching.{IsRefused, unknown_extra}
 use Rattle.feature_switching.specs.declared.select_error.SelectError.{SelectError}
 use Rattle.feature_switching.specs.declared.select_error.SelectError.TheVariants.{Record, UnknownExtra, Filter, Lister, BadListing, Memory}
-use Rattle.test_select.specs.Questions.{Question, IsFeatureOn, IsFollowed}
+use Rattle.test_select.specs.Questions.{Question, WantedIn, IsFeatureOn, IsFollowed}
 use Rattle.test_select.specs.Selections.{Selected}
 
 module _ (q : Question) where
@@ -33,6 +33,10 @@ module _ (q : Question) where
   abbrev pub IsLetThrough : Binary → Type 0
   IsLetThrough b = SomeTextMayHold q.workspace (IsInContext q.workspace) (IsFollowed q) (given_texts q.texts) b.owner.id
 
+  -- the binary is to be asked, if it is available: each is, or those that are let through
+  abbrev pub IsWanted : Binary → Type 0
+  IsWanted b = WantedIn q.asks (IsLetThrough b)
+
   -- the test of a binary: it is available, its listing holds the test, and one of the texts holds
   pub record IsChosen (listing_of : Text → Option (List Text)) (pair : Text × Text) : Type 0 where
     pub binary : Binary
@@ -48,9 +52,9 @@ module _ (q : Question) where
     pub members : (pair : Text × Text) → Contains pairs pair ↔ IsChosen listing_of pair
     pub ascending : IsStrictlySortedBy pair_cmp pairs
 
-  -- the ids of the binaries that are available and let through, ascending, each once
+  -- the ids of the binaries that are available and wanted, ascending, each once
   pub record IsAsked (ids : List Text) : Type 0 where
-    pub members : (id : Text) → Contains ids id ↔ ((b : Binary) × (b.id ≡ id) × IsAvailableBinary b × IsLetThrough b)
+    pub members : (id : Text) → Contains ids id ↔ ((b : Binary) × (b.id ≡ id) × IsAvailableBinary b × IsWanted b)
     pub ascending : IsStrictlySortedBy text_cmp ids
 
   -- the record is served, the extras are known, and the texts are accepted
@@ -67,7 +71,7 @@ module _ (q : Question) where
     pub only : faults ≡ fault ∷ []
     pub first : FirstRefused q.workspace (IsInContext q.workspace) q.texts place fault
 
-  -- the chosen tests, from a lister that was asked for each binary that is let through, answered each time, and has a well-formed listing for each
+  -- the chosen tests, from a lister that was asked for each binary that is wanted, answered each time, and has a well-formed listing for each
   pub record Selects (old : Shown) (selection : Selected) (new : Shown) : Type 0 where
     pub answered : IsAnswered
     pub asked : IsAsked selection.asked

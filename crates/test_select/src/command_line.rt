@@ -1,5 +1,6 @@
 //! The command line, as `clap` reads it.
 
+use crate::asked_binaries::AskedBinaries;
 use clap::{Arg, ArgAction, ArgMatches, Command};
 use std::alloc::{AllocError, Global};
 
@@ -32,6 +33,7 @@ fn tests_command<'a>(alloc: Global) -> Result<Command<'a>, AllocError> {
         .arg(record_option(alloc))?
         .arg(listings_option(alloc))?
         .arg(choice_option(alloc))?
+        .arg(plain_flag(alloc))?
         .arg(filter_words(alloc))
 }
 
@@ -99,6 +101,13 @@ fn file_option<'a>(alloc: Global, name: &'a str) -> Arg<'a> {
         .action(ArgAction::Set)
 }
 
+fn plain_flag<'a>(alloc: Global) -> Arg<'a> {
+    Arg::new(alloc, "plain")
+        .long("plain")
+        .action(ArgAction::SetTrue)
+        .help("Asks each available binary for its tests, also where no filter can hold of one")
+}
+
 fn filter_words<'a>(alloc: Global) -> Arg<'a> {
     Arg::new(alloc, "filter")
         .value_name("FILTER")
@@ -133,6 +142,15 @@ pub(crate) fn account_file<'a>(asked: &ArgMatches<'a>) -> &'a str {
 /// The value of a required option, without which `clap` takes no command line.
 fn required<'a>(asked: &ArgMatches<'a>, name: &str) -> &'a str {
     asked.get_str(name).unwrap_or("")
+}
+
+/// Which available binaries the command line has asked for.
+pub(crate) fn asked_binaries(asked: &ArgMatches<'_>) -> AskedBinaries {
+    if asked.get_flag("plain") {
+        AskedBinaries::Available
+    } else {
+        AskedBinaries::LetThrough
+    }
 }
 
 /// The filter texts of the command line, in its order.

@@ -3,12 +3,14 @@
 #![tactic(auto)]
 
 mod accounts;
+mod asked_binaries;
 mod asking;
 mod command_line;
 mod failure;
 mod file_source;
 mod followed;
 mod inputs;
+pub mod laws;
 mod plan;
 mod program;
 mod report;
@@ -21,7 +23,7 @@ pub use crate::file_source::{FileFault, FileSource};
 pub use crate::program::run;
 pub use crate::report::write_report;
 pub use crate::scope::LinkScope;
-pub use crate::selecting::select;
+pub use crate::selecting::{select, select_plain};
 pub use crate::selection::Selection;
 pub use feature_account::{
     Feature, FeatureChoice, FeatureRecord, GroupRecord, Label, LineKind, LineRecord, LinkRecord,

@@ -5,9 +5,12 @@ ghost use Rattle.list_facts.specs.Ascending.{IsAscendingOf, text_cmp};
 ghost use Rattle.record_rules.specs.Binaries.{binaries};
 ghost use Rattle.record_rules.specs.BinaryView.{binary_view};
 ghost use Rattle.test_select.specs.Kept.{HoldsThose};
+ghost use Rattle.filter_texts.specs.Compiled.{any_may_match};
 ghost use Rattle.test_select.specs.Plans.{Plans, CompilesFor, MayMatch};
+ghost use Rattle.test_select.specs.Questions.{WantedIn};
 ghost use Rattle.record_rules.specs.declared.binaries.TestBinary.{TestBinary};
 
+use crate::asked_binaries::AskedBinaries;
 use crate::followed::followed_links;
 use crate::scope::LinkScope;
 use feature_switching::availability::is_available;
@@ -31,13 +34,14 @@ pub(crate) fn make_plan<'r, 't>(
     table: &PlatformTable,
     scope: LinkScope,
     texts: &[&'t str],
+    asks: AskedBinaries,
 ) -> Result<Plan<'r, 't>, SelectError>
-    ensures { Plans (record { workspace = record.entry.now; choice = choice.now; table = table.now; scope = scope; texts = map (λ t. t.now) texts.now }) result }
+    ensures { Plans (record { workspace = record.entry.now; choice = choice.now; table = table.now; scope = scope; texts = map (λ t. t.now) texts.now; asks = asks }) result }
 {
     let on = features_on(alloc, record, choice, table)?;
     let links = followed_links(alloc, record, table, scope, &on)?;
     let filters = filters_of(alloc, record, &links, texts)?;
-    let asked = sorted_binaries(let_through(alloc, record, &on, &filters)?)?;
+    let asked = sorted_binaries(let_through(alloc, record, &on, &filters, asks)?)?;
     Ok(Plan { filters, asked })
 }
 
@@ -67,29 +71,45 @@ fn one_fault(alloc: Global, fault: ParseSingleError) -> Result<Vec<ParseSingleEr
     Ok(faults)
 }
 
-/// The available binaries of which some test may be chosen, in the record's order.
+/// The available binaries that are wanted, in the record's order.
 fn let_through<'r>(
     alloc: Global,
     record: &'r WorkspaceRecord,
     on: &FeaturesOn,
     filters: &[TestFilter<'_, '_>],
+    asks: AskedBinaries,
 ) -> Result<Vec<TestBinary<'r>>, AllocError>
-    ensures { IfOk result (λ v. HoldsThose (MayMatch (λ f. Contains on.now f) filters.now) (binaries record.entry.now) (map binary_view v.items)) }
+    ensures { IfOk result (λ v. HoldsThose (MayMatch asks (λ f. Contains on.now f) filters.now) (binaries record.entry.now) (map binary_view v.items)) }
 {
     let mut kept: Vec<TestBinary<'r>> = Vec::new(alloc);
     for binary in binaries(alloc, record)? {
-        if may_match(on, filters, &binary) {
+        if may_match(on, filters, asks, &binary) {
             kept.push(binary)?;
         }
     }
     Ok(kept)
 }
 
-fn may_match(on: &FeaturesOn, filters: &[TestFilter<'_, '_>], binary: &TestBinary<'_>) -> bool
-    ensures { IsTrue result ↔ MayMatch (λ f. Contains on.now f) filters.now (binary_view binary.now) }
+fn may_match(
+    on: &FeaturesOn,
+    filters: &[TestFilter<'_, '_>],
+    asks: AskedBinaries,
+    binary: &TestBinary<'_>,
+) -> bool
+    ensures { IsTrue result ↔ MayMatch asks (λ f. Contains on.now f) filters.now (binary_view binary.now) }
 {
     let (row, target) = (binary.row, binary.target);
-    is_available(on, row.id.as_str(), target) && any_may_match(filters, row.id.as_str())
+    is_available(on, row.id.as_str(), target) && is_wanted(filters, asks, row.id.as_str())
+}
+
+/// Whether binaries of the package are wanted.
+fn is_wanted(filters: &[TestFilter<'_, '_>], asks: AskedBinaries, package_id: &str) -> bool
+    ensures { IsTrue result ↔ WantedIn asks (IsTrue (any_may_match filters.now package_id.now)) }
+{
+    match asks {
+        AskedBinaries::Available => true,
+        AskedBinaries::LetThrough => any_may_match(filters, package_id),
+    }
 }
 
 fn sorted_binaries(mut all: Vec<TestBinary<'_>>) -> Result<Vec<TestBinary<'_>>, AllocError>

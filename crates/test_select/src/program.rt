@@ -4,7 +4,7 @@ ghost use Rattle.std.specs.Prelude.{◌≡◌, ◌≤◌, IfErr};
 ghost use Rattle.test_select.specs.Failures.{status_of};
 
 use crate::accounts::{print_account, print_verdict};
-use crate::command_line::{command, filters_in, tests_files};
+use crate::command_line::{asked_binaries, command, filters_in, tests_files};
 use crate::failure::Failure;
 use crate::file_source::FileSource;
 use crate::inputs::tests_inputs;
@@ -20,10 +20,10 @@ use test_lister::FileLister;
 /// status that it ends with: 0 if all was done, 1 if something was refused or failed, and 2 for a
 /// bad command line.
 ///
-/// `test_select tests --record F --listings F [--choice F] [FILTER]...` reads and decodes the record,
+/// `test_select tests --record F --listings F [--choice F] [--plain] [FILTER]...` reads and decodes the record,
 /// the choice and the listings, one by one and in this order, then selects, and writes the report to
 /// `out`. Without a choice the default features are on. Nothing is known of the platform, and links
-/// that are on are followed.
+/// that are on are followed. With `--plain` each available binary is asked for.
 ///
 /// `test_select account --record F [--choice F] [--table F]` writes the account of what is on, and
 /// `test_select check --record F [--choice F] [--table F] --account F` what is to be said of an account:
@@ -101,6 +101,7 @@ fn print_tests<'a, O: Write>(
         record,
         choice,
         filters_in(asked),
+        asked_binaries(asked),
         &mut lister,
     )?;
     write_report(&selection, out)?;

@@ -2,7 +2,9 @@
 
 ghost use Rattle.std.specs.Prelude.{map};
 ghost use Rattle.test_select.specs.Selecting.{Answers};
+ghost use Rattle.test_select.specs.declared.asked_binaries.AskedBinaries.TheVariants.{Available, LetThrough};
 
+use crate::asked_binaries::AskedBinaries;
 use crate::asking::carry_out;
 use crate::plan::make_plan;
 use crate::scope::LinkScope;
@@ -28,8 +30,25 @@ pub fn select(
     texts: &[&str],
     lister: &mut dyn TestLister,
 ) -> Result<Selection, SelectError>
-    ensures { Answers (record { workspace = record.now; choice = choice.now; table = table.now; scope = scope; texts = map (λ t. t.now) texts.now }) (shown lister.old) result (shown lister.new) }
+    ensures { Answers (record { workspace = record.now; choice = choice.now; table = table.now; scope = scope; texts = map (λ t. t.now) texts.now; asks = LetThrough }) (shown lister.old) result (shown lister.new) }
 {
-    let plan = make_plan(alloc, record, choice, table, scope, texts)?;
+    let plan = make_plan(alloc, record, choice, table, scope, texts, AskedBinaries::LetThrough)?;
+    carry_out(alloc, &plan, lister)
+}
+
+/// The same tests, by a lister that is asked for each available binary, also where no test of it can be
+/// chosen.
+pub fn select_plain(
+    alloc: Global,
+    record: &WorkspaceRecord,
+    choice: &FeatureChoice,
+    table: &PlatformTable,
+    scope: LinkScope,
+    texts: &[&str],
+    lister: &mut dyn TestLister,
+) -> Result<Selection, SelectError>
+    ensures answers { Answers (record { workspace = record.now; choice = choice.now; table = table.now; scope = scope; texts = map (λ t. t.now) texts.now; asks = Available }) (shown lister.old) result (shown lister.new) }
+{
+    let plan = make_plan(alloc, record, choice, table, scope, texts, AskedBinaries::Available)?;
     carry_out(alloc, &plan, lister)
 }

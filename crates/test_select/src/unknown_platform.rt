@@ -3,8 +3,9 @@
 ghost use Rattle.std.specs.Prelude.{map};
 ghost use Rattle.test_select.specs.Runs.{KnowsNothing, AnswersOnUnknownPlatform};
 
+use crate::asked_binaries::AskedBinaries;
 use crate::scope::LinkScope;
-use crate::selecting::select;
+use crate::selecting::{select, select_plain};
 use crate::selection::Selection;
 use feature_switching::SelectError;
 use indexmap::IndexMap;
@@ -18,13 +19,17 @@ pub(crate) fn select_on_unknown_platform(
     record: &WorkspaceRecord,
     choice: &FeatureChoice,
     texts: &[&str],
+    asks: AskedBinaries,
     lister: &mut dyn TestLister,
 ) -> Result<Selection, SelectError>
-    ensures { AnswersOnUnknownPlatform record.now choice.now (map (λ t. t.now) texts.now) (shown lister.old) result (shown lister.new) }
+    ensures { AnswersOnUnknownPlatform record.now choice.now (map (λ t. t.now) texts.now) asks (shown lister.old) result (shown lister.new) }
 {
     let table = nothing_known(alloc);
     let scope = LinkScope::SwitchedOn;
-    select(alloc, record, choice, &table, scope, texts, lister)
+    match asks {
+        AskedBinaries::LetThrough => select(alloc, record, choice, &table, scope, texts, lister),
+        AskedBinaries::Available => select_plain(alloc, record, choice, &table, scope, texts, lister),
+    }
 }
 
 /// The table of a platform of which nothing is known.

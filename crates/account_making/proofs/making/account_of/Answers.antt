@@ -3,7 +3,7 @@ use Rattle.std.specs.BTreeSet.{btree_set_len}
 use Rattle.std.proofs.lemmas.Option.{slice_get-get_or}
 use Rattle.feature_account.specs.Accounts.{conclusions}
 use Rattle.account_making.proofs.Concluding.{left_out}
-use Rattle.account_making.proofs.SearchFacts.{Keeps, search_begins, passes_over, goes_on, looks_end, is_lowest, concludes_what_is_on, looks_are, empty_where_none}
+use Rattle.account_making.proofs.SearchFacts.{Keeps, search_begins, passes_over, goes_on, looks_end, is_lowest, concludes_what_is_on, looks_are}
 use Rattle.account_making.proofs.making.account_of.Goals as goal
 
 pub loop-number-init : goal.loop-number-init
@@ -15,7 +15,7 @@ loop-number-preserved c =
     let n = c.in-Some.number in
     let rule = c.index-rules-number.result in
     let before = c.loop-number.invariant in
-    passes_over rules c.loop-number.ready c.pop_first.new.self c.loop-number.found c.loop-number.account.items c.loop-number.looks n rule before (slice_get-get_or rules n rule (before.known n c.in-Some.ensures.member) ∙ ap Some (sym c.index-rules-number.is)) c.in-Some.ensures.updates c.in-Some.ensures.len (sym c.is_open.ensures.answer ∙ c.if-is_open.false)
+    passes_over rules c.loop-number.ready c.take_least.new.ready c.loop-number.found c.loop-number.account.items c.loop-number.looks n rule before (slice_get-get_or rules n rule (before.known n c.in-Some.ensures.least.member) ∙ ap Some (sym c.index-rules-number.is)) c.in-Some.ensures.least.updates c.in-Some.ensures.least.len (sym c.is_open.ensures.answer ∙ c.if-is_open.false)
 
 pub loop-number-preserved-in-Continue-branch-5 : goal.loop-number-preserved-in-Continue-branch-5
 loop-number-preserved-in-Continue-branch-5 c =
@@ -24,7 +24,7 @@ loop-number-preserved-in-Continue-branch-5 c =
     let rule = c.index-rules-number.result in
     let before = c.loop-number.invariant in
     let account = c.loop-number.account.items in
-    let on = goes_on rules c.loop-number.ready c.pop_first.new.self c.loop-number.found account c.loop-number.looks n rule before (slice_get-get_or rules n rule (before.known n c.in-Some.ensures.member) ∙ ap Some (sym c.index-rules-number.is)) c.in-Some.ensures.updates c.in-Some.ensures.len (sym c.is_open.ensures.answer ∙ c.if-is_open.true) c.in-Some.ensures.least c.in_ok-waiting.waiting c.in_ok-waiting.ensures c.wake.new.ready c.insert.new.found c.in_ok-insert.ensures.found c.in_ok-wake.ensures in
+    let on = goes_on rules c.loop-number.ready c.take_least.new.ready c.loop-number.found account c.loop-number.looks n rule before (slice_get-get_or rules n rule (before.known n c.in-Some.ensures.least.member) ∙ ap Some (sym c.index-rules-number.is)) c.in-Some.ensures.least.updates c.in-Some.ensures.least.len (sym c.is_open.ensures.answer ∙ c.if-is_open.true) c.in-Some.ensures.least.least c.in_ok-waiting.waiting c.in_ok-waiting.ensures c.wake.new.ready c.insert.new.found c.in_ok-insert.ensures.found c.in_ok-wake.ensures in
     subst (λ xs. Keeps rules c.wake.new.ready c.insert.new.found xs (c.loop-number.looks + 1)) (sym c.in_ok-push.ensures.items) on
 
 pub loop-number-smaller-in-Continue-branch-5 : goal.loop-number-smaller-in-Continue-branch-5
@@ -34,20 +34,20 @@ loop-number-smaller-in-Continue-branch-5 c =
     let rule = c.index-rules-number.result in
     let before = c.loop-number.invariant in
     let account = c.loop-number.account.items in
-    let fewer = looks_end rules c.loop-number.ready c.pop_first.new.self c.loop-number.found account c.loop-number.looks n rule before (slice_get-get_or rules n rule (before.known n c.in-Some.ensures.member) ∙ ap Some (sym c.index-rules-number.is)) c.in-Some.ensures.updates c.in-Some.ensures.len (sym c.is_open.ensures.answer ∙ c.if-is_open.true) c.in-Some.ensures.least c.in_ok-waiting.waiting c.in_ok-waiting.ensures c.wake.new.ready c.insert.new.found c.in_ok-insert.ensures.found c.in_ok-wake.ensures in
+    let fewer = looks_end rules c.loop-number.ready c.take_least.new.ready c.loop-number.found account c.loop-number.looks n rule before (slice_get-get_or rules n rule (before.known n c.in-Some.ensures.least.member) ∙ ap Some (sym c.index-rules-number.is)) c.in-Some.ensures.least.updates c.in-Some.ensures.least.len (sym c.is_open.ensures.answer ∙ c.if-is_open.true) c.in-Some.ensures.least.least c.in_ok-waiting.waiting c.in_ok-waiting.ensures c.wake.new.ready c.insert.new.found c.in_ok-insert.ensures.found c.in_ok-wake.ensures in
     subst (λ xs. left_out rules (conclusions rules xs) * (length rules + 1) + btree_set_len c.wake.new.ready < left_out rules (conclusions rules account) * (length rules + 1) + btree_set_len c.loop-number.ready) (sym c.in_ok-push.ensures.items) fewer
 
 pub returns-clause-lowest : goal.returns-clause-lowest
 returns-clause-lowest c =
-    let empty = empty_where_none (btree_set_len c.loop-number.ready) c.in_default.ensures.variant.1 in
+    let empty = c.in_default.ensures.none in
     is_lowest c.args.rules.now c.loop-number.ready c.loop-number.found c.loop-number.account.items c.loop-number.looks c.loop-number.invariant empty
 
 pub returns-clause-on : goal.returns-clause-on
 returns-clause-on c = λ f.
-    let empty = empty_where_none (btree_set_len c.loop-number.ready) c.in_default.ensures.variant.1 in
+    let empty = c.in_default.ensures.none in
     concludes_what_is_on c.args.rules.now c.loop-number.ready c.loop-number.found c.loop-number.account.items c.loop-number.looks c.loop-number.invariant empty f
 
 pub returns-clause-looks : goal.returns-clause-looks
 returns-clause-looks c =
-    let empty = empty_where_none (btree_set_len c.loop-number.ready) c.in_default.ensures.variant.1 in
+    let empty = c.in_default.ensures.none in
     looks_are c.args.rules.now c.loop-number.ready c.loop-number.found c.loop-number.account.items c.loop-number.looks c.loop-number.invariant empty

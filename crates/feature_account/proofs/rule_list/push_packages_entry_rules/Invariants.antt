@@ -3,5 +3,5 @@ use Rattle.std.specs.List.{flat_map}
 use Rattle.feature_account.specs.RuleList.{entry_rules}
 use Rattle.feature_account.proofs.rule_list.push_packages_entry_rules.Given as goal
 
-abbrev pub invariant-loop-row : goal.invariant-loop-row
-invariant-loop-row l = l.rules.items ≡ l.fn.rules.items ++ flat_map (entry_rules l.record l.table) (map (λ p. p.now) (take l.row-index l.packages))
+abbrev pub invariant-loop-owner : goal.invariant-loop-owner
+invariant-loop-owner l = l.rules.items ≡ l.fn.rules.items ++ flat_map (entry_rules l.index l.table) (take l.owner-index l.packages)

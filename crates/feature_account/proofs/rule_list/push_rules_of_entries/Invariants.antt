@@ -5,4 +5,4 @@ use Rattle.feature_account.specs.RuleList.{rules_of_entry}
 use Rattle.feature_account.proofs.rule_list.push_rules_of_entries.Given as goal
 
 abbrev pub invariant-loop-entry : goal.invariant-loop-entry
-invariant-loop-entry l = l.rules.items ≡ l.fn.rules.items ++ flat_map (λ e. rules_of_entry l.record l.table l.row l.premise (entry_value e)) (map string_bytes (take l.entry-index l.entries))
+invariant-loop-entry l = l.rules.items ≡ l.fn.rules.items ++ flat_map (λ e. rules_of_entry l.index l.table l.owner l.premise (entry_value e)) (map string_bytes (take l.entry-index l.entries))

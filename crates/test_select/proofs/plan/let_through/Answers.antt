@@ -11,17 +11,17 @@ use Rattle.test_select.proofs.plan.let_through.Goals as goal
 
 pub loop-binary-preserved-in-Continue-branch-2 : goal.loop-binary-preserved-in-Continue-branch-2
 loop-binary-preserved-in-Continue-branch-2 c =
-    let may : Binary → Type 0 = MayMatch (λ f. Contains c.args.on.now f) c.args.filters.now in
+    let may : Binary → Type 0 = MayMatch c.args.asks (λ f. Contains c.args.on.now f) c.args.filters.now in
     kept_map_one may binary_view c.loop-binary.yielded c.loop-binary.kept.items c.push.new.self.items c.in-Some.binary c.loop-binary.invariant (c.may_match.ensures.0 c.if-may_match.true) c.in_ok-push.ensures.items
 
 pub loop-binary-preserved : goal.loop-binary-preserved
 loop-binary-preserved c =
-    let may : Binary → Type 0 = MayMatch (λ f. Contains c.args.on.now f) c.args.filters.now in
+    let may : Binary → Type 0 = MayMatch c.args.asks (λ f. Contains c.args.on.now f) c.args.filters.now in
     kept_map_off may binary_view c.loop-binary.yielded c.loop-binary.kept.items c.in-Some.binary c.loop-binary.invariant (λ h. true≢false (sym (c.may_match.ensures.1 h) ∙ c.if-may_match.false))
 
 pub returns : goal.returns
 returns c =
-    let may : Binary → Type 0 = MayMatch (λ f. Contains c.args.on.now f) c.args.filters.now in
+    let may : Binary → Type 0 = MayMatch c.args.asks (λ f. Contains c.args.on.now f) c.args.filters.now in
     let size : c.into_iter-binary-iterator.result.rest.len ≡ length c.in_ok-binary-items.binary-items.items = cc in
     let first : c.into_iter-binary-iterator.result.rest.items ≡ c.in_ok-binary-items.binary-items.items = cc in
     let end = YieldsList-end (YieldsList-from_vec {s = c.into_iter-binary-iterator.result} c.in_ok-binary-items.binary-items.items first size) c.loop-binary.yielded c.loop-binary.binary-iterator c.loop-binary.yielded_by c.next.result c.next.new.self c.in-None.is c.next.ensures.steps in

@@ -5,4 +5,4 @@ use Rattle.test_select.specs.Plans.{MayMatch}
 use Rattle.test_select.proofs.plan.let_through.Given as goal
 
 abbrev pub invariant-loop-binary : goal.invariant-loop-binary
-invariant-loop-binary l = HoldsThose (MayMatch (λ f. Contains l.on f) l.filters) (map binary_view l.yielded) (map binary_view l.kept.items)
+invariant-loop-binary l = HoldsThose (MayMatch l.asks (λ f. Contains l.on f) l.filters) (map binary_view l.yielded) (map binary_view l.kept.items)

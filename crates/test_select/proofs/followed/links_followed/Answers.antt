@@ -5,12 +5,12 @@ use Rattle.workspace_record.specs.Records.{Link}
 use Rattle.test_select.specs.Kept.{HoldsThose}
 use Rattle.test_select.specs.Questions.{LeadsOn}
 use Rattle.test_select.proofs.KeptFacts.{kept_take_one, kept_take_off}
-use Rattle.test_select.proofs.followed.followed_links.Goals as goal
-use Rattle.test_select.proofs.followed.followed_links.Goals.{then-is_followed+in_ok-push, else-is_followed}
+use Rattle.test_select.proofs.followed.links_followed.Goals as goal
+use Rattle.test_select.proofs.followed.links_followed.Goals.{then-is_followed+in_ok-push, else-is_followed}
 
 pub loop-link-preserved : goal.loop-link-preserved
 loop-link-preserved c =
-    let leads : Link → Type 0 = LeadsOn c.args.record.now c.args.table.now (λ f. Contains c.args.on.now f) c.args.scope in
+    let leads : Link → Type 0 = LeadsOn c.args.index.now c.args.table.now (λ f. Contains c.args.on.now f) c.args.scope in
     let items = c.deref-link-items.result.now in
     let i = c.loop-link.link-index in
     let now : Bor Link → Link = λ k. k.now in
@@ -18,5 +18,5 @@ loop-link-preserved c =
 
 pub returns : goal.returns
 returns c =
-    let leads : Link → Type 0 = LeadsOn c.args.record.now c.args.table.now (λ f. Contains c.args.on.now f) c.args.scope in
-    subst (λ ls. HoldsThose leads ls (map (λ (k : Bor Link). k.now) c.loop-link.links.items)) (take_all c.loop-link.link-index c.deref-link-items.result.now c.loop-link-test.false ∙ c.deref-link-items.ensures.value ∙ ap (λ r. r.links) c.record.view_is) c.loop-link.invariant
+    let leads : Link → Type 0 = LeadsOn c.args.index.now c.args.table.now (λ f. Contains c.args.on.now f) c.args.scope in
+    subst (λ ls. HoldsThose leads ls (map (λ (k : Bor Link). k.now) c.loop-link.links.items)) (take_all c.loop-link.link-index c.deref-link-items.result.now c.loop-link-test.false ∙ c.deref-link-items.ensures.value ∙ ap (λ r. r.links) (c.record.view_is ∙ c.record-record.ensures.value)) c.loop-link.invariant
