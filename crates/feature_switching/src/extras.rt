@@ -1,14 +1,26 @@
 //! The extra features of a choice, against what workspace packages have.
 
-ghost use Rattle.std.specs.Prelude.{◌≡◌, not, position};
+ghost use Rattle.std.specs.Prelude.{◌≡◌, IfOk, not, position};
 ghost use Rattle.workspace_record.specs.LabelView.{label_view};
 ghost use Rattle.feature_switching.specs.Extras.{has_label, is_found_feature, is_known_extra};
 
 use record_index::{PackageIndex, RecordIndex};
-use workspace_record::{Feature, FeatureChoice, Label};
+use std::alloc::{AllocError, Global};
+use workspace_record::{Feature, FeatureChoice, Label, WorkspaceRecord};
 
 /// The place of the first extra that no workspace package has.
-pub(crate) fn unknown_extra(index: &RecordIndex<'_>, choice: &FeatureChoice) -> Option<usize>
+pub(crate) fn unknown_extra(
+    alloc: Global,
+    record: &WorkspaceRecord,
+    choice: &FeatureChoice,
+) -> Result<Option<usize>, AllocError>
+    ensures { IfOk result (λ place. place ≡ position (λ f. not (is_known_extra record.now f)) choice.now.extras) }
+{
+    let index = RecordIndex::of(alloc, record)?;
+    Ok(first_unknown(&index, choice))
+}
+
+fn first_unknown(index: &RecordIndex<'_>, choice: &FeatureChoice) -> Option<usize>
     ensures { result ≡ position (λ f. not (is_known_extra index.now f)) choice.now.extras }
 {
     choice

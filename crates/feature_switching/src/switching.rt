@@ -14,7 +14,6 @@ use crate::features::{FeaturesOn, features_of};
 use crate::select_error::SelectError;
 use account_making::{Account, account_of};
 use feature_account::rules;
-use record_index::RecordIndex;
 use record_rules::check_record;
 use std::alloc::{AllocError, Global};
 use workspace_record::{FeatureChoice, PlatformTable, WorkspaceRecord};
@@ -62,8 +61,7 @@ fn check_question(
     ensures { AnswersOrRefuses (λ _. IsServed record.now choice.now) record.now choice.now result }
 {
     check_record(alloc, record)?;
-    let index = RecordIndex::of(alloc, record)?;
-    match unknown_extra(&index, choice) {
+    match unknown_extra(alloc, record, choice)? {
         Some(place) => Err(SelectError::UnknownExtra(place)),
         None => Ok(()),
     }

@@ -3,7 +3,9 @@
 use crate::question::{Question, lister_in};
 use row_program::{Answers, Row, RowFault};
 use std::alloc::{AllocError, Global};
-use test_select::{FileLister, LinkScope, SelectError, Selection, select, select_plain, write_report};
+use test_select::{
+    FileLister, LinkScope, SelectError, Selection, select, select_plain, write_report,
+};
 
 /// Selects in the scope, and tells the report or what is refused, the ids that were asked and how many
 /// calls failed.

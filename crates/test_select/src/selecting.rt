@@ -32,7 +32,8 @@ pub fn select(
 ) -> Result<Selection, SelectError>
     ensures { Answers (record { workspace = record.now; choice = choice.now; table = table.now; scope = scope; texts = map (λ t. t.now) texts.now; asks = LetThrough }) (shown lister.old) result (shown lister.new) }
 {
-    let plan = make_plan(alloc, record, choice, table, scope, texts, AskedBinaries::LetThrough)?;
+    let asks = AskedBinaries::LetThrough;
+    let plan = make_plan(alloc, record, choice, table, scope, texts, asks)?;
     carry_out(alloc, &plan, lister)
 }
 
@@ -49,6 +50,7 @@ pub fn select_plain(
 ) -> Result<Selection, SelectError>
     ensures answers { Answers (record { workspace = record.now; choice = choice.now; table = table.now; scope = scope; texts = map (λ t. t.now) texts.now; asks = Available }) (shown lister.old) result (shown lister.new) }
 {
-    let plan = make_plan(alloc, record, choice, table, scope, texts, AskedBinaries::Available)?;
+    let asks = AskedBinaries::Available;
+    let plan = make_plan(alloc, record, choice, table, scope, texts, asks)?;
     carry_out(alloc, &plan, lister)
 }

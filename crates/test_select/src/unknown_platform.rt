@@ -28,7 +28,9 @@ pub(crate) fn select_on_unknown_platform(
     let scope = LinkScope::SwitchedOn;
     match asks {
         AskedBinaries::LetThrough => select(alloc, record, choice, &table, scope, texts, lister),
-        AskedBinaries::Available => select_plain(alloc, record, choice, &table, scope, texts, lister),
+        AskedBinaries::Available => select_plain(
+            alloc, record, choice, &table, scope, texts, lister,
+        ),
     }
 }
 

@@ -7,4 +7,4 @@ pub returns : goal.returns
 returns c =
     let on = c.args.on.now in
     let link = c.args.link.now in
-    subst (λ b. IsTrue b ↔ LinkIsOn c.args.record.now c.args.table.now (λ f. Contains on f) link) (sym c.has_line_on.ensures) (link_iff on c.args.record.now c.args.table.now link)
+    subst (λ b. IsTrue b ↔ LinkIsOn c.args.index.now c.args.table.now (λ f. Contains on f) link) (sym c.has_line_on.ensures) (link_iff on c.args.index.now c.args.table.now link)
