@@ -1,5 +1,5 @@
 -- From a plan that was carried out to the answer of the question.
-use Rattle.std.proofs.Common.{◌≡◌, ◌<◌, length, All, true, List, take, sym, subst, ◌↔◌, Contains, inr, Result, Ok, Err}
+use Rattle.std.proofs.Common.{◌≡◌, ◌<◌, length, All, true, List, take, sym, subst, ◌↔◌, Contains, inr, Option, Result, Ok, Err}
 use Rattle.std.specs.List.Sorted.{IsStrictlySortedBy}
 use Rattle.list_facts.specs.Ascending.{IsAscendingOf, pair_cmp, text_cmp}
 use Rattle.list_facts.proofs.Ascending.{one_ascending, pair_total, pair_exact, text_total, text_exact}
@@ -17,6 +17,7 @@ use Rattle.test_select.specs.Plans.{IsPlan}
 use Rattle.test_select.specs.Questions.{Question}
 use Rattle.test_select.specs.Selecting.{IsChosen, IsAsked, Selects, Answers}
 use Rattle.test_select.specs.Selections.{Selected}
+use Rattle.test_select.specs.declared.asked_binaries.AskedBinaries.{AskedBinaries}
 use Rattle.test_select.proofs.WantedFacts.{wanted_if}
 
 -- where a text holds of a test, some answers let its binary through
@@ -30,10 +31,36 @@ module _ (w : Workspace) (context : Text → Type 0) (among : Link → Type 0) w
   pub texts_may_hold : (texts : List Text) (package_id test : Text) → SomeTextHolds w context among texts package_id test → SomeTextMayHold w context among texts package_id
   texts_may_hold texts package_id test h = let t = h.2 in (h.0, h.1, (t.0, t.1, may_hold t.0 package_id test t.2))
 
+-- whether a test is chosen does not depend on which binaries are asked
+module _ (q : Question) (asks : AskedBinaries) (listing_of : Text → Option (List Text)) (pair : Text × Text) where
+  pub chosen_too : IsChosen q listing_of pair → IsChosen (record q { asks = asks }) listing_of pair
+  chosen_too h = record {
+    binary = h.binary;
+    available = record { declared = h.available.declared; available = h.available.available };
+    id = h.id;
+    names = h.names;
+    listing = h.listing;
+    listed = h.listed;
+    holds = h.holds;
+  }
+
+  pub chosen_before : IsChosen (record q { asks = asks }) listing_of pair → IsChosen q listing_of pair
+  chosen_before h = record {
+    binary = h.binary;
+    available = record { declared = h.available.declared; available = h.available.available };
+    id = h.id;
+    names = h.names;
+    listing = h.listing;
+    listed = h.listed;
+    holds = h.holds;
+  }
+
 -- two ascending lists of the same pairs are one
 pub one_report : {a b : List (Text × Text)} → ((pair : Text × Text) → Contains a pair ↔ Contains b pair) → IsStrictlySortedBy pair_cmp a → IsStrictlySortedBy pair_cmp b → a ≡ b
 one_report {a} {b} same ascending other =
-    one_ascending pair_total pair_exact a a b (record { members = λ pair. (λ h. h, λ h. h); ascending = ascending }) (record { members = same; ascending = other })
+    let itself : IsAscendingOf pair_cmp a a = record { members = λ pair. (λ h. h, λ h. h); ascending = ascending } in
+    let two : IsAscendingOf pair_cmp a b = record { members = λ pair. (λ h. (same pair).1 h, λ h. (same pair).0 h); ascending = other } in
+    one_ascending pair_total pair_exact a a b itself two
 
 module _ (q : Question) where
   -- the ids to ask for are one list
