@@ -2,6 +2,7 @@
 use Rattle.std.proofs.Common.{◌≡◌, ℕ, ◌<◌, ◌&&◌, ◌||◌, Bool, true, false, not, List, [], ◌∷◌, ◌++◌, Some, append-nil, append_assoc, refl, sym, ap, subst, ◌∙◌, ◌↔◌, slice_get, length, filter, Contains, true≢false}
 use Rattle.std.specs.List.{list_any}
 use Rattle.std.proofs.lemmas.List.Folds.{list_any-append}
+use Rattle.list_facts.proofs.Tests.{and_not_parts, not_mono}
 use Rattle.list_facts.proofs.Membership.{Contains-append_left, Contains-append_right, Contains-first}
 use Rattle.list_facts.proofs.Counting.{length-filter-lt}
 use Rattle.list_facts.proofs.Quantifiers.{list_any-from_Contains, list_any_cases}
@@ -11,7 +12,7 @@ use Rattle.feature_account.specs.Closed.{FeatureSet, has_premises, is_open}
 use Rattle.feature_account.specs.declared.rule.Premises.{Premises}
 use Rattle.feature_account.specs.declared.rule.Premises.TheVariants as premises
 use Rattle.feature_account.specs.declared.rule.Rule.{Rule}
-use Rattle.feature_account.proofs.AccountFacts.{concludes-push, conclusions-push, IsSoundAfter-push, is_open_both, Contains-slice_get}
+use Rattle.feature_account.proofs.AccountFacts.{concludes-push, conclusions-push, IsSoundAfter-push, Contains-slice_get}
 use Rattle.account_making.specs.Lowest.{IsLowestAfter}
 
 -- a list concludes what it holds
@@ -24,7 +25,7 @@ concluded_iff found f = (
 -- the number of an open rule may be the next entry
 pub sound-push : (rules : List Rule) (account : List ℕ) (n : ℕ) (r : Rule) → IsSound rules account → slice_get rules n ≡ Some r → is_open (concludes rules account) r ≡ true → IsSound rules (account ++ n ∷ [])
 sound-push rules account n r sound known opened =
-    let both = is_open_both _ _ opened in
+    let both = and_not_parts _ _ opened in
     let may : MayStand rules account r = record { new = both.1; supported = both.0 } in
     IsSoundAfter-push rules [] account n r sound known may
 
@@ -37,18 +38,13 @@ lowest-push rules earlier (m ∷ account) n lowest first =
 abbrev pub left_out : List Rule → List FeatureValue → ℕ
 left_out rules found = length (filter (λ r. not (concluded_set found r.conclusion)) rules)
 
-not_within : (a b : Bool) → (b ≡ true → a ≡ true) → not a ≡ true → not b ≡ true
-not_within true b h e = absurd (true≢false (sym e))
-not_within false true h e = absurd (true≢false (sym (h refl)))
-not_within false false h e = refl
-
 -- an open rule was left out, and is no more
 pub left_out-falls : (rules : List Rule) (found : List FeatureValue) (n : ℕ) (r : Rule) → slice_get rules n ≡ Some r → is_open (concluded_set found) r ≡ true → left_out rules (found ++ r.conclusion ∷ []) < left_out rules found
 left_out-falls rules found n r known opened =
-    let both = is_open_both (has_premises (concluded_set found) r.premises) (concluded_set found r.conclusion) opened in
+    let both = and_not_parts (has_premises (concluded_set found) r.premises) (concluded_set found r.conclusion) opened in
     let more = found ++ r.conclusion ∷ [] in
     let now_in = (concluded_iff more r.conclusion).1 (Contains-append_right found (r.conclusion ∷ []) r.conclusion (Contains-first r.conclusion [])) in
-    length-filter-lt (λ q. not (concluded_set found q.conclusion)) (λ q. not (concluded_set more q.conclusion)) (λ q. not_within _ _ (λ h. (concluded_iff more q.conclusion).1 (Contains-append_left found (r.conclusion ∷ []) q.conclusion ((concluded_iff found q.conclusion).0 h)))) rules r (Contains-slice_get rules n r known) (rw both.1) (rw now_in)
+    length-filter-lt (λ q. not (concluded_set found q.conclusion)) (λ q. not (concluded_set more q.conclusion)) (λ q. not_mono _ _ (λ h. (concluded_iff more q.conclusion).1 (Contains-append_left found (r.conclusion ∷ []) q.conclusion ((concluded_iff found q.conclusion).0 h)))) rules r (Contains-slice_get rules n r known) (rw both.1) (rw now_in)
 
 -- what is open depends on what the set has alone
 pub same_premises : (s t : FeatureSet) → ((f : FeatureValue) → s f ≡ t f) → (p : Premises) → has_premises s p ≡ has_premises t p

@@ -14,6 +14,7 @@ use Rattle.std.proofs.lemmas.List.Filters.{length-filter_both}
 use Rattle.std.proofs.lemmas.List.{take_all}
 use Rattle.std.proofs.lemmas.Nat.{mul-le}
 use Rattle.std.proofs.lemmas.Option.{slice_get_within, slice_get-get_or, get_or_from_slice_get}
+use Rattle.list_facts.proofs.Tests.{and_not_parts}
 use Rattle.workspace_record.specs.Equality.{equivalence}
 use Rattle.workspace_record.specs.Features.{FeatureValue, feature_eq, feature_cmp, features_decide}
 use Rattle.feature_account.specs.Accounts.{conclusions, concluded_set, concludes, IsSound, IsFirstOpen}
@@ -21,7 +22,7 @@ use Rattle.feature_account.specs.Closed.{FeatureSet, has_premises, is_open, IsCl
 use Rattle.feature_account.specs.declared.rule.Premises.{Premises}
 use Rattle.feature_account.specs.declared.rule.Premises.TheVariants as premises
 use Rattle.feature_account.specs.declared.rule.Rule.{Rule}
-use Rattle.feature_account.proofs.AccountFacts.{concludes-push, conclusions-push, is_open_both}
+use Rattle.feature_account.proofs.AccountFacts.{concludes-push, conclusions-push}
 use Rattle.feature_account.proofs.ClosedSets.{concludes_iff}
 use Rattle.account_making.specs.Lowest.{IsLowestAfter, IsLowestAccount, IsLooksOf}
 use Rattle.feature_account.specs.Found.{found_set}
@@ -52,7 +53,7 @@ closed_where_none rules s none r inside held = not_open _ _ (none inside.0 r (sl
 -- one feature more may open a rule only if the rule waits for it
 newly_open : (s t : FeatureSet) (c : FeatureValue) → ((f : FeatureValue) → t f ≡ (s f || (feature_eq f c || false))) → (r : Rule) → is_open t r ≡ true → (is_open s r ≡ true) ⊎ (waits_for r.premises c ≡ true)
 newly_open s t c grown r h =
-    let both = is_open_both (has_premises t r.premises) (t r.conclusion) h in
+    let both = and_not_parts (has_premises t r.premises) (t r.conclusion) h in
     let still_out : s r.conclusion ≡ false = (or_parts (s r.conclusion) _ (sym (grown r.conclusion) ∙ both.1)).0 in
     ⊎_elim (λ held. inl (and_from _ _ held (ap not still_out))) inr (held_or_waits r.premises both.0)
   where
@@ -155,7 +156,7 @@ module _ (rules : List Rule) (ready rest : BTreeSet ℕ) (found : BTreeSet (Bor 
 
     first : IsFirstOpen rules (concludes rules account) n
     first =
-        let both = is_open_both _ _ is_opened in
+        let both = and_not_parts _ _ is_opened in
         record {
           rule = rule;
           stands = stands;
@@ -171,7 +172,7 @@ module _ (rules : List Rule) (ready rest : BTreeSet ℕ) (found : BTreeSet (Bor 
       where
         own_conclusion : is_open (concludes rules (account ++ n ∷ [])) rule ≡ true → false ≡ true
         own_conclusion o =
-            sym ((is_open_both _ _ o).1) ∙ concludes-push rules account n rule stands rule.conclusion ∙ or_right (concludes rules account rule.conclusion) _ (or_left _ _ ((features_decide rule.conclusion rule.conclusion).1 refl))
+            sym ((and_not_parts _ _ o).1) ∙ concludes-push rules account n rule stands rule.conclusion ∙ or_right (concludes rules account rule.conclusion) _ (or_left _ _ ((features_decide rule.conclusion rule.conclusion).1 refl))
 
     -- fewer rules are left out, so that the numbers woken again are outweighed
     pub looks_end : left_out rules (conclusions rules (account ++ n ∷ [])) * (length rules + 1) + btree_set_len woken < left_out rules (conclusions rules account) * (length rules + 1) + btree_set_len ready

@@ -8,6 +8,7 @@ use Rattle.std.proofs.lemmas.List.{take_more}
 use Rattle.std.proofs.lemmas.List.Elements.{filter_map-append, Contains-push_cases}
 use Rattle.std.proofs.lemmas.List.Folds.{list_any-append}
 use Rattle.std.proofs.lemmas.Option.{slice_get_within, get_or_from_slice_get, slice_get-get_or}
+use Rattle.list_facts.proofs.Tests.{and_not_parts, implied}
 use Rattle.workspace_record.specs.Features.{FeatureValue, feature_eq, feature_cmp}
 use Rattle.feature_account.specs.Closed.{FeatureSet, has_premises, is_open, IsClosed}
 use Rattle.feature_account.specs.Accounts.{conclusions, concluded_set, concludes, MayStand, IsSoundAfter, IsSound, IsFirstFault, IsUnknown, IsRepeated, IsUnsupported, IsFirstOpen, IsVerdict, IsValidAccount}
@@ -74,26 +75,15 @@ module _ (rules : List Rule) (account : List ℕ) (place n : ℕ) (found : Featu
           sound = subst (IsSound rules) (sym longer) (IsSoundAfter-push rules [] (take place account) n r so_far.sound known (may_stand new supported));
         }
 
--- a set that has the premises of a rule that is not open has its conclusion
-not_open : (premises conclusion : Bool) → (premises && not conclusion) ≡ false → premises ≡ true → conclusion ≡ true
-not_open true true e h = refl
-not_open true false e h = absurd (true≢false e)
-not_open false c e h = absurd (true≢false (sym h))
-
-pub is_open_both : (premises conclusion : Bool) → (premises && not conclusion) ≡ true → (premises ≡ true) × (conclusion ≡ false)
-is_open_both true true e = absurd (true≢false (sym e))
-is_open_both true false e = (refl, refl)
-is_open_both false c e = absurd (true≢false (sym e))
-
 -- a set closed under the first rules is so under one more that is not open
 pub closed_more : (s : FeatureSet) (rules : List Rule) (n : ℕ) (r : Rule) → n < length rules → r ≡ get_or rules n r → is_open s r ≡ false → IsClosed (take n rules) s → IsClosed (take (n + 1) rules) s
 closed_more s rules n r lt at shut closed q inside held =
-    ⊎_elim (λ early. closed q early held) (λ e. subst (λ d. s d.conclusion ≡ true) e (not_open _ _ shut (subst (λ d. has_premises s d.premises ≡ true) (sym e) held))) (Contains-push_cases (take n rules) r q (subst (λ xs. Contains xs q) (take_more rules n r lt ∙ ap (λ d. take n rules ++ d ∷ []) (sym at)) inside))
+    ⊎_elim (λ early. closed q early held) (λ e. subst (λ d. s d.conclusion ≡ true) e (implied _ _ shut (subst (λ d. has_premises s d.premises ≡ true) (sym e) held))) (Contains-push_cases (take n rules) r q (subst (λ xs. Contains xs q) (take_more rules n r lt ∙ ap (λ d. take n rules ++ d ∷ []) (sym at)) inside))
 
 -- the rule after those that a set is closed under is the lowest that is open
 pub first_open_at : (s : FeatureSet) (rules : List Rule) (n : ℕ) (r : Rule) → n < length rules → r ≡ get_or rules n r → is_open s r ≡ true → IsClosed (take n rules) s → IsFirstOpen rules s n
 first_open_at s rules n r lt at opened closed =
-    let both = is_open_both _ _ opened in
+    let both = and_not_parts _ _ opened in
     record {
       rule = r;
       stands = slice_get-get_or rules n r lt ∙ ap Some (sym at);

@@ -2,17 +2,13 @@
 use Rattle.std.proofs.Common.{◌≡◌, Bool, true, false, ◌&&◌, List, Result, Ok, Err, map, filter, refl, sym, ◌∙◌, ap, subst, ◌↔◌, Contains, IfOk}
 use Rattle.std.specs.Str.{bytes_eq}
 use Rattle.std.proofs.lemmas.Slice.Eq.{bytes_eq-Decides}
+use Rattle.list_facts.proofs.Tests.{and_parts}
 use Rattle.list_facts.proofs.Membership.{Contains-map, Contains-map_cases, Contains-filter, Contains-filter_cases}
 use Rattle.workspace_record.specs.Records.{Text, Member, Package, Link, Workspace}
 use Rattle.filter_texts.specs.Contexts.{IsInContext, IsNamed}
 use Rattle.filter_texts.specs.Reach.{Reaches}
 use Rattle.filter_texts.specs.ReachSteps.{is_found}
 use Rattle.filter_texts.proofs.ReachFacts.{Contains-from_is_found, is_found-from_Contains}
-
-both : (a b : Bool) → (a && b) ≡ true → (a ≡ true) × (b ≡ true)
-both true true e = (refl, refl)
-both true false e = absurd cc
-both false b e = absurd cc
 
 -- what the members lead to is the context
 pub context_iff : (w : Workspace) (links : List Link) → links ≡ w.links → (starts : List Text) → starts ≡ map (λ m. m.package_id) w.workspace.members → (ids : List Text) → ((id : Text) → Contains ids id ↔ ((a : Text) × Contains starts a × Reaches (λ l. Contains links l) a id)) → (id : Text) → Contains ids id ↔ IsInContext w id
@@ -39,7 +35,7 @@ named_iff w context name id =
     let there : Contains (named_ids w.packages context name) id → IsNamed w (λ i. Contains context i) name id = λ h.
     let q = Contains-map_cases (λ (p : Package). p.id) (filter passes w.packages) id h in
     let r = Contains-filter_cases passes w.packages q.0 q.1 in
-    let s = both (bytes_eq q.0.name name) (is_found context q.0.id) r.1 in
+    let s = and_parts (bytes_eq q.0.name name) (is_found context q.0.id) r.1 in
     record {
       row = q.0;
       listed = r.0;

@@ -7,6 +7,7 @@ use Rattle.std.proofs.lemmas.Slice.Eq.{bytes_eq-Decides}
 use Rattle.list_facts.proofs.Membership.{Contains-none, Contains-first, Contains-cons_cases, Contains-append_left, Contains-append_right, Contains-append_cases, Contains-map}
 use Rattle.list_facts.proofs.Lists.{map-take_more}
 use Rattle.list_facts.proofs.Counting.{length-filter-lt}
+use Rattle.list_facts.proofs.Tests.{and_not_parts, implied, not_mono}
 use Rattle.list_facts.proofs.Quantifiers.{list_any-from_Contains, list_any_cases}
 use Rattle.workspace_record.specs.Records.{Text, Link}
 use Rattle.filter_texts.specs.Reach.{IsPath, Reaches}
@@ -38,16 +39,6 @@ found_first links starts = record {
   reached = λ id h. (id, h, record { path = []; leads = refl });
 }
 
-both : (a b : Bool) → (a && not b) ≡ true → (a ≡ true) × (b ≡ false)
-both true true e = absurd (true≢false (sym e))
-both true false e = (refl, refl)
-both false b e = absurd (true≢false (sym e))
-
-implied : (a b : Bool) → (a && not b) ≡ false → a ≡ true → b ≡ true
-implied true true e h = refl
-implied true false e h = absurd (true≢false e)
-implied false b e h = absurd (true≢false (sym h))
-
 module _ (links : List Link) (starts found : List Text) (so_far : Found links starts found) where
   module _ (link : Link) (inside : Contains links link) (out : leads_out found link ≡ true) where
     pub found_more : Found links starts (found ++ link.to ∷ [])
@@ -58,23 +49,18 @@ module _ (links : List Link) (starts found : List Text) (so_far : Found links st
       where
         last : {id : Text} → link.to ≡ id → (a : Text) × Contains starts a × Reaches (λ l. Contains links l) a id
         last e =
-            let from = so_far.reached link.from (Contains-from_is_found found link.from (both _ _ out).0) in
+            let from = so_far.reached link.from (Contains-from_is_found found link.from (and_not_parts _ _ out).0) in
             subst (λ id. (a : Text) × Contains starts a × Reaches (λ l. Contains links l) a id) e (from.0, from.1, record { path = from.2.path ++ link ∷ []; leads = IsPath-push (λ l. Contains links l) from.0 from.2.path link.from link from.2.leads inside refl })
 
   pub found_all : ((l : Link) → Contains links l → leads_out found l ≡ false) → (id : Text) → Contains found id ↔ ((a : Text) × Contains starts a × Reaches (λ l. Contains links l) a id)
   found_all none id = (so_far.reached id, λ h. IsPath-closed (λ l. Contains links l) (λ x. Contains found x) (λ l inside from. Contains-from_is_found found l.to (implied _ _ (none l inside) (is_found-from_Contains found l.from from))) h.0 h.2.path id h.2.leads (so_far.starts_in h.0 h.1))
-
-not_mono : (a b : Bool) → (a ≡ true → b ≡ true) → not b ≡ true → not a ≡ true
-not_mono true true h e = e
-not_mono true false h e = absurd (true≢false (sym (h refl)))
-not_mono false b h e = refl
 
 pub fewer_ahead : (links : List Link) (found : List Text) (link : Link) → Contains links link → leads_out found link ≡ true → length (filter (is_ahead (found ++ link.to ∷ [])) links) < length (filter (is_ahead found) links)
 fewer_ahead links found link inside out =
     let more = found ++ link.to ∷ [] in
     let narrower = λ (l : Link) (h : is_ahead more l ≡ true). not_mono (is_found found l.to) (is_found more l.to) (λ e. is_found-from_Contains more l.to (Contains-append_left found (link.to ∷ []) l.to (Contains-from_is_found found l.to e))) h in
     let here : is_found more link.to ≡ true = is_found-from_Contains more link.to (Contains-append_right found (link.to ∷ []) link.to (Contains-first link.to [])) in
-    length-filter-lt (is_ahead found) (is_ahead more) narrower links link inside (ap not (both _ _ out).1) (ap not here)
+    length-filter-lt (is_ahead found) (is_ahead more) narrower links link inside (ap not (and_not_parts _ _ out).1) (ap not here)
 
 -- the same of what is lent, as the loop has it
 abbrev pub lent_links : List (Bor Link) → List Link

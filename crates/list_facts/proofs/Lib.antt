@@ -4,3 +4,4 @@ pub mod Lists
 pub mod Ascending
 pub mod Written
 pub mod Counting
+pub mod Tests

@@ -1,6 +1,6 @@
 -- The begin and the end of a walk over offers.
 use Rattle.std.proofs.Common.{◌≡◌, ◌↔◌, ℕ, zero, suc, ◌+◌, ◌-◌, ◌<◌, ◌≤◌, Bool, true, false, cond, ◌&&◌, ◌||◌, not, List, [], ◌∷◌, length, take, filter, replicate, count_by, nat_lt, ◌⊎◌, get_or, Contains, ⊎_elim, add-one, refl, sym, subst, ap, ◌∙◌, arith, true≢false}
-use Rattle.std.proofs.lemmas.Bool.{or_cases}
+use Rattle.std.proofs.lemmas.Bool.{and_parts, or_cases}
 use Rattle.std.proofs.lemmas.List.{length-append, take_more, take_all, length-replicate, get_or_default}
 use Rattle.std.proofs.lemmas.List.Elements.{filter-append}
 use Rattle.std.proofs.lemmas.List.Sums.{sum_by-append}
@@ -21,7 +21,6 @@ use Rattle.numbered_offers.specs.Edges.{edge_at, edge_links, dep_at, has_offer, 
 use Rattle.numbered_offers.specs.Runs.{Run, is_accepted_edge, is_crossed, IsReachedBy, IsDue, IsLegalRun, begins}
 use Rattle.numbered_offers.specs.Graphs.{has_optional_half, halves_of, all_links}
 use Rattle.numbered_offers.specs.Keeping.{Keeps, half_at}
-use Rattle.numbered_offers.proofs.OfferFacts.{both}
 use Rattle.numbered_offers.proofs.LeastFacts.{edge_number, offer_number}
 use Rattle.numbered_offers.proofs.LinkFacts.{length-all_links, near-edge, far-edge, near_half_in}
 use Rattle.numbered_offers.proofs.FlagFacts.{true_or_false}
@@ -81,7 +80,7 @@ module _ (d : Direction) (edges : List Edge) (starts : List ℕ) (shown : Shown)
   dep_set o offered w reached =
       let parts = optional_waits d o.kind w in
       let lt = offer_number edges o offered in
-      let has_half : has_optional_half edges o.edge ≡ true = subst (λ k. has_offer (edge_at edges o.edge).sort k ≡ true) parts.0 (both (nat_lt o.edge (length edges)) (has_offer (edge_at edges o.edge).sort o.kind) offered).1 in
+      let has_half : has_optional_half edges o.edge ≡ true = subst (λ k. has_offer (edge_at edges o.edge).sort k ≡ true) parts.0 (and_parts (nat_lt o.edge (length edges)) (has_offer (edge_at edges o.edge).sort o.kind) offered).1 in
       let place = Contains-filter (has_optional_half edges) (numbers_below (length edges)) o.edge (numbers-all (length edges) o.edge lt) has_half in
       found o place.0 place.1 (at o place.0 place.1 place.2) (ap (waits d) (sym parts.0) ∙ w) reached
     where

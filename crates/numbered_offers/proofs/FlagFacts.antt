@@ -1,6 +1,6 @@
 -- Flags that are set, links that are shown, and answers, each with one more.
 use Rattle.std.proofs.Common.{◌≡◌, ◌↔◌, ℕ, ◌-◌, ◌<◌, ◌≤◌, Bool, true, false, ◌&&◌, ◌||◌, ◌==◌, IsTrue, List, [], ◌∷◌, ◌++◌, length, set, Contains, AllPairs, ◌⊎◌, inl, inr, ⊎_elim, refl, sym, subst, ap, ◌∙◌, arith, true≢false}
-use Rattle.std.proofs.lemmas.Bool.{eq-eqb, or_cases, or_left, or_right, cases_lt}
+use Rattle.std.proofs.lemmas.Bool.{and_parts, eq-eqb, or_cases, or_left, or_right, cases_lt}
 use Rattle.std.proofs.lemmas.List.{get_or-set_same, get_or-set_other, map-append}
 use Rattle.std.proofs.lemmas.List.Elements.{Contains-push, Contains-push_cases, Contains-append_left}
 use Rattle.std.proofs.lemmas.List.Folds.{list_any-append}
@@ -13,7 +13,7 @@ use Rattle.numbered_offers.specs.declared.edge.Edge.{Edge}
 use Rattle.numbered_offers.specs.Graphs.{has_optional_half, halves_of, all_links}
 use Rattle.numbered_offers.specs.Keeping.{half_at}
 use Rattle.numbered_offers.proofs.LinkFacts.{place_lt}
-use Rattle.numbered_offers.proofs.OfferFacts.{both, same_edge}
+use Rattle.numbered_offers.proofs.OfferFacts.{same_edge}
 
 pub true_or_false : (b : Bool) → (b ≡ true) ⊎ (b ≡ false)
 true_or_false true = inl refl
@@ -81,4 +81,4 @@ accepted_now shown j b h = accepted_push shown j b j ∙ or_right (is_accepted s
 
 pub accepted_cases : (shown : Shown) (j : ℕ) (b : Bool) (x : ℕ) → is_accepted (shown ++ (j, b) ∷ []) x ≡ true → (is_accepted shown x ≡ true) ⊎ ((j ≡ x) × (b ≡ true))
 accepted_cases shown j b x h =
-    ⊎_elim (λ old. inl old) (λ now. let p = both (j == x) b now in inr (same_edge j x p.0, p.1)) (or_cases (is_accepted shown x) ((j == x) && b) (sym (accepted_push shown j b x) ∙ h))
+    ⊎_elim (λ old. inl old) (λ now. let p = and_parts (j == x) b now in inr (same_edge j x p.0, p.1)) (or_cases (is_accepted shown x) ((j == x) && b) (sym (accepted_push shown j b x) ∙ h))

@@ -1,7 +1,7 @@
 -- What a legal run reaches is the least closed set, where answers depend on the offer alone.
 use Rattle.std.proofs.Common.{◌≡◌, ℕ, ◌<◌, Bool, true, false, ◌&&◌, ◌==◌, List, [], ◌∷◌, ◌++◌, length, nat_lt, refl, sym, subst, ap, ◌∙◌, ◌↔◌, arith}
 use Rattle.std.proofs.lemmas.Bool.Decides.{nat_tests}
-use Rattle.std.proofs.lemmas.Bool.{false≢true}
+use Rattle.std.proofs.lemmas.Bool.{and_parts, false≢true}
 use Rattle.std.proofs.lemmas.List.Elements.{All-contains, Contains-append_left, Contains-append_right}
 use Rattle.std.proofs.lemmas.List.{length-map}
 use Rattle.list_facts.proofs.Quantifiers.{All-from_Contains, list_any_cases, list_any-from_Contains}
@@ -13,7 +13,7 @@ use Rattle.numbered_offers.specs.declared.offer.Offer.{Offer}
 use Rattle.numbered_offers.specs.Edges.{edge_links, link_of, dep_at, is_free_at, is_offer, has_offer, edge_at, same_offer}
 use Rattle.numbered_offers.specs.Runs.{Run, is_asked, is_accepted_edge, is_crossed, IsReachedBy, IsNext, IsRun, begins, goes_on, IsLegalRun}
 use Rattle.numbered_offers.specs.Least.{IsClosed, IsLeast, AnswersBy}
-use Rattle.numbered_offers.proofs.OfferFacts.{either, both, same_edge, same_offer-is}
+use Rattle.numbered_offers.proofs.OfferFacts.{either, same_edge, same_offer-is}
 use Rattle.numbered_offers.proofs.RunFacts.{or_left, or_right, or_cases, accepted_more}
 
 -- numbers of edges are those of their links
@@ -27,11 +27,11 @@ lt_test : (a b : ℕ) → nat_lt a b ≡ true → a < b
 lt_test a b h = grind (arith, nat_tests, h)
 
 pub offer_number : (edges : List Edge) (o : Offer) → is_offer edges o ≡ true → o.edge < length edges
-offer_number edges o h = lt_test o.edge (length edges) (both (nat_lt o.edge (length edges)) (has_offer (edge_at edges o.edge).sort o.kind) h).0
+offer_number edges o h = lt_test o.edge (length edges) (and_parts (nat_lt o.edge (length edges)) (has_offer (edge_at edges o.edge).sort o.kind) h).0
 
 -- the one offer that was made is of this edge
 pub only : (o : Offer) (answer : Bool) (e : ℕ) → is_accepted_edge ((o, answer) ∷ []) e ≡ true → (o.edge ≡ e) × (answer ≡ true)
-only o answer e h = either (λ k. (same_edge o.edge e (both (o.edge == e) answer k).0, (both (o.edge == e) answer k).1)) (λ k. absurd (false≢true k)) (or_cases ((o.edge == e) && answer) false h)
+only o answer e h = either (λ k. (same_edge o.edge e (and_parts (o.edge == e) answer k).0, (and_parts (o.edge == e) answer k).1)) (λ k. absurd (false≢true k)) (or_cases ((o.edge == e) && answer) false h)
 
 self_same : (e : ℕ) → ((e == e) && true) ≡ true
 self_same e = grind (arith, nat_tests)

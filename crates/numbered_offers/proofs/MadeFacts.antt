@@ -1,6 +1,6 @@
 -- What is offered at once: its edge, its answers, and that a run goes on with it.
 use Rattle.std.proofs.Common.{◌≡◌, ℕ, Bool, true, false, ◌&&◌, ◌||◌, ◌==◌, List, [], ◌∷◌, ◌++◌, Option, Some, None, ◌⊎◌, ⊎_elim, append_assoc, append-nil, refl, sym, subst, ap, ◌∙◌, true≢false}
-use Rattle.std.proofs.lemmas.Bool.{eq-eqb, or_cases, or_left, or_right}
+use Rattle.std.proofs.lemmas.Bool.{and_parts, eq-eqb, or_cases, or_left, or_right}
 use Rattle.numbered_graph.specs.declared.direction.Direction.{Direction}
 use Rattle.numbered_offers.specs.declared.edge.Edge.{Edge}
 use Rattle.numbered_offers.specs.declared.offer.Offer.{Offer}
@@ -10,7 +10,7 @@ use Rattle.numbered_offers.specs.declared.due.Due.TheVariants.{One, Halves}
 use Rattle.numbered_offers.specs.Edges.{is_offer, kind_number, same_offer, required_half, optional_half}
 use Rattle.numbered_offers.specs.Runs.{Run, is_asked, is_accepted_edge, IsDue, IsRun, goes_on}
 use Rattle.numbered_offers.specs.Dues.{asks, asked_of, accepted_of}
-use Rattle.numbered_offers.proofs.OfferFacts.{both, same_edge}
+use Rattle.numbered_offers.proofs.OfferFacts.{same_edge}
 use Rattle.numbered_offers.proofs.RunFacts.{asked_more, reached_still}
 use Rattle.numbered_offers.proofs.FlagFacts.{or_false}
 
@@ -56,14 +56,14 @@ module _ (e : ℕ) where
 
   pub accepted_only : (due : Option Due) (first second : Bool) (x : ℕ) → OfEdge due → is_accepted_edge (asked_of due first second) x ≡ true → (e ≡ x) × (accepted_of due first second ≡ true)
   accepted_only None first second x only h = absurd (true≢false (sym h))
-  accepted_only (Some (One p)) first second x only h = let k = both (p.edge == x) first (sym (or_false ((p.edge == x) && first)) ∙ h) in (sym (one_edge p only) ∙ same_edge p.edge x k.0, k.1)
+  accepted_only (Some (One p)) first second x only h = let k = and_parts (p.edge == x) first (sym (or_false ((p.edge == x) && first)) ∙ h) in (sym (one_edge p only) ∙ same_edge p.edge x k.0, k.1)
   accepted_only (Some (Halves y)) first second x only h = ⊎_elim
-      (λ f. let k = both (y == x) first f in (sym (halves_edge y only) ∙ same_edge y x k.0, or_left first second k.1))
-      (λ s. let k = both (y == x) second (sym (or_false ((y == x) && second)) ∙ s) in (sym (halves_edge y only) ∙ same_edge y x k.0, or_right first second k.1))
+      (λ f. let k = and_parts (y == x) first f in (sym (halves_edge y only) ∙ same_edge y x k.0, or_left first second k.1))
+      (λ s. let k = and_parts (y == x) second (sym (or_false ((y == x) && second)) ∙ s) in (sym (halves_edge y only) ∙ same_edge y x k.0, or_right first second k.1))
       (or_cases ((y == x) && first) (((y == x) && second) || false) h)
 
 not_required : (o : Offer) → o.kind ≡ Optional → same_offer o (required_half o.edge) ≡ true → ⊥
-not_required o is h = true≢false (sym (both (o.edge == o.edge) (kind_number o.kind == 1) h).1 ∙ ap (λ k. kind_number k == 1) is)
+not_required o is h = true≢false (sym (and_parts (o.edge == o.edge) (kind_number o.kind == 1) h).1 ∙ ap (λ k. kind_number k == 1) is)
 
 required_is_not : Required ≡ Optional → ⊥
 required_is_not h = true≢false (ap (λ k. kind_number k == 1) h)

@@ -1,6 +1,6 @@
 -- One link more is met, and what is offered there is asked.
 use Rattle.std.proofs.Common.{◌≡◌, ◌↔◌, ℕ, ◌<◌, ◌≤◌, Bool, true, false, ◌&&◌, ◌||◌, ◌==◌, not, IsTrue, nat_lt, List, [], ◌∷◌, ◌++◌, length, set, Option, Contains, ◌⊎◌, inl, inr, ⊎_elim, refl, sym, subst, ap, ◌∙◌, arith, true≢false}
-use Rattle.std.proofs.lemmas.Bool.{eq-eqb, or_cases, or_left, or_right, cases_lt}
+use Rattle.std.proofs.lemmas.Bool.{and_parts, eq-eqb, or_cases, or_left, or_right, cases_lt}
 use Rattle.std.proofs.lemmas.Bool.Decides.{nat_tests}
 use Rattle.std.proofs.lemmas.List.{length-set}
 use Rattle.std.proofs.lemmas.List.Elements.{Contains-push, Contains-push_cases, Contains-append_left}
@@ -22,7 +22,7 @@ use Rattle.numbered_offers.specs.Runs.{Run, is_asked, is_accepted_edge, is_cross
 use Rattle.numbered_offers.specs.Dues.{asks, asked_of, accepted_of}
 use Rattle.numbered_offers.specs.Graphs.{all_links}
 use Rattle.numbered_offers.specs.Keeping.{Keeps, half_at, is_ready, is_asked_at, near_after, dep_after, is_free_link}
-use Rattle.numbered_offers.proofs.OfferFacts.{both, same_edge}
+use Rattle.numbered_offers.proofs.OfferFacts.{same_edge}
 use Rattle.numbered_offers.proofs.RunFacts.{asked_more, accepted_more, reached_still}
 use Rattle.numbered_offers.proofs.LeastFacts.{link_number}
 use Rattle.numbered_offers.proofs.LinkFacts.{near-edge, far-edge, near_half_in, far_half_in, half_is_offer, half_small}
@@ -73,8 +73,8 @@ module _ (d : Direction) (edges : List Edge) (starts : List ℕ) (shown : Shown)
 
     is_due_from : (near2 dep2 : List Bool) → ((e : ℕ) → has near2 e ≡ true → IsReachedBy d edges starts run (near_at d (edge_links edges) e)) → ((e : ℕ) → has dep2 e ≡ true → waits d Optional ≡ true → IsReachedBy d edges starts run (dep_at edges e)) → (o : Offer) → is_ready d edges near2 dep2 o ≡ true → IsDue d edges starts run o
     is_due_from near2 dep2 n p o ready =
-        let a = both (is_offer edges o) (has near2 o.edge && (not (waits d o.kind) || has dep2 o.edge)) ready in
-        let b = both (has near2 o.edge) (not (waits d o.kind) || has dep2 o.edge) a.1 in
+        let a = and_parts (is_offer edges o) (has near2 o.edge && (not (waits d o.kind) || has dep2 o.edge)) ready in
+        let b = and_parts (has near2 o.edge) (not (waits d o.kind) || has dep2 o.edge) a.1 in
         record {
           offered = a.0;
           near = n o.edge b.0;
@@ -96,7 +96,7 @@ module _ (d : Direction) (edges : List Edge) (starts : List ℕ) (shown : Shown)
       was_not = ⊎_elim (λ b. absurd (link_due.new ((h.near_is j lt).0 b))) (λ b. b) (true_or_false (has near j))
 
       of_edge : (o : Offer) → asks due o ≡ true → o.edge ≡ j
-      of_edge o a = sym (same_edge j o.edge (both (j == o.edge) (is_offer edges o && (not (waits d o.kind) || has dep o.edge)) (sym (offers o) ∙ a)).0)
+      of_edge o a = sym (same_edge j o.edge (and_parts (j == o.edge) (is_offer edges o && (not (waits d o.kind) || has dep o.edge)) (sym (offers o) ∙ a)).0)
 
       near_now : IsReachedBy d edges starts run (near_at d (edge_links edges) j)
       near_now = subst (IsReachedBy d edges starts run) (near-edge edges d j lt) (included_reached (near_at d (all_links edges) j) link_due.included)
@@ -176,8 +176,8 @@ module _ (d : Direction) (edges : List Edge) (starts : List ℕ) (shown : Shown)
 
       parts : (o : Offer) → asks due o ≡ true → (e ≡ o.edge) × (waits d o.kind ≡ true) × (has near o.edge ≡ true)
       parts o a =
-          let p = both (e == o.edge) (waits d o.kind && has near o.edge) (sym (offers o) ∙ a) in
-          let q = both (waits d o.kind) (has near o.edge) p.1 in
+          let p = and_parts (e == o.edge) (waits d o.kind && has near o.edge) (sym (offers o) ∙ a) in
+          let q = and_parts (waits d o.kind) (has near o.edge) p.1 in
           (same_edge e o.edge p.0, q.0, q.1)
 
       of_half : (o : Offer) → asks due o ≡ true → o.edge ≡ e
