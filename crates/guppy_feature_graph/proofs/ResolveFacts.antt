@@ -1,5 +1,5 @@
 -- One step more of a resolve, and its end.
-use Rattle.std.proofs.Common.{◌≡◌, ◌↔◌, ℕ, suc, ◌+◌, ◌<◌, ◌≤◌, nat_lt, Bool, true, false, cond, List, [], ◌∷◌, ◌++◌, None, Some, Option, length, count_by, map, refl, sym, subst, ap, ◌∙◌, IsTrue, arith}
+use Rattle.std.proofs.Common.{◌≡◌, ◌↔◌, ℕ, suc, ◌+◌, ◌<◌, nat_lt, Bool, true, false, cond, List, [], ◌∷◌, ◌++◌, None, Some, length, count_by, map, refl, sym, subst, ap, ◌∙◌, IsTrue, arith}
 use Rattle.std.specs.List.{fold}
 use Rattle.std.specs.Option.{is_none}
 use Rattle.std.proofs.lemmas.Bool.{and_parts}
@@ -24,9 +24,9 @@ use Rattle.guppy_package_graph.specs.Directions.{direction_of}
 use Rattle.guppy_package_graph.specs.Visits.{Chain, SameSteps}
 use Rattle.guppy_feature_nodes.specs.GraphEdges.{EdgeForm, EdgeValue, ToBase, ToFeature, ToDependency, ByStrongEntries, ByWeakEntries, ByLines}
 use Rattle.guppy_feature_nodes.specs.Graphs.{FeatureGraphValue}
-use Rattle.guppy_feature_nodes.specs.Offering.{offer_edge, offer_edges, offered, offers_of, sort_of}
+use Rattle.guppy_feature_nodes.specs.Offering.{offer_edge, offer_edges, offered, sort_of}
 use Rattle.guppy_feature_graph.specs.Queries.{IsQueryOf, QueryValue}
-use Rattle.guppy_feature_graph.specs.Resolves.{IsReachOf, IsResolved, ends_of, is_weak_form, most_looks, offered_edges, shown_to}
+use Rattle.guppy_feature_graph.specs.Resolves.{IsReachOf, IsResolved, ends_of, is_weak_form, offered_edges, shown_to}
 use Rattle.guppy_feature_graph.specs.Sets.{SetValue}
 use Rattle.guppy_feature_graph.specs.Links as links
 

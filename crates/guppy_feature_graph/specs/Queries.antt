@@ -1,5 +1,5 @@
 -- Queries: where a walk over features begins, and which way it goes.
-use Rattle.std.specs.Prelude.{◌≡◌, ◌↔◌, ℕ, ◌<◌, Bool, List, All, AllPairs, Contains, IsTrue, length}
+use Rattle.std.specs.Prelude.{◌≡◌, ◌↔◌, ℕ, ◌<◌, Bool, List, All, AllPairs, Contains, IsTrue}
 use Rattle.numbered_graph.specs.Sets.{has}
 use Rattle.guppy_row_parts.specs.declared.dependency_direction.DependencyDirection.{DependencyDirection}
 use Rattle.guppy_feature_nodes.specs.Graphs.{FeatureGraphValue}

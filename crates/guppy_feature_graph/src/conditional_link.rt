@@ -14,10 +14,10 @@ use workspace_record::LineKind;
 /// edge, or on the required or the optional ones alone.
 #[derive(Clone, Copy)]
 pub struct ConditionalLink<'g> {
-    data: &'g FeatureGraphData<'g>,
+    built: &'g FeatureGraphData<'g>,
     number: usize,
     declarations: LinkDeclarations,
-    ghost in_range: { number < length data.now.edges },
+    ghost in_range: { number < length built.now.edges },
 }
 
 impl<'g> ConditionalLink<'g> {
@@ -26,15 +26,15 @@ impl<'g> ConditionalLink<'g> {
     ghost use Rattle.guppy_feature_graph.specs.PackageLinkViews.{links_graph_of, numbers_left};
 
     pub(crate) fn at(
-        data: &'g FeatureGraphData<'g>,
+        built: &'g FeatureGraphData<'g>,
         number: usize,
         declarations: LinkDeclarations,
     ) -> ConditionalLink<'g>
-        requires { number < length data.now.edges }
-        ensures { link_view result ≡ record { graph = data.entry.now; number = number; declarations = declarations } }
+        requires { number < length built.now.edges }
+        ensures { link_view result ≡ record { graph = built.entry.now; number = number; declarations = declarations } }
     {
         ConditionalLink {
-            data,
+            built,
             number,
             declarations,
         }
@@ -45,8 +45,8 @@ impl<'g> ConditionalLink<'g> {
         ensures graph { metadata_graph_of result ≡ (link_view self.now).graph }
         ensures node { node_of result ≡ (edge_of (link_view self.now)).from }
     {
-        let data = self.data;
-        FeatureMetadata::at(data, data.edge(self.number).from)
+        let built = self.built;
+        FeatureMetadata::at(built, built.edge(self.number).from)
     }
 
     /// The feature to which it leads.
@@ -54,8 +54,8 @@ impl<'g> ConditionalLink<'g> {
         ensures graph { metadata_graph_of result ≡ (link_view self.now).graph }
         ensures node { node_of result ≡ (edge_of (link_view self.now)).to }
     {
-        let data = self.data;
-        FeatureMetadata::at(data, data.edge(self.number).to)
+        let built = self.built;
+        FeatureMetadata::at(built, built.edge(self.number).to)
     }
 
     /// Both features: the one that leads on, and the other.
@@ -97,9 +97,9 @@ impl<'g> ConditionalLink<'g> {
     fn status_of(&self, kind: LineKind) -> PlatformStatus<'g>
         ensures { IsStatusOf (specs_of (lines_behind (link_view self.now) kind)) (status_view result) }
     {
-        let data = self.data;
-        let lines = data.lines_shown(self.number, self.declarations, kind);
-        PlatformStatus::over(data.package_graph().link_rows(), lines)
+        let built = self.built;
+        let lines = built.lines_shown(self.number, self.declarations, kind);
+        PlatformStatus::over(built.package_graph().link_rows(), lines)
     }
 
     /// Whether it stands on no normal and no build line.
@@ -112,8 +112,9 @@ impl<'g> ConditionalLink<'g> {
     fn has_none(&self, kind: LineKind) -> bool
         ensures { IsTrue result ↔ (line_places (link_view self.now) kind ≡ []) }
     {
-        let data = self.data;
-        data.lines_shown(self.number, self.declarations, kind)
+        let built = self.built;
+        built
+            .lines_shown(self.number, self.declarations, kind)
             .is_empty()
     }
 
@@ -122,9 +123,9 @@ impl<'g> ConditionalLink<'g> {
         ensures graph { links_graph_of result ≡ (link_view self.now).graph.rows }
         ensures links { numbers_left result ≡ link_numbers (link_view self.now) }
     {
-        let data = self.data;
-        let numbers = data.links_shown(self.number, self.declarations);
-        PackageLinks::of(data.package_graph(), numbers)
+        let built = self.built;
+        let numbers = built.links_shown(self.number, self.declarations);
+        PackageLinks::of(built.package_graph(), numbers)
     }
 
     /// Which of the lines behind the edge it stands on.

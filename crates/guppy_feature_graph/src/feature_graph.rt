@@ -18,28 +18,28 @@ use guppy_package_graph::{Error, FeatureGraphWarning, PackageGraph};
 /// built once, by `FeatureGraphData::build`.
 #[derive(Clone, Copy)]
 pub struct FeatureGraph<'g> {
-    data: &'g FeatureGraphData<'g>,
+    built: &'g FeatureGraphData<'g>,
 }
 
 impl<'g> FeatureGraph<'g> {
     /// The graph that was built.
-    pub fn of(data: &'g FeatureGraphData<'g>) -> FeatureGraph<'g>
-        ensures graph { feature_graph_of result ≡ data.entry.now }
+    pub fn of(built: &'g FeatureGraphData<'g>) -> FeatureGraph<'g>
+        ensures graph { feature_graph_of result ≡ built.entry.now }
     {
-        FeatureGraph { data }
+        FeatureGraph { built }
     }
 
-    pub(crate) fn data(&self) -> &'g FeatureGraphData<'g>
+    pub(crate) fn built(&self) -> &'g FeatureGraphData<'g>
         ensures { result.now ≡ feature_graph_of self.now }
     {
-        self.data
+        self.built
     }
 
     /// The packages' graph.
     pub fn package_graph(&self) -> &'g PackageGraph
         ensures rows { result.now ≡ (feature_graph_of self.now).rows }
     {
-        self.data.package_graph()
+        self.built.package_graph()
     }
 
     /// What is odd about the rows.
@@ -47,8 +47,8 @@ impl<'g> FeatureGraph<'g> {
         ensures value { map warning_view result.now ≡ (feature_graph_of self.now).warnings }
         ensures warnings { (feature_graph_of self.now).warnings ≡ warnings_of (feature_graph_of self.now).rows.packages (feature_graph_of self.now).rows.links }
     {
-        let data = self.data;
-        data.build_warnings()
+        let built = self.built;
+        built.build_warnings()
     }
 
     /// How many features there are: each package, the features that it names, and its optional
@@ -56,21 +56,21 @@ impl<'g> FeatureGraph<'g> {
     pub fn feature_count(&self) -> usize
         ensures count { result ≡ length (feature_graph_of self.now).nodes }
     {
-        self.data.feature_count()
+        self.built.feature_count()
     }
 
     /// How many edges there are.
     pub fn link_count(&self) -> usize
         ensures count { result ≡ length (feature_graph_of self.now).edges }
     {
-        self.data.link_count()
+        self.built.link_count()
     }
 
     /// Whether there is such a feature.
     pub fn contains(&self, feature_id: FeatureId<'_>) -> bool
         ensures answer { result ≡ is_node (feature_graph_of self.now).nodes (id_view feature_id.entry) }
     {
-        self.data.contains(name_of(feature_id))
+        self.built.contains(name_of(feature_id))
     }
 
     /// What the graph says of a feature.
@@ -78,14 +78,14 @@ impl<'g> FeatureGraph<'g> {
         ensures found { FindsFeature (feature_graph_of self.now) (id_view feature_id.entry) result }
     {
         let node = self.number_of(feature_id)?;
-        Ok(FeatureMetadata::at(self.data, node))
+        Ok(FeatureMetadata::at(self.built, node))
     }
 
     pub(crate) fn number_of(&self, feature_id: FeatureId<'_>) -> Result<usize, Error>
         ensures { FindsNumber (feature_graph_of self.now) (id_view feature_id.entry) result }
     {
-        let number = self.data.number_of(name_of(feature_id));
-        if number < self.data.feature_count() {
+        let number = self.built.number_of(name_of(feature_id));
+        if number < self.built.feature_count() {
             Ok(number)
         } else {
             Err(Error::UnknownFeatureId)
@@ -100,7 +100,7 @@ impl<'g> FeatureGraph<'g> {
         requires { number < length (feature_graph_of self.now).edges }
         ensures { link_view result ≡ record { graph = feature_graph_of self.now; number = number; declarations = declarations } }
     {
-        ConditionalLink::at(self.data, number, declarations)
+        ConditionalLink::at(self.built, number, declarations)
     }
 }
 

@@ -11,20 +11,20 @@ use guppy_package_graph::{PackageId, PackageMetadata};
 /// A feature of a graph.
 #[derive(Clone, Copy)]
 pub struct FeatureMetadata<'g> {
-    data: &'g FeatureGraphData<'g>,
+    built: &'g FeatureGraphData<'g>,
     node: usize,
-    ghost in_range: { node < length data.now.nodes },
+    ghost in_range: { node < length built.now.nodes },
 }
 
 impl<'g> FeatureMetadata<'g> {
     ghost use Rattle.guppy_feature_graph.specs.Views.{metadata_graph_of, node_of};
 
-    pub(crate) fn at(data: &'g FeatureGraphData<'g>, node: usize) -> FeatureMetadata<'g>
-        requires { node < length data.now.nodes }
-        ensures graph { metadata_graph_of result ≡ data.entry.now }
+    pub(crate) fn at(built: &'g FeatureGraphData<'g>, node: usize) -> FeatureMetadata<'g>
+        requires { node < length built.now.nodes }
+        ensures graph { metadata_graph_of result ≡ built.entry.now }
         ensures node { node_of result ≡ node }
     {
-        FeatureMetadata { data, node }
+        FeatureMetadata { built, node }
     }
 
     pub(crate) fn node(&self) -> usize
@@ -37,7 +37,7 @@ impl<'g> FeatureMetadata<'g> {
     pub fn feature_id(&self) -> FeatureId<'g>
         ensures id { id_view result ≡ feature_at (metadata_graph_of self.now) (node_of self.now) }
     {
-        self.data.feature_at(self.node)
+        self.built.feature_at(self.node)
     }
 
     /// The id of the feature's package.
@@ -52,7 +52,7 @@ impl<'g> FeatureMetadata<'g> {
         ensures graph { graph_of result ≡ (metadata_graph_of self.now).rows }
         ensures package { IsAt (metadata_graph_of self.now).rows (feature_at (metadata_graph_of self.now) (node_of self.now)).package_id (place_of result) }
     {
-        self.data.package_of(self.node)
+        self.built.package_of(self.node)
     }
 
     /// The feature's label.

@@ -27,7 +27,10 @@ use std::sync::ledger::Ledger;
 pub(crate) fn offers_of<'a>(query: &'a FeatureQuery<'_>) -> &'a OfferGraph
     ensures { result.now ≡ offered (direction_of query.entry.now.direction) query.entry.now.graph }
 {
-    query.graph().data().offers(direction_of(query.direction()))
+    query
+        .graph()
+        .built()
+        .offers(direction_of(query.direction()))
 }
 
 /// Asks a visitor about each offer that becomes due.

@@ -1,4 +1,4 @@
-use Rattle.std.proofs.Common.{◌↔◌, ℕ, IsTrue, map, subst, sym}
+use Rattle.std.proofs.Common.{IsTrue, map, subst}
 use Rattle.numbered_graph.specs.Sets.{has}
 use Rattle.guppy_feature_ids.specs.IdViews.{id_view}
 use Rattle.guppy_feature_graph.specs.Finding.{IsNamed}

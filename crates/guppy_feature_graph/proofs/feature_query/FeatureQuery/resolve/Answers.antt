@@ -1,4 +1,4 @@
-use Rattle.std.proofs.Common.{ap, ◌∙◌, rules}
+use Rattle.std.proofs.Common.{ap, ◌∙◌}
 use Rattle.guppy_package_graph.specs.Directions.{direction_of}
 use Rattle.guppy_feature_graph.specs.Sets.{SetValue}
 use Rattle.guppy_feature_graph.proofs.ResolveFacts.{reach_of}
