@@ -1,1 +1,6 @@
 pub mod RowFacts
+pub mod LineFacts
+pub mod EdgeFacts
+pub mod OfferFacts
+pub mod NodeFacts
+pub mod GraphFacts

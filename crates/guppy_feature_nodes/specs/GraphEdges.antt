@@ -1,7 +1,8 @@
 -- The edges of a feature graph.
-use Rattle.std.specs.Prelude.{◌≡◌, ℕ, List, [], length, map, slice_get}
+use Rattle.std.specs.Prelude.{◌≡◌, ◌≢◌, ℕ, ◌<◌, List, [], All, length, map, slice_get, slice_index_or}
 use Rattle.std.specs.Option.{option_map_or}
 use Rattle.workspace_record.specs.Records.{Text, Package, Link}
+use Rattle.guppy_package_parts.specs.Lines.{IsLineAt}
 use Rattle.workspace_record.specs.Features.{FeatureValue}
 use Rattle.guppy_feature_demands.specs.Demands.{FormValue, FeatureToBase, NamedFeature, NamedFeatureDepColon, StrongSlash, WeakSlash, DependenciesSection, demands_of, kept_demands}
 use Rattle.guppy_feature_demands.specs.Nodes.{dep_of, nodes_of, number_of}
@@ -55,3 +56,17 @@ pub record AreEdges (packages : List Package) (links : List Link) (edges : List 
   pub joined : List JoinedValue
   pub joins : AreJoined (kept_demands (nodes_of packages) (demands_of packages links)) joined
   pub values : edges ≡ map (edge_value (nodes_of packages)) joined
+
+-- the edge with a number; past the end one that is of no graph
+abbrev pub edge_at : List EdgeValue → ℕ → EdgeValue
+edge_at edges number = slice_index_or edges number (record { from = 0; to = 0; form = ToBase; lines = [] })
+
+-- the edge leads from one node to another, and the lines behind it are lines of the rows
+pub record IsEdgeWithin (nodes : ℕ) (links : List Link) (e : EdgeValue) : Type 0 where
+  pub from : e.from < nodes
+  pub to : e.to < nodes
+  pub differ : e.from ≢ e.to
+  pub lines : All (IsLineAt links) e.lines
+
+abbrev pub AreEdgesWithin : ℕ → List Link → List EdgeValue → Type 0
+AreEdgesWithin nodes links edges = All (IsEdgeWithin nodes links) edges

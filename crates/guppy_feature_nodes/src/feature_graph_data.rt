@@ -1,21 +1,31 @@
-ghost use Rattle.std.specs.Prelude.{◌≡◌, ◌<◌, IfOk, length, map, slice_index};
+ghost use Rattle.std.specs.Prelude.{◌≡◌, ◌<◌, All, IfOk, length, map};
 ghost use Rattle.guppy_row_parts.specs.WarningViews.{warning_view};
 ghost use Rattle.guppy_feature_ids.specs.IdViews.{id_view};
 ghost use Rattle.guppy_feature_demands.specs.NameViews.{name_view};
 ghost use Rattle.guppy_feature_demands.specs.Nodes.{is_node, nodes_of, number_of};
 ghost use Rattle.guppy_feature_demands.specs.Warnings.{warnings_of};
 ghost use Rattle.guppy_feature_nodes.specs.EdgeViews.{edge_view};
-ghost use Rattle.guppy_feature_nodes.specs.GraphEdges.{AreEdges};
-ghost use Rattle.guppy_feature_nodes.specs.Graphs.{IsFeatureGraph};
+ghost use Rattle.guppy_feature_nodes.specs.GraphEdges.{AreEdges, IsEdgeWithin, edge_at};
+ghost use Rattle.guppy_feature_nodes.specs.Graphs.{IsFeatureGraph, feature_at};
+ghost use Rattle.guppy_feature_nodes.specs.LineViews.{AreEdgeLines};
+ghost use Rattle.guppy_feature_nodes.specs.Lines.{lines_shown, links_shown};
+ghost use Rattle.guppy_feature_nodes.specs.Offering.{offered};
+ghost use Rattle.guppy_package_graph.specs.Finding.{IsAt};
+ghost use Rattle.guppy_package_graph.specs.Views.{graph_of, place_of};
+ghost use Rattle.guppy_package_parts.specs.Lines.{IsLineAt};
 
 use crate::node_edge::{NodeEdge, node_edges};
+use crate::offers::offer_graph;
 use crate::package_rows::package_rows;
 use guppy_feature_demands::{FeatureName, FeatureParts, NodeTable, feature_parts};
 use guppy_feature_edges::joined_edges;
-use guppy_feature_ids::FeatureId;
-use guppy_package_graph::{FeatureGraphWarning, PackageGraph};
+use guppy_feature_ids::{FeatureId, LinkDeclarations};
+use guppy_package_graph::{FeatureGraphWarning, PackageGraph, PackageMetadata};
+use numbered_graph::Direction;
+use numbered_offers::OfferGraph;
 use std::alloc::{AllocError, Global};
 use std::marker::Model;
+use workspace_record::LineKind;
 
 /// The features of a package graph's packages, numbered from 0, and the edges between them.
 #[derive(Drop)]
@@ -24,19 +34,48 @@ pub struct FeatureGraphData<'g> {
     nodes: NodeTable<'g>,
     edges: Vec<NodeEdge>,
     warnings: Vec<FeatureGraphWarning>,
+    forward: OfferGraph,
+    reverse: OfferGraph,
+}
+
+// What is made of the rows.
+#[derive(Drop)]
+struct GraphParts<'g> {
+    nodes: NodeTable<'g>,
+    edges: Vec<NodeEdge>,
+    warnings: Vec<FeatureGraphWarning>,
+}
+
+fn graph_parts<'g>(alloc: Global, graph: &'g PackageGraph) -> Result<GraphParts<'g>, AllocError>
+    ensures nodes { IfOk result (λ p. p.nodes ≡ nodes_of graph.entry.now.packages) }
+    ensures edges { IfOk result (λ p. AreEdges graph.entry.now.packages graph.entry.now.links (map edge_view p.edges.items)) }
+    ensures lines { IfOk result (λ p. All (λ e. AreEdgeLines graph.entry.now.links (edge_view e).lines e.lines) p.edges.items) }
+    ensures warnings { IfOk result (λ p. map warning_view p.warnings.items ≡ warnings_of graph.entry.now.packages graph.entry.now.links) }
+{
+    let packages = package_rows(alloc, graph)?;
+    let FeatureParts {
+        nodes,
+        demands,
+        warnings,
+    } = feature_parts(alloc, &packages, graph.link_rows())?;
+    let joined = joined_edges(alloc, &demands)?;
+    let edges = node_edges(alloc, &nodes, graph.link_rows(), joined)?;
+    Ok(GraphParts {
+        nodes,
+        edges,
+        warnings,
+    })
 }
 
 impl<'g> Model for FeatureGraphData<'g> {
-    ghost use Rattle.std.specs.Prelude.{map};
-    ghost use Rattle.guppy_row_parts.specs.WarningViews.{warning_view};
-    ghost use Rattle.guppy_feature_nodes.specs.EdgeViews.{edge_view};
-    ghost use Rattle.guppy_feature_nodes.specs.Graphs.{FeatureGraphValue, IsFeatureGraph};
+    ghost use Rattle.guppy_feature_nodes.specs.Graphs.{FeatureGraphValue};
+    ghost use Rattle.guppy_feature_nodes.specs.Keeping.{IsKept, data_view};
 
     ghost Value = { FeatureGraphValue };
 
-    ghost view = { λ g. record { rows = g.graph.now; nodes = g.nodes; edges = map edge_view g.edges.items; warnings = map warning_view g.warnings.items } };
+    ghost view = { data_view };
 
-    ghost invariant = { λ g. IsFeatureGraph (record { rows = g.graph.now; nodes = g.nodes; edges = map edge_view g.edges.items; warnings = map warning_view g.warnings.items }) };
+    ghost invariant = { IsKept };
 }
 
 impl<'g> FeatureGraphData<'g> {
@@ -46,19 +85,21 @@ impl<'g> FeatureGraphData<'g> {
         ensures rows { IfOk result (λ g. g.rows ≡ graph.entry.now) }
         ensures built { IfOk result IsFeatureGraph }
     {
-        let packages = package_rows(alloc, graph)?;
-        let FeatureParts {
+        let GraphParts {
             nodes,
-            demands,
+            edges,
             warnings,
-        } = feature_parts(alloc, &packages, graph.link_rows())?;
-        let joined = joined_edges(alloc, &demands)?;
-        let edges = node_edges(alloc, &nodes, joined)?;
+        } = graph_parts(alloc, graph)?;
+        let (count, links) = (nodes.len(), graph.link_rows());
+        let forward = offer_graph(alloc, count, links, &edges, Direction::Forward)?;
+        let reverse = offer_graph(alloc, count, links, &edges, Direction::Reverse)?;
         Ok(FeatureGraphData {
             graph,
             nodes,
             edges,
             warnings,
+            forward,
+            reverse,
         })
     }
 
@@ -105,6 +146,69 @@ impl<'g> FeatureGraphData<'g> {
         ensures edges { AreEdges self.now.rows.packages self.now.rows.links self.now.edges }
     {
         &self.edges
+    }
+
+    /// The edge with a number.
+    pub fn edge(&self, number: usize) -> &NodeEdge
+        requires { number < length self.now.edges }
+        ensures edge { edge_view result.now ≡ edge_at self.now.edges number }
+        ensures within { IsEdgeWithin (length self.now.nodes) self.now.rows.links (edge_at self.now.edges number) }
+    {
+        &self.edges[number]
+    }
+
+    /// The lines of a kind behind an edge that declare what is shown of it.
+    pub fn lines_shown(
+        &self,
+        number: usize,
+        shown: LinkDeclarations,
+        kind: LineKind,
+    ) -> &[(usize, usize)]
+        requires { number < length self.now.edges }
+        ensures lines { result.now ≡ lines_shown self.now.rows.links shown kind (edge_at self.now.edges number).lines }
+        ensures within { All (IsLineAt self.now.rows.links) (lines_shown self.now.rows.links shown kind (edge_at self.now.edges number).lines) }
+    {
+        self.edges[number].lines.shown(shown).of_kind(kind)
+    }
+
+    /// The links of the lines behind an edge that declare what is shown of it, each once.
+    pub fn links_shown(&self, number: usize, shown: LinkDeclarations) -> &[usize]
+        requires { number < length self.now.edges }
+        ensures links { result.now ≡ links_shown self.now.rows.links shown (edge_at self.now.edges number).lines }
+        ensures within { All (λ link. link < length self.now.rows.links) (links_shown self.now.rows.links shown (edge_at self.now.edges number).lines) }
+    {
+        self.edges[number].lines.shown(shown).links.as_slice()
+    }
+
+    /// The edges as they are offered in a direction.
+    pub fn offers(&self, direction: Direction) -> &OfferGraph
+        ensures offers { result.now ≡ offered direction self.now }
+    {
+        match direction {
+            Direction::Forward => &self.forward,
+            Direction::Reverse => &self.reverse,
+        }
+    }
+
+    /// The feature with a number.
+    pub fn feature_at(&self, node: usize) -> FeatureId<'g>
+        requires { node < length self.now.nodes }
+        ensures feature { id_view result ≡ feature_at self.now node }
+    {
+        self.nodes.ids()[node]
+    }
+
+    /// The package of a feature.
+    pub fn package_of(&self, node: usize) -> PackageMetadata<'g>
+        requires { node < length self.now.nodes }
+        ensures graph { graph_of result ≡ self.now.rows }
+        ensures package { IsAt self.now.rows (feature_at self.now node).package_id (place_of result) }
+    {
+        let graph = self.graph;
+        match graph.metadata(self.feature_at(node).package_id()) {
+            Ok(package) => package,
+            Err(_) => unreachable!(),
+        }
     }
 
     /// How many edges there are.

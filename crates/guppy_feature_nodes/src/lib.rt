@@ -3,9 +3,11 @@
 
 #![tactic(auto)]
 
+mod edge_lines;
 mod feature_edge;
 mod feature_graph_data;
 mod node_edge;
+mod offers;
 mod package_rows;
 
 pub use crate::feature_edge::{

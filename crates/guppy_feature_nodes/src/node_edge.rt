@@ -1,15 +1,17 @@
 //! Edges between nodes.
 
-ghost use Rattle.std.specs.Prelude.{◌≡◌, IfOk, map};
+ghost use Rattle.std.specs.Prelude.{◌≡◌, All, IfOk, map};
 ghost use Rattle.guppy_feature_demands.specs.DemandViews as demands;
 ghost use Rattle.guppy_feature_edges.specs.JoinedViews.{joined_view};
 ghost use Rattle.guppy_feature_nodes.specs.EdgeViews.{edge_view, form_view, lines_view};
 ghost use Rattle.guppy_feature_nodes.specs.GraphEdges.{edge_form, edge_lines, edge_value, waits_for};
+ghost use Rattle.guppy_feature_nodes.specs.LineViews.{AreEdgeLines};
 
+use crate::edge_lines::EdgeLines;
 use crate::feature_edge::FeatureEdge;
 use guppy_feature_demands::{FeatureName, Form, NodeTable, NumberedDemand};
 use guppy_feature_edges::JoinedEdge;
-use guppy_row_parts::SortedSet;
+use guppy_row_parts::{LinkRow, SortedSet};
 use std::alloc::{AllocError, Global};
 
 /// An edge from one node to another, which are told by their numbers.
@@ -18,29 +20,44 @@ pub struct NodeEdge {
     pub from: usize,
     pub to: usize,
     pub edge: FeatureEdge,
+    pub(crate) lines: EdgeLines,
 }
 
 pub(crate) fn node_edges<'g>(
     alloc: Global,
     nodes: &NodeTable<'g>,
+    links: &[LinkRow],
     joined: Vec<JoinedEdge<'g>>,
 ) -> Result<Vec<NodeEdge>, AllocError>
-    ensures { IfOk result (λ v. map edge_view v.items ≡ map (edge_value nodes.now) (map joined_view joined.entry.items)) }
+    ensures values { IfOk result (λ v. map edge_view v.items ≡ map (edge_value nodes.now) (map joined_view joined.entry.items)) }
+    ensures lines { IfOk result (λ v. All (λ e. AreEdgeLines links.now (edge_view e).lines e.lines) v.items) }
 {
     let mut edges = Vec::with_capacity(alloc, joined.len())?;
     for edge in joined {
-        edges.push(node_edge(nodes, edge))?;
+        edges.push(node_edge(alloc, nodes, links, edge)?)?;
     }
     Ok(edges)
 }
 
-fn node_edge<'g>(nodes: &NodeTable<'g>, joined: JoinedEdge<'g>) -> NodeEdge
-    ensures { edge_view result ≡ edge_value nodes.now (joined_view joined.entry) }
+fn node_edge<'g>(
+    alloc: Global,
+    nodes: &NodeTable<'g>,
+    links: &[LinkRow],
+    joined: JoinedEdge<'g>,
+) -> Result<NodeEdge, AllocError>
+    ensures value { IfOk result (λ e. edge_view e ≡ edge_value nodes.now (joined_view joined.entry)) }
+    ensures lines { IfOk result (λ e. AreEdgeLines links.now (edge_view e).lines e.lines) }
 {
     let JoinedEdge { head, lines } = joined;
     let (from, to) = (head.from, head.to);
     let edge = feature_edge(nodes, head, lines);
-    NodeEdge { from, to, edge }
+    let lines = EdgeLines::of(alloc, links, edge.lines())?;
+    Ok(NodeEdge {
+        from,
+        to,
+        edge,
+        lines,
+    })
 }
 
 fn feature_edge<'g>(

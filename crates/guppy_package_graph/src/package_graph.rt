@@ -156,7 +156,8 @@ impl PackageGraph {
         self.table.id_at(place)
     }
 
-    pub(crate) fn link_at(&self, number: usize) -> PackageLink<'_>
+    /// The link with a number.
+    pub fn link_at(&self, number: usize) -> PackageLink<'_>
         requires { number < length self.now.links }
         ensures graph { link_graph_of result ≡ self.now }
         ensures number { number_of result ≡ number }

@@ -1,0 +1,35 @@
+-- Features found by their ids, and those that are not there.
+use Rattle.std.proofs.Common.{◌≡◌, ◌↔◌, ℕ, ◌<◌, ◌≤◌, length, false, not, List, All, Contains, map, sym, subst, arith}
+use Rattle.std.proofs.lemmas.List.Elements.{All-contains}
+use Rattle.std.proofs.lemmas.List.Sums.{prefix_len-le-length}
+use Rattle.list_facts.proofs.Membership.{Contains-map, Contains-map_cases}
+use Rattle.list_facts.proofs.Quantifiers.{Any-from_Contains, Any_cases}
+use Rattle.workspace_record.specs.Features.{FeatureValue, feature_eq}
+use Rattle.guppy_feature_demands.specs.Nodes.{is_node, number_of}
+use Rattle.guppy_feature_demands.proofs.EntryFacts.{list_any_from_position_or_len}
+use Rattle.guppy_feature_nodes.specs.Graphs.{FeatureGraphValue}
+use Rattle.guppy_feature_graph.specs.Finding.{IsNamed, IsNumber, IsUnknown}
+
+at_end : (a b : ℕ) → a ≤ b → b ≤ a → a ≡ b
+at_end a b le ge = omega (arith, le, ge)
+
+-- a feature whose number is past the end is not there
+not_there : (nodes : List FeatureValue) (f : FeatureValue) → length nodes ≤ number_of nodes f → is_node nodes f ≡ false
+not_there nodes f h = list_any_from_position_or_len (feature_eq f) nodes (at_end (number_of nodes f) (length nodes) (prefix_len-le-length (λ x. not (feature_eq f x)) nodes) h)
+
+pub is_unknown : (g : FeatureGraphValue) (f : FeatureValue) (n count : ℕ) → n ≡ number_of g.nodes f → count ≡ length g.nodes → count ≤ n → IsUnknown g f
+is_unknown g f n count number counted h = not_there g.nodes f (subst (λ k. length g.nodes ≤ k) number (subst (λ k. k ≤ n) counted h))
+
+-- the numbers of features are the nodes that they name
+pub named : (g : FeatureGraphValue) (fs : List FeatureValue) (numbers : List ℕ) → numbers ≡ map (number_of g.nodes) fs → All (λ n. n < length g.nodes) numbers → (v : ℕ) → Contains numbers v ↔ IsNamed g fs v
+named g fs numbers are within v = (there, back)
+  where
+    there : Contains numbers v → IsNamed g fs v
+    there h =
+        let found = Contains-map_cases (number_of g.nodes) fs v (subst (λ xs. Contains xs v) are h) in
+        Any-from_Contains (λ f. IsNumber g f v) fs found.0 found.1 (sym found.2, All-contains (λ n. n < length g.nodes) numbers v within h)
+
+    back : IsNamed g fs v → Contains numbers v
+    back h =
+        let found = Any_cases (λ f. IsNumber g f v) fs h in
+        subst (λ xs. Contains xs v) (sym are) (subst (Contains (map (number_of g.nodes) fs)) (sym found.2.0) (Contains-map (number_of g.nodes) fs found.0 found.1))

@@ -1,0 +1,2 @@
+pub mod ResolveFacts
+pub mod FoundFacts

@@ -1,0 +1,9 @@
+pub mod Links
+pub mod Views
+pub mod Finding
+pub mod Sets
+pub mod Queries
+pub mod ContextViews
+pub mod Resolves
+pub mod Closures
+pub mod PackageLinkViews

@@ -1,0 +1,77 @@
+-- Resolves: the links that are offered, and the features that are included.
+use Rattle.std.specs.Prelude.{◌≡◌, ◌↔◌, ℕ, ◌+◌, Bool, true, false, List, map, length, count_by, IsTrue}
+use Rattle.numbered_graph.specs.declared.link.Link as numbered
+use Rattle.numbered_graph.specs.Links.{near_of}
+use Rattle.numbered_graph.specs.Paths.{any_link, IsReached}
+use Rattle.numbered_graph.specs.Sets.{has}
+use Rattle.numbered_offers.specs.declared.edge.Edge.{Edge}
+use Rattle.numbered_offers.specs.declared.offer.Offer.{Offer}
+use Rattle.numbered_offers.specs.Least.{AnswersBy, IsLeast}
+use Rattle.numbered_offers.specs.Runs.{IsLegalRun, IsReachedBy, Run}
+use Rattle.guppy_row_parts.specs.declared.dependency_direction.DependencyDirection.{DependencyDirection}
+use Rattle.guppy_package_graph.specs.Directions.{direction_of}
+use Rattle.guppy_feature_nodes.specs.GraphEdges.{EdgeForm, EdgeValue, ToBase, ToFeature, ToDependency, ByStrongEntries, ByWeakEntries, ByLines}
+use Rattle.guppy_feature_nodes.specs.Graphs.{FeatureGraphValue}
+use Rattle.guppy_feature_nodes.specs.Offering.{offers_of}
+use Rattle.guppy_feature_graph.specs.Links.{LinkValue, edge_of, link_of}
+use Rattle.guppy_feature_graph.specs.Queries.{QueryValue}
+use Rattle.guppy_feature_graph.specs.Sets.{SetValue}
+
+-- the two ends of an edge
+abbrev pub ends_of : EdgeValue → numbered.Link
+ends_of e = record { from = e.from; to = e.to }
+
+-- the feature from which a link is followed in a direction
+abbrev pub near_node : DependencyDirection → LinkValue → ℕ
+near_node direction l = near_of (direction_of direction) (ends_of (edge_of l))
+
+-- the edges of a query's graph, as they are offered in its direction
+abbrev pub offered_edges : QueryValue → List Edge
+offered_edges q = offers_of (direction_of q.direction) q.graph
+
+-- the run makes each offer that is due by the answers before it, none twice, a required half before its optional one, and at
+-- its end no offer that is due is missing
+abbrev pub IsLegal : QueryValue → Run → Type 0
+IsLegal q run = IsLegalRun (direction_of q.direction) (offered_edges q) q.initials run
+
+-- edges that are crossed always, and those of which an offer was accepted, lead from an initial to the feature
+abbrev pub IsIncluded : QueryValue → Run → ℕ → Type 0
+IsIncluded q run v = IsReachedBy (direction_of q.direction) (offered_edges q) q.initials run v
+
+-- the run is legal, and what is reached at its end is included, and nothing else
+pub record IsResolved (q : QueryValue) (run : Run) (included : List Bool) : Type 0 where
+  pub legal : IsLegal q run
+  pub sized : length included ≡ length q.graph.nodes
+  pub includes : (v : ℕ) → IsTrue (has included v) ↔ IsIncluded q run v
+
+-- each link that is shown, with the query for which it is shown, and the answer
+abbrev pub shown_to : QueryValue → Run → List ((QueryValue × LinkValue) × Bool)
+shown_to q run = map (λ (s : Offer × Bool). ((q, link_of q.graph s.0), s.1)) run
+
+-- the features of the set are those that edges lead to from the initials, in the query's direction
+pub record IsReachOf (q : QueryValue) (s : SetValue) : Type 0 where
+  pub graph : s.graph ≡ q.graph
+  pub members : (v : ℕ) → IsTrue (has s.included v) ↔ IsReached (direction_of q.direction) (map ends_of q.graph.edges) any_link q.initials v
+
+-- the edge is offered in halves
+abbrev pub is_weak_form : EdgeForm → Bool
+is_weak_form ToBase = false
+is_weak_form ToFeature = false
+is_weak_form ToDependency = false
+is_weak_form ByStrongEntries = false
+is_weak_form (ByWeakEntries dep) = true
+is_weak_form ByLines = false
+
+-- as many looks as a resolve may take: one for each node and each edge, and one more for each weak edge
+abbrev pub most_looks : FeatureGraphValue → ℕ
+most_looks g = length g.nodes + (length g.edges + count_by (λ e. is_weak_form e.form) g.edges)
+
+-- where each answer is a verdict on the link alone, what is reached at the end of a legal run is the least set that holds the
+-- initials and is closed under the edges that are crossed always and the offers that are accepted, an optional half that
+-- waits having two features to begin at
+abbrev pub IsAlwaysLeast : Type 0
+IsAlwaysLeast =
+    (q : QueryValue) (accepts : LinkValue → Bool) (run : Run)
+    → IsLegal q run
+    → AnswersBy (λ o. accepts (link_of q.graph o)) run
+    → IsLeast (direction_of q.direction) (offered_edges q) q.initials (λ o. accepts (link_of q.graph o)) (IsIncluded q run)

@@ -1,0 +1,47 @@
+ghost use Rattle.std.specs.Prelude.{◌≡◌, ◌↔◌, Contains, IsTrue};
+ghost use Rattle.guppy_feature_graph.specs.ContextViews.{query_of};
+ghost use Rattle.guppy_feature_graph.specs.Resolves.{near_node};
+ghost use Rattle.guppy_feature_graph.specs.Views.{link_view};
+
+use crate::conditional_link::ConditionalLink;
+use crate::feature_query::FeatureQuery;
+use guppy_package_graph::DependencyDirection;
+
+/// The query for which a link is shown.
+#[derive(Clone, Copy)]
+pub struct FeatureLinkContext<'a> {
+    query: &'a FeatureQuery<'a>,
+}
+
+impl<'a> FeatureLinkContext<'a> {
+    pub(crate) fn of(query: &'a FeatureQuery<'a>) -> FeatureLinkContext<'a>
+        ensures { query_of result ≡ query.entry.now }
+    {
+        FeatureLinkContext { query }
+    }
+
+    /// The query.
+    pub fn query(&self) -> &'a FeatureQuery<'a>
+        ensures query { result.now ≡ query_of self.now }
+    {
+        self.query
+    }
+
+    /// The direction in which links are followed.
+    pub fn direction(&self) -> DependencyDirection
+        ensures direction { result ≡ (query_of self.now).direction }
+    {
+        self.query.direction()
+    }
+
+    /// Whether the link's near end, `from` in direction Forward, is an initial.
+    pub fn starts_from_initial(&self, link: &ConditionalLink<'_>) -> bool
+        ensures initial { IsTrue result ↔ Contains (query_of self.now).initials (near_node (query_of self.now).direction (link_view link.now)) }
+    {
+        let near = match self.direction() {
+            DependencyDirection::Forward => link.from(),
+            DependencyDirection::Reverse => link.to(),
+        };
+        self.query.starts_from(near.node())
+    }
+}

@@ -1,0 +1,82 @@
+ghost use Rattle.std.specs.Prelude.{◌≡◌, ◌↔◌, ◌<◌, ℕ, All, Contains, IfOk, IsTrue, length};
+ghost use Rattle.numbered_graph.specs.Sets.{has};
+ghost use Rattle.guppy_feature_graph.specs.Queries.{AreInitials, IsQueryOf};
+ghost use Rattle.guppy_feature_graph.specs.Views.{feature_graph_of};
+
+use crate::feature_graph::FeatureGraph;
+use crate::feature_set::FeatureSet;
+use guppy_package_graph::DependencyDirection;
+use std::alloc::{AllocError, Global};
+use std::marker::Model;
+
+/// Features of a graph from which links are followed in a direction.
+#[derive(Drop)]
+pub struct FeatureQuery<'g> {
+    initials: FeatureSet<'g>,
+    direction: DependencyDirection,
+    starts: Vec<usize>,
+}
+
+impl<'g> Model for FeatureQuery<'g> {
+    ghost use Rattle.std.specs.Prelude.{length};
+    ghost use Rattle.guppy_feature_graph.specs.Queries.{AreStarts, QueryValue};
+
+    ghost Value = { QueryValue };
+
+    ghost view = { λ q. record { graph = q.initials.graph; direction = q.direction; initials = q.starts.items } };
+
+    ghost invariant = { λ q. AreStarts (length q.initials.graph.nodes) q.initials.included q.starts.items };
+}
+
+impl<'g> FeatureQuery<'g> {
+    /// A query from the features of a set.
+    pub(crate) fn of(
+        alloc: Global,
+        initials: FeatureSet<'g>,
+        direction: DependencyDirection,
+    ) -> Result<FeatureQuery<'g>, AllocError>
+        ensures { IfOk result (IsQueryOf initials.entry.graph direction (λ v. IsTrue (has initials.entry.included v))) }
+    {
+        let starts = initials.included().members(alloc)?;
+        Ok(FeatureQuery {
+            initials,
+            direction,
+            starts,
+        })
+    }
+
+    /// The graph that is asked.
+    pub fn graph(&self) -> &FeatureGraph<'g>
+        ensures graph { feature_graph_of result.now ≡ self.now.graph }
+    {
+        self.initials.graph()
+    }
+
+    /// The direction in which links are followed.
+    pub fn direction(&self) -> DependencyDirection
+        ensures direction { result ≡ self.now.direction }
+    {
+        self.direction
+    }
+
+    /// The features from which links are followed.
+    pub fn initials(&self) -> &FeatureSet<'g>
+        ensures graph { result.now.graph ≡ self.now.graph }
+        ensures initials { AreInitials (λ v. IsTrue (has result.now.included v)) self.now.initials }
+    {
+        &self.initials
+    }
+
+    pub(crate) fn starts(&self) -> &[usize]
+        ensures value { result.now ≡ self.now.initials }
+        ensures within { All (λ v. v < length self.now.graph.nodes) result.now }
+    {
+        &self.starts
+    }
+
+    pub(crate) fn starts_from(&self, node: usize) -> bool
+        ensures { IsTrue result ↔ Contains self.now.initials node }
+    {
+        self.initials.included().contains(node)
+    }
+}

@@ -1,0 +1,127 @@
+//! What a query resolves to.
+
+ghost use Rattle.std.specs.Prelude.{◌≡◌, ◌+◌, ◌<◌, ◌≤◌, IfOk, OnErr};
+ghost use Rattle.guppy_package_graph.specs.Visits.{Chain, SameSteps};
+ghost use Rattle.numbered_offers.specs.Runs.{Run};
+ghost use Rattle.guppy_feature_graph.specs.Closures.{AsksClosure};
+ghost use Rattle.guppy_feature_graph.specs.Resolves.{IsReachOf, IsResolved, most_looks, shown_to};
+
+use crate::conditional_link::ConditionalLink;
+use crate::direction::direction_of;
+use crate::feature_link_context::FeatureLinkContext;
+use crate::feature_query::FeatureQuery;
+use crate::feature_set::FeatureSet;
+use crate::resolving::{offers_of, resolve_by_closure, resolve_by_visitor};
+use crate::visitor::FeatureLinkVisitor;
+use numbered_graph::Looks;
+use numbered_offers::reach_all;
+use std::alloc::{AllocError, Global};
+use std::marker::Brand;
+use std::sync::ledger::{Blank, Ledger};
+
+impl<'g> FeatureQuery<'g> {
+    /// All features that edges lead to from the initials, in the query's direction, each edge crossed
+    /// whoever would refuse it.
+    pub fn resolve(self, alloc: Global) -> Result<FeatureSet<'g>, AllocError>
+        ensures reached { IfOk result (IsReachOf self.entry) }
+    {
+        let direction = direction_of(self.direction());
+        let reached = reach_all(alloc, offers_of(&self), self.starts(), direction)?;
+        Ok(FeatureSet::of(*self.graph(), reached))
+    }
+
+    /// The features that edges lead to from the initials, where those that stand on lines are crossed
+    /// if the visitor accepts them, or a half of them. A link is shown once the feature from which it
+    /// is followed is reached. A weak one is shown in halves, the required one first; forward, the
+    /// optional one only once its optional dependency is reached too. Each is shown once, in no other
+    /// order that is promised.
+    pub fn resolve_with(
+        self,
+        alloc: Global,
+        visitor: &mut dyn FeatureLinkVisitor,
+    ) -> Result<FeatureSet<'g>, AllocError>
+        ensures graph { IfOk result (λ s. s.graph ≡ self.entry.graph) }
+        ensures ok { IfOk result (λ s. (run : Run) × IsResolved self.entry run s.included × Chain (steps visitor.old) (state visitor.old) (shown_to self.entry run) (state visitor.new)) }
+        ensures same { SameSteps (steps visitor.old) (steps visitor.new) }
+        ensures err { OnErr result (visitor.new ≡ visitor.old) }
+    {
+        resolve_with_blank::<Brand>(alloc, self, visitor, Blank::new(1))
+    }
+
+    /// The same, with a count of the looks that it takes: a feature that is taken from the work list,
+    /// or an edge or a waiting half that is looked at.
+    pub fn resolve_with_counted<L: Ledger>(
+        self,
+        alloc: Global,
+        visitor: &mut dyn FeatureLinkVisitor,
+        looks: &mut Looks<L>,
+    ) -> Result<FeatureSet<'g>, AllocError>
+        ensures graph { IfOk result (λ s. s.graph ≡ self.entry.graph) }
+        ensures ok { IfOk result (λ s. (run : Run) × IsResolved self.entry run s.included × Chain (steps visitor.old) (state visitor.old) (shown_to self.entry run) (state visitor.new)) }
+        ensures same { SameSteps (steps visitor.old) (steps visitor.new) }
+        ensures err { OnErr result (visitor.new ≡ visitor.old) }
+        ensures looks { looks.new ≤ looks.old + most_looks self.entry.graph }
+    {
+        match resolve_by_visitor(alloc, &self, visitor, looks) {
+            Ok(included) => Ok(FeatureSet::of(*self.graph(), included)),
+            Err(refused) => Err(refused),
+        }
+    }
+
+    /// The same features as `resolve_with` gives, where a closure says which links are followed.
+    pub fn resolve_with_fn<F: FnMut(&FeatureLinkContext<'_>, ConditionalLink<'_>) -> bool>(
+        self,
+        alloc: Global,
+        visitor_fn: F,
+    ) -> Result<FeatureSet<'g>, AllocError>
+    where
+        F: Drop,
+        requires { F.IsAlwaysCallable visitor_fn }
+        ensures graph { IfOk result (λ s. s.graph ≡ self.entry.graph) }
+        ensures ok { IfOk result (λ s. (run : Run) × (last : F) × IsResolved self.entry run s.included × Chain (AsksClosure F.FnMut self.entry) visitor_fn run last) }
+    {
+        resolve_fn_with_blank::<Brand, F>(alloc, self, visitor_fn, Blank::new(1))
+    }
+}
+
+fn resolve_with_blank<'g, L: Ledger>(
+    alloc: Global,
+    query: FeatureQuery<'g>,
+    visitor: &mut dyn FeatureLinkVisitor,
+    blank: Blank,
+) -> Result<FeatureSet<'g>, AllocError>
+    requires name { blank.name ≡ L.name }
+    requires parts { blank.parts ≡ L.parts }
+    requires some { 0 < blank.parts }
+    ensures graph { IfOk result (λ s. s.graph ≡ query.entry.graph) }
+    ensures ok { IfOk result (λ s. (run : Run) × IsResolved query.entry run s.included × Chain (steps visitor.old) (state visitor.old) (shown_to query.entry run) (state visitor.new)) }
+    ensures same { SameSteps (steps visitor.old) (steps visitor.new) }
+    ensures err { OnErr result (visitor.new ≡ visitor.old) }
+{
+    let mut looks = Looks::<L>::new(blank);
+    query.resolve_with_counted(alloc, visitor, &mut looks)
+}
+
+fn resolve_fn_with_blank<
+    'g,
+    L: Ledger,
+    F: FnMut(&FeatureLinkContext<'_>, ConditionalLink<'_>) -> bool,
+>(
+    alloc: Global,
+    query: FeatureQuery<'g>,
+    mut visitor_fn: F,
+    blank: Blank,
+) -> Result<FeatureSet<'g>, AllocError>
+where
+    F: Drop,
+    requires name { blank.name ≡ L.name }
+    requires parts { blank.parts ≡ L.parts }
+    requires some { 0 < blank.parts }
+    requires callable { F.IsAlwaysCallable visitor_fn }
+    ensures graph { IfOk result (λ s. s.graph ≡ query.entry.graph) }
+    ensures ok { IfOk result (λ s. (run : Run) × (last : F) × IsResolved query.entry run s.included × Chain (AsksClosure F.FnMut query.entry) visitor_fn run last) }
+{
+    let mut looks = Looks::<L>::new(blank);
+    let included = resolve_by_closure::<L, F>(alloc, &query, &mut visitor_fn, &mut looks)?;
+    Ok(FeatureSet::of(*query.graph(), included))
+}

@@ -1,0 +1,164 @@
+//! Walks from the initials of a query, each with the one who says which links are followed.
+
+ghost use Rattle.std.specs.Prelude.{◌≡◌, ◌+◌, ◌<◌, ◌≤◌, true, IfOk, OnErr, Some, length};
+ghost use Rattle.guppy_package_graph.specs.Directions.{direction_of};
+ghost use Rattle.guppy_package_graph.specs.Visits.{Chain, SameSteps};
+ghost use Rattle.guppy_feature_nodes.specs.Offering.{offered};
+ghost use Rattle.numbered_offers.specs.Dues.{asked_of, asks};
+ghost use Rattle.numbered_offers.specs.Runs.{Run};
+ghost use Rattle.numbered_offers.specs.declared.offer.Offer.{Offer};
+ghost use Rattle.guppy_feature_graph.specs.Closures.{AsksClosure};
+ghost use Rattle.guppy_feature_graph.specs.Links.{declarations_of, link_of};
+ghost use Rattle.guppy_feature_graph.specs.Resolves.{IsResolved, most_looks, shown_to};
+ghost use Rattle.guppy_feature_graph.specs.Views.{link_view};
+
+use crate::conditional_link::ConditionalLink;
+use crate::direction::direction_of;
+use crate::feature_link_context::FeatureLinkContext;
+use crate::feature_query::FeatureQuery;
+use crate::visitor::FeatureLinkVisitor;
+use guppy_feature_nodes::LinkDeclarations;
+use numbered_graph::{Looks, NodeSet};
+use numbered_offers::{Due, Offer, OfferGraph, OfferKind, OfferWalk};
+use std::alloc::{AllocError, Global};
+use std::sync::ledger::Ledger;
+
+/// The edges of a query's graph, as they are offered in its direction.
+pub(crate) fn offers_of<'a>(query: &'a FeatureQuery<'_>) -> &'a OfferGraph
+    ensures { result.now ≡ offered (direction_of query.entry.now.direction) query.entry.now.graph }
+{
+    query
+        .graph()
+        .built()
+        .offers(direction_of(query.direction()))
+}
+
+/// Asks a visitor about each offer that becomes due.
+pub(crate) fn resolve_by_visitor<L: Ledger>(
+    alloc: Global,
+    query: &FeatureQuery<'_>,
+    visitor: &mut dyn FeatureLinkVisitor,
+    looks: &mut Looks<L>,
+) -> Result<NodeSet, AllocError>
+    ensures ok { IfOk result (λ set. (run : Run) × IsResolved query.now run set × Chain (steps visitor.old) (state visitor.old) (shown_to query.now run) (state visitor.new)) }
+    ensures same { SameSteps (steps visitor.old) (steps visitor.new) }
+    ensures err { OnErr result (visitor.new ≡ visitor.old) }
+    ensures looks { looks.new ≤ looks.old + most_looks query.now.graph }
+{
+    let direction = direction_of(query.direction());
+    let mut walk = OfferWalk::new(alloc, offers_of(query), query.starts(), direction)?;
+    while let Some(due) = walk.take(looks) {
+        let (first, second) = ask_due(visitor, query, due);
+        walk.answer(due, first, second);
+    }
+    Ok(walk.into_included())
+}
+
+// Asks about what is offered at once; of two halves about the required one first.
+fn ask_due(visitor: &mut dyn FeatureLinkVisitor, query: &FeatureQuery<'_>, due: Due) -> (bool, bool)
+    requires { (o : Offer) → asks (Some due) o ≡ true → o.edge < length query.now.graph.edges }
+    ensures step { Chain (steps visitor.old) (state visitor.old) (shown_to query.now (asked_of (Some due) result.0 result.1)) (state visitor.new) }
+    ensures same { SameSteps (steps visitor.old) (steps visitor.new) }
+{
+    match due {
+        Due::One(offer) => (ask(visitor, query, offer), false),
+        Due::Halves(edge) => {
+            let kind = OfferKind::Required;
+            let required = ask(visitor, query, Offer { edge, kind });
+            let kind = OfferKind::Optional;
+            let optional = ask(visitor, query, Offer { edge, kind });
+            (required, optional)
+        }
+    }
+}
+
+fn ask(visitor: &mut dyn FeatureLinkVisitor, query: &FeatureQuery<'_>, offer: Offer) -> bool
+    requires { offer.edge < length query.now.graph.edges }
+    ensures step { steps visitor.old (state visitor.old) (query.now, link_of query.now.graph offer) result (state visitor.new) }
+    ensures same { SameSteps (steps visitor.old) (steps visitor.new) }
+{
+    let cx = FeatureLinkContext::of(query);
+    let link = link_of(query, offer);
+    visitor.visit_link(&cx, link)
+}
+
+// The link that is shown where an offer is made.
+fn link_of<'a>(query: &'a FeatureQuery<'a>, offer: Offer) -> ConditionalLink<'a>
+    requires { offer.edge < length query.now.graph.edges }
+    ensures { link_view result ≡ link_of query.entry.now.graph offer }
+{
+    query
+        .graph()
+        .link_at(offer.edge, declarations_of(offer.kind))
+}
+
+fn declarations_of(kind: OfferKind) -> LinkDeclarations
+    ensures { result ≡ declarations_of kind }
+{
+    match kind {
+        OfferKind::Unsplit => LinkDeclarations::Unsplit,
+        OfferKind::Required => LinkDeclarations::Required,
+        OfferKind::Optional => LinkDeclarations::Optional,
+    }
+}
+
+/// Asks a closure about each offer that becomes due.
+pub(crate) fn resolve_by_closure<
+    L: Ledger,
+    F: FnMut(&FeatureLinkContext<'_>, ConditionalLink<'_>) -> bool,
+>(
+    alloc: Global,
+    query: &FeatureQuery<'_>,
+    accepts: &mut F,
+    looks: &mut Looks<L>,
+) -> Result<NodeSet, AllocError>
+    requires callable { F.IsAlwaysCallable accepts.old }
+    ensures ok { IfOk result (λ set. (run : Run) × IsResolved query.now run set × Chain (AsksClosure F.FnMut query.now) accepts.old run accepts.new) }
+    ensures err { OnErr result (accepts.new ≡ accepts.old) }
+    ensures looks { looks.new ≤ looks.old + most_looks query.now.graph }
+{
+    let direction = direction_of(query.direction());
+    let mut walk = OfferWalk::new(alloc, offers_of(query), query.starts(), direction)?;
+    while let Some(due) = walk.take(looks) {
+        let (first, second) = ask_closure_due(accepts, query, due);
+        walk.answer(due, first, second);
+    }
+    Ok(walk.into_included())
+}
+
+fn ask_closure_due<F: FnMut(&FeatureLinkContext<'_>, ConditionalLink<'_>) -> bool>(
+    accepts: &mut F,
+    query: &FeatureQuery<'_>,
+    due: Due,
+) -> (bool, bool)
+    requires callable { F.IsAlwaysCallable accepts.old }
+    requires within { (o : Offer) → asks (Some due) o ≡ true → o.edge < length query.now.graph.edges }
+    ensures asks { Chain (AsksClosure F.FnMut query.now) accepts.old (asked_of (Some due) result.0 result.1) accepts.new }
+    ensures callable { F.IsAlwaysCallable accepts.new }
+{
+    match due {
+        Due::One(offer) => (ask_closure(accepts, query, offer), false),
+        Due::Halves(edge) => {
+            let kind = OfferKind::Required;
+            let required = ask_closure(accepts, query, Offer { edge, kind });
+            let kind = OfferKind::Optional;
+            let optional = ask_closure(accepts, query, Offer { edge, kind });
+            (required, optional)
+        }
+    }
+}
+
+fn ask_closure<F: FnMut(&FeatureLinkContext<'_>, ConditionalLink<'_>) -> bool>(
+    accepts: &mut F,
+    query: &FeatureQuery<'_>,
+    offer: Offer,
+) -> bool
+    requires callable { F.IsAlwaysCallable accepts.old }
+    requires within { offer.edge < length query.now.graph.edges }
+    ensures asks { AsksClosure F.FnMut query.now accepts.old offer result accepts.new }
+    ensures callable { F.IsAlwaysCallable accepts.new }
+{
+    let cx = FeatureLinkContext::of(query);
+    let link = link_of(query, offer);
+    accepts(&cx, link)
+}

@@ -1,0 +1,100 @@
+use crate::features::{Named, find_in};
+use crate::resolves::{Asked, tell_resolves};
+use guppy_feature_graph::{FeatureGraph, FeatureGraphData, FeatureMetadata};
+use guppy_package_graph::PackageGraph;
+use record_files::read_record;
+use row_program::{Answers, Row, RowFault, RowRunner};
+use std::alloc::{AllocError, Global};
+use workspace_record::WorkspaceRecord;
+
+/// Rows of feature graphs. A row has a `record`, a feature to `find`, and features to start from
+/// (`starts`), a `direction`, and what a visitor `accepts` (a word of `Rule`).
+#[derive(Drop)]
+pub(crate) struct GraphRows;
+
+impl RowRunner for GraphRows {
+    fn inputs(&self) -> &'static [&'static str] {
+        &["record", "find", "starts", "direction", "accepts"]
+    }
+
+    fn run_row(
+        &mut self,
+        alloc: Global,
+        row: Row<'_>,
+        answers: &mut Answers,
+    ) -> Result<(), RowFault> {
+        let record = record_of(alloc, row)?;
+        let (packages, links, workspace) = (record.packages, record.links, record.workspace);
+        match PackageGraph::from_records(alloc, packages, links, workspace) {
+            Ok(graph) => tell_graph(alloc, row, &graph, answers),
+            Err(error) => answers.push("refused", format!(in alloc; "{error}")?),
+        }
+    }
+}
+
+fn record_of(alloc: Global, row: Row<'_>) -> Result<WorkspaceRecord, RowFault> {
+    let Some(value) = row.get("record") else {
+        return Err(RowFault::Key("record"));
+    };
+    let text = value.to_string(alloc)?;
+    match read_record(alloc, text.as_bytes()) {
+        Ok(record) => Ok(record),
+        Err(error) => Err(RowFault::Refused(format!(in alloc; "{error}")?)),
+    }
+}
+
+fn tell_graph(
+    alloc: Global,
+    row: Row<'_>,
+    graph: &PackageGraph,
+    answers: &mut Answers,
+) -> Result<(), RowFault> {
+    let data = FeatureGraphData::build(alloc, graph)?;
+    tell_features(alloc, row, &data, answers)
+}
+
+fn tell_features(
+    alloc: Global,
+    row: Row<'_>,
+    data: &FeatureGraphData<'_>,
+    answers: &mut Answers,
+) -> Result<(), RowFault> {
+    let graph = FeatureGraph::of(data);
+    answers.push("counts", counts_text(alloc, graph)?)?;
+    if let Some(named) = find_in(alloc, row)? {
+        answers.push("found", found_text(alloc, graph, &named)?)?;
+    }
+    let features = data.feature_ids();
+    tell_resolves(alloc, row, Asked { graph, features }, answers)
+}
+
+fn counts_text(alloc: Global, graph: FeatureGraph<'_>) -> Result<String, AllocError> {
+    let packages = graph.package_graph().package_count();
+    let (features, links) = (graph.feature_count(), graph.link_count());
+    let warnings = graph.build_warnings().len();
+    format!(in alloc;
+        "{packages} packages, {features} features, {links} links, {warnings} warnings"
+    )
+}
+
+fn found_text(
+    alloc: Global,
+    graph: FeatureGraph<'_>,
+    named: &Named<'_>,
+) -> Result<String, AllocError> {
+    let is_there = graph.contains(named.id());
+    match graph.metadata(named.id()) {
+        Ok(feature) => {
+            let text = feature_text(alloc, feature)?;
+            format!(in alloc; "{is_there}, {text}")
+        }
+        Err(error) => format!(in alloc; "{is_there}, {error}"),
+    }
+}
+
+fn feature_text(alloc: Global, feature: FeatureMetadata<'_>) -> Result<String, AllocError> {
+    let (id, label) = (feature.feature_id(), feature.label());
+    let package_id = feature.package_id();
+    let name = feature.package().name();
+    format!(in alloc; "{id} is {label} of {package_id}, called {name}")
+}

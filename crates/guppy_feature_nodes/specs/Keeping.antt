@@ -1,0 +1,20 @@
+-- What the data of a feature graph keeps beside its nodes and edges.
+use Rattle.std.specs.Prelude.{◌≡◌, All, map}
+use Rattle.numbered_graph.specs.declared.direction.Direction.TheVariants.{Forward, Reverse}
+use Rattle.guppy_row_parts.specs.WarningViews.{warning_view}
+use Rattle.guppy_feature_nodes.specs.EdgeViews.{edge_view}
+use Rattle.guppy_feature_nodes.specs.Graphs.{FeatureGraphValue, IsFeatureGraph}
+use Rattle.guppy_feature_nodes.specs.LineViews.{AreEdgeLines}
+use Rattle.guppy_feature_nodes.specs.Offering.{offered}
+use Rattle.guppy_feature_nodes.specs.declared.feature_graph_data.FeatureGraphData.TheInside.{Inside}
+
+abbrev pub data_view : Inside → FeatureGraphValue
+data_view g = record { rows = g.graph.now; nodes = g.nodes; edges = map edge_view g.edges.items; warnings = map warning_view g.warnings.items }
+
+-- the graph is as the rows say; the lines behind each edge are kept by what they declare; the edges are kept as they are
+-- offered in both directions
+pub record IsKept (g : Inside) : Type 0 where
+  pub graph : IsFeatureGraph (data_view g)
+  pub lines : All (λ e. AreEdgeLines g.graph.now.links (edge_view e).lines e.lines) g.edges.items
+  pub forward : g.forward ≡ offered Forward (data_view g)
+  pub reverse : g.reverse ≡ offered Reverse (data_view g)
