@@ -12,7 +12,7 @@ mod test_name;
 pub use crate::binary_id::RustBinaryId;
 pub use crate::binary_kind::RustTestBinaryKind;
 pub use crate::groups::{GroupLookup, KnownGroups};
-pub use crate::name_tests::suits;
+pub use crate::name_tests::{same_matcher, suits};
 pub use crate::queries::{BinaryQuery, TestQuery};
 pub use crate::test_name::TestCaseName;
 pub use guppy_row_parts::PackageId;
