@@ -12,7 +12,7 @@ use Rattle.nextest_filtering.specs.Contexts.{AreRowsAt, IsContextOf, binaries_of
 use Rattle.nextest_filtering.specs.ContextViews.{AreNamesOf, packages_in, binaries_in}
 use Rattle.nextest_filtering.specs.declared.context_names.ContextNames.{ContextNames}
 
-map-append : {A B : Type 0} (f : A → B) (xs ys : List A) → map f (xs ++ ys) ≡ map f xs ++ map f ys
+pub map-append : {A B : Type 0} (f : A → B) (xs ys : List A) → map f (xs ++ ys) ≡ map f xs ++ map f ys
 map-append f [] ys = refl
 map-append f (x ∷ xs) ys = ap (λ t. f x ∷ t) (map-append f xs ys)
 

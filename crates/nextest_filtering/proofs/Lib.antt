@@ -1,1 +1,5 @@
 pub mod ContextFacts
+pub mod PickFacts
+pub mod ReachFacts
+pub mod AcceptFacts
+pub mod ParseFacts

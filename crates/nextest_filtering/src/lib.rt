@@ -3,9 +3,15 @@
 
 #![tactic(auto)]
 
+mod bans;
+mod compiling;
 mod context_names;
+mod filterset;
+mod matching;
 mod parse_context;
+mod refusals;
 
+pub use crate::filterset::Filterset;
 pub use crate::parse_context::ParseContext;
 pub use nextest_filter_evaluation::{CompiledExpr, EvalContext, FiltersetLeaf};
 pub use nextest_filter_queries::{
@@ -20,6 +26,7 @@ pub use nextest_filter_syntax::{
 
 /// Why filter texts are refused.
 pub mod errors {
+    pub use crate::refusals::{FiltersetError, FiltersetParseErrors};
     pub use nextest_filter_syntax::{
         BannedPredicateReason, GlobConstructError, GlobError, ParseExprError, ParseSingleError,
     };

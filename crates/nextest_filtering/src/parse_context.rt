@@ -7,7 +7,7 @@ ghost use Rattle.guppy_package_graph.specs.Workspaces.{IsMemberPlace};
 ghost use Rattle.nextest_filtering.specs.Contexts.{IsContextOf};
 ghost use Rattle.nextest_filtering.specs.ContextViews.{AreNamesOf};
 
-use crate::context_names::ContextNames;
+use crate::context_names::{ContextNames, NamedBinary, NamedPackage};
 use guppy_package_graph::{DependencyDirection, PackageGraph, PackageSet};
 use std::alloc::{AllocError, Global};
 use std::marker::Model;
@@ -56,6 +56,18 @@ impl<'g> ParseContext<'g> {
         ensures graph { result.now ≡ self.now.graph }
     {
         self.graph
+    }
+
+    pub(crate) fn packages(&self) -> &[NamedPackage]
+        ensures { result.now ≡ self.now.packages }
+    {
+        &self.names.packages
+    }
+
+    pub(crate) fn binaries(&self) -> &[NamedBinary]
+        ensures { result.now ≡ self.now.binaries }
+    {
+        &self.names.binaries
     }
 }
 
