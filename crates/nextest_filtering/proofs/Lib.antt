@@ -3,3 +3,4 @@ pub mod PickFacts
 pub mod ReachFacts
 pub mod AcceptFacts
 pub mod ParseFacts
+pub mod SameFacts

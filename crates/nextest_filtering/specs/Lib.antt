@@ -5,3 +5,4 @@ pub mod Meaning
 pub mod Acceptance
 pub mod Compiling
 pub mod Refusals
+pub mod Laws

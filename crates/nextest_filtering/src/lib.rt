@@ -7,6 +7,7 @@ mod bans;
 mod compiling;
 mod context_names;
 mod filterset;
+pub mod laws;
 mod matching;
 mod parse_context;
 mod refusals;
