@@ -8,6 +8,7 @@ use std::alloc::{AllocError, Global};
 use std::collections::BTreeSet;
 
 /// Each test belongs to this one group.
+#[derive(Drop)]
 pub(crate) struct OneGroup<'a> {
     pub(crate) alloc: Global,
     pub(crate) group: &'a str,
