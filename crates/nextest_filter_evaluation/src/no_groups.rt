@@ -10,7 +10,11 @@ impl GroupLookup for NoGroups {
 
     ghost ready = { λ _ _ _. Unit {0} };
 
-    fn is_member_test(&self, _test: &TestQuery<'_>, _matcher: &NameMatcher) -> Result<bool, AllocError> {
+    fn is_member_test(
+        &self,
+        _test: &TestQuery<'_>,
+        _matcher: &NameMatcher,
+    ) -> Result<bool, AllocError> {
         Ok(false)
     }
 }

@@ -21,9 +21,10 @@ module _ (t : NameTest) where
   suits_first x xs h = record { name = x; listed = Contains-first x xs; suits = h }
 
   pub suits_later : (x : Text) (xs : List Text) → (Suits t x → ⊥) → SuitsOneOf t (x ∷ xs) ↔ SuitsOneOf t xs
-  suits_later x xs out =
-      (λ s. ⊎_elim (λ e. absurd (out (subst (Suits t) (sym e) s.suits))) (λ r. record { name = s.name; listed = r; suits = s.suits }) (Contains-cons_cases x xs s.name s.listed),
-       λ s. record { name = s.name; listed = Contains-rest x xs s.name s.listed; suits = s.suits })
+  suits_later x xs out = (
+    λ s. ⊎_elim (λ e. absurd (out (subst (Suits t) (sym e) s.suits))) (λ r. record { name = s.name; listed = r; suits = s.suits }) (Contains-cons_cases x xs s.name s.listed),
+    λ s. record { name = s.name; listed = Contains-rest x xs s.name s.listed; suits = s.suits },
+  )
 
   -- a name that does not suit is passed over
   pub passed_over : (all left : List Text) (x : Text) (rest : List Text) (b : Bool) → left ≡ x ∷ rest → (IsTrue b ↔ Suits t x) → b ≡ false → SuitsOneOf t all ↔ SuitsOneOf t left → SuitsOneOf t all ↔ SuitsOneOf t rest

@@ -6,8 +6,8 @@ ghost use Rattle.nextest_filter_queries.specs.NameTests.{NameTest, SuitsOneOf, n
 ghost use Rattle.nextest_filter_queries.specs.Queries.{Test, test_of};
 ghost use Rattle.nextest_filter_queries.specs.Groups.{AreKnown, known_groups};
 
-use crate::queries::TestQuery;
 use crate::name_tests::suits;
+use crate::queries::TestQuery;
 use nextest_filter_matchers::NameMatcher;
 use std::alloc::{AllocError, Global};
 use std::collections::BTreeSet;
@@ -21,7 +21,11 @@ pub trait GroupLookup {
     ghost ready: { Self → Test → NameTest → Type 0 };
 
     /// Whether the test belongs to a group that the matcher matches.
-    fn is_member_test(&self, test: &TestQuery<'_>, matcher: &NameMatcher) -> Result<bool, AllocError>
+    fn is_member_test(
+        &self,
+        test: &TestQuery<'_>,
+        matcher: &NameMatcher,
+    ) -> Result<bool, AllocError>
         ensures member { IfOk result (λ r. IsTrue r ↔ member self.now (test_of test.now) (name_test matcher.now)) }
         ensures answers { ready self.now (test_of test.now) (name_test matcher.now) → IsOk result };
 }

@@ -116,13 +116,15 @@ is_positive n b e lt = grind (arith, nat_tests)
 
 -- a name suits exactly if some package is matched
 pub some_matched : {X : Type 0} (cx : ContextValue) (t : NameTest) (f : X → Text) (xs : List X) (n : ℕ) (empty : Bool) → n ≡ length xs → ((id : Text) → Contains (map f xs) id ↔ IsMatched cx t id) → empty ≡ (n == 0) → IsTrue (not empty) ↔ SuitsOneOf t (map (λ (p : Text × Text). p.1) cx.packages)
-some_matched cx t f [] n empty size each e =
-    (λ h. absurd (true≢false (sym h ∙ ap not (is_zero n empty e size))),
-     λ s. let p = Contains-map_cases (λ (q : Text × Text). q.1) cx.packages s.name s.listed in
-     absurd (Contains-none p.0.0 ((each p.0.0).1 (record { found = p.0; listed = p.1; suits = subst (λ m. Suits t m) (sym p.2) s.suits; is_its = refl }))))
-some_matched cx t f (x ∷ xs) n empty size each e =
-    (λ h. let m = (each (f x)).0 (Contains-first (f x) (map f xs)) in record { name = m.found.1; listed = Contains-map (λ (q : Text × Text). q.1) cx.packages m.found m.listed; suits = m.suits },
-     λ s. ap not (is_positive n empty e (omega (arith, size))))
+some_matched cx t f [] n empty size each e = (
+  λ h. absurd (true≢false (sym h ∙ ap not (is_zero n empty e size))),
+  λ s. let p = Contains-map_cases (λ (q : Text × Text). q.1) cx.packages s.name s.listed in
+      absurd (Contains-none p.0.0 ((each p.0.0).1 (record { found = p.0; listed = p.1; suits = subst (λ m. Suits t m) (sym p.2) s.suits; is_its = refl }))),
+)
+some_matched cx t f (x ∷ xs) n empty size each e = (
+  λ h. let m = (each (f x)).0 (Contains-first (f x) (map f xs)) in record { name = m.found.1; listed = Contains-map (λ (q : Text × Text). q.1) cx.packages m.found m.listed; suits = m.suits },
+  λ s. ap not (is_positive n empty e (omega (arith, size))),
+)
 
 pub packages_as : {X : Type 0} (f : X → Text) (passes : Text → Type 0) (keys : List Text) (lent items : List X) → lent ≡ items → ((id : Text) → Contains keys id ↔ Contains (map f lent) id) → ((id : Text) → Contains (map f items) id ↔ passes id) → ArePackages passes (compiled.Packages keys)
 packages_as f passes keys lent items e set each = record {
@@ -133,6 +135,7 @@ packages_as f passes keys lent items e set each = record {
 
 -- what is reached depends on the starts alone
 pub reached_alike : {X : Type 0} (f : X → Text) (cx : ContextValue) (direction : DependencyDirection) (passes : Text → Type 0) (lent items : List X) → lent ≡ items → ((id : Text) → Contains (map f items) id ↔ passes id) → (ids : List Text) → ((id : Text) → Contains ids id ↔ IsReachedOf cx (Contains (map f lent)) direction id) → (id : Text) → Contains ids id ↔ IsReachedOf cx passes direction id
-reached_alike f cx direction passes lent items e each ids reached id =
-    (λ h. let r = (reached id).0 h in record { found = r.found; listed = r.listed; is_its = r.is_its; start = r.start; starts_there = (each r.start).0 (subst (λ xs. Contains (map f xs) r.start) e r.starts_there); leads = r.leads },
-     λ r. (reached id).1 (record { found = r.found; listed = r.listed; is_its = r.is_its; start = r.start; starts_there = subst (λ xs. Contains (map f xs) r.start) (sym e) ((each r.start).1 r.starts_there); leads = r.leads }))
+reached_alike f cx direction passes lent items e each ids reached id = (
+  λ h. let r = (reached id).0 h in record { found = r.found; listed = r.listed; is_its = r.is_its; start = r.start; starts_there = (each r.start).0 (subst (λ xs. Contains (map f xs) r.start) e r.starts_there); leads = r.leads },
+  λ r. (reached id).1 (record { found = r.found; listed = r.listed; is_its = r.is_its; start = r.start; starts_there = subst (λ xs. Contains (map f xs) r.start) (sym e) ((each r.start).1 r.starts_there); leads = r.leads }),
+)

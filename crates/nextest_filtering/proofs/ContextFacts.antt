@@ -100,6 +100,7 @@ pub context_as : (g : TableValue) (passes : ℕ → Type 0) (s : SetValue) (name
 context_as g passes s names set were = record { graph = refl; rows = were.rows; are_rows = rows_at; named = were.named; built = were.built }
   where
     rows_at : AreRowsAt g passes were.rows
-    rows_at p =
-        (λ h. let q = (were.are_rows p).0 h in (q.0, (set.members q.0).0 q.1, subst (λ (t : TableValue). slice_get t.packages q.0 ≡ Some p) set.graph q.2),
-         λ (v, pass, at). (were.are_rows p).1 (v, (set.members v).1 pass, subst (λ (t : TableValue). slice_get t.packages v ≡ Some p) (sym set.graph) at))
+    rows_at p = (
+      λ h. let q = (were.are_rows p).0 h in (q.0, (set.members q.0).0 q.1, subst (λ (t : TableValue). slice_get t.packages q.0 ≡ Some p) set.graph q.2),
+      λ (v, pass, at). (were.are_rows p).1 (v, (set.members v).1 pass, subst (λ (t : TableValue). slice_get t.packages v ≡ Some p) (sym set.graph) at),
+    )

@@ -29,12 +29,14 @@ module _ (g : TableValue) (starts : List Text) (initials : List ℕ) (included :
   among b s h at = (are.each s).1 (Any-from_Contains (λ x. IsAt g x s) starts b h at)
 
   in_reach : (d : DependencyDirection) → ((v : ℕ) → IsTrue (has included v) ↔ IsReached (direction_of d) (numbered_links g) any_link initials v) → (id : Text) → IsInSet (record { graph = g; included = included }) id ↔ IsJoined g starts d id
-  in_reach Forward reach id =
-      (λ h. let r = (reach h.place).0 h.is_in in let q = named r.start r.among in (q.0, q.1, record { from = r.start; to = h.place; is_from = q.2; is_to = h.is_place; path = r.leads }),
-       λ (b, listed, l). record { place = l.to; is_place = l.is_to; is_in = (reach l.to).1 (record { start = l.from; among = among b l.from listed l.is_from; leads = l.path }) })
-  in_reach Reverse reach id =
-      (λ h. let r = (reach h.place).0 h.is_in in let q = named r.start r.among in (q.0, q.1, record { from = h.place; to = r.start; is_from = h.is_place; is_to = q.2; path = r.leads }),
-       λ (b, listed, l). record { place = l.from; is_place = l.is_from; is_in = (reach l.from).1 (record { start = l.to; among = among b l.to listed l.is_to; leads = l.path }) })
+  in_reach Forward reach id = (
+    λ h. let r = (reach h.place).0 h.is_in in let q = named r.start r.among in (q.0, q.1, record { from = r.start; to = h.place; is_from = q.2; is_to = h.is_place; path = r.leads }),
+    λ (b, listed, l). record { place = l.to; is_place = l.is_to; is_in = (reach l.to).1 (record { start = l.from; among = among b l.from listed l.is_from; leads = l.path }) },
+  )
+  in_reach Reverse reach id = (
+    λ h. let r = (reach h.place).0 h.is_in in let q = named r.start r.among in (q.0, q.1, record { from = h.place; to = r.start; is_from = h.is_place; is_to = q.2; path = r.leads }),
+    λ (b, listed, l). record { place = l.from; is_place = l.is_from; is_in = (reach l.from).1 (record { start = l.to; among = among b l.to listed l.is_to; leads = l.path }) },
+  )
 
 joined_as : (g : TableValue) (d : DependencyDirection) (starts : List Text) (q : QueryValue) (s : SetValue) → IsQueryOf g d (IsNamed g starts) q → IsReachOf q s → (id : Text) → IsInSet s id ↔ IsJoined g starts d id
 joined_as g d starts q s asked reach id =
@@ -46,12 +48,14 @@ joined_as g d starts q s asked reach id =
 
 -- what is picked out of the reach of a query is reached
 pub reached_of : (cx : ContextValue) (d : DependencyDirection) (starts ids : List Text) (packages : List (Text × Text)) (q : QueryValue) (s : SetValue) → IsQueryOf cx.graph d (IsNamed cx.graph starts) q → IsReachOf q s → packages ≡ cx.packages → ArePicked (λ p. IsInSet s p.0) packages ids → (id : Text) → Contains ids id ↔ IsReachedOf cx (Contains starts) d id
-reached_of cx d starts ids packages q s asked reach e picked id =
-    (λ h. let p = (picked id).0 h in let j = (joined_as cx.graph d starts q s asked reach p.0.0).0 p.2 in
-    record { found = p.0; listed = subst (λ xs. Contains xs p.0) e p.1; is_its = p.3; start = j.0; starts_there = j.1; leads = subst (LeadsAlong d cx.graph j.0) p.3 j.2 },
-     λ r. (picked id).1 (r.found, subst (λ xs. Contains xs r.found) (sym e) r.listed, (joined_as cx.graph d starts q s asked reach r.found.0).1 (r.start, r.starts_there, subst (LeadsAlong d cx.graph r.start) (sym r.is_its) r.leads), r.is_its))
+reached_of cx d starts ids packages q s asked reach e picked id = (
+  λ h. let p = (picked id).0 h in let j = (joined_as cx.graph d starts q s asked reach p.0.0).0 p.2 in
+      record { found = p.0; listed = subst (λ xs. Contains xs p.0) e p.1; is_its = p.3; start = j.0; starts_there = j.1; leads = subst (LeadsAlong d cx.graph j.0) p.3 j.2 },
+  λ r. (picked id).1 (r.found, subst (λ xs. Contains xs r.found) (sym e) r.listed, (joined_as cx.graph d starts q s asked reach r.found.0).1 (r.start, r.starts_there, subst (LeadsAlong d cx.graph r.start) (sym r.is_its) r.leads), r.is_its),
+)
 
 pub matched_of : (cx : ContextValue) (t : NameTest) (ids : List Text) (packages : List (Text × Text)) → packages ≡ cx.packages → ArePicked (λ p. Suits t p.1) packages ids → (id : Text) → Contains ids id ↔ IsMatched cx t id
-matched_of cx t ids packages e picked id =
-    (λ h. let p = (picked id).0 h in record { found = p.0; listed = subst (λ xs. Contains xs p.0) e p.1; suits = p.2; is_its = p.3 },
-     λ m. (picked id).1 (m.found, subst (λ xs. Contains xs m.found) (sym e) m.listed, m.suits, m.is_its))
+matched_of cx t ids packages e picked id = (
+  λ h. let p = (picked id).0 h in record { found = p.0; listed = subst (λ xs. Contains xs p.0) e p.1; suits = p.2; is_its = p.3 },
+  λ m. (picked id).1 (m.found, subst (λ xs. Contains xs m.found) (sym e) m.listed, m.suits, m.is_its),
+)

@@ -14,10 +14,10 @@ use Rattle.nextest_filtering.specs.Compiling.{IsCompiled}
 abbrev pub CompiledHoldTheSame : Type 0
 CompiledHoldTheSame =
     (cx : ContextValue) (f : Formula FilterLeaf) (c : Formula Leaf) → IsCompiled cx f c → (member : NameTest → Bool) (default : Bool) (t : asked.Test) →
-        Holds (LeafHolds (λ m. IsTrue (member m)) (IsTrue default) t) c ↔ Holds (FilterLeafHolds cx (λ m. IsTrue (member m)) (IsTrue default) t) f
+    Holds (LeafHolds (λ m. IsTrue (member m)) (IsTrue default) t) c ↔ Holds (FilterLeafHolds cx (λ m. IsTrue (member m)) (IsTrue default) t) f
 
 -- and some answers give it the values that some give to that filter
 abbrev pub CompiledGiveTheSame : Type 0
 CompiledGiveTheSame =
     (cx : ContextValue) (f : Formula FilterLeaf) (c : Formula Leaf) → IsCompiled cx f c → (default : Bool → Bool) (b : asked.Binary) (v : Bool) →
-        SomeAnswersGive (LeafGives (λ x. IsTrue (default x)) b) c v ↔ SomeAnswersGive (FilterLeafGives cx (λ x. IsTrue (default x)) b) f v
+    SomeAnswersGive (LeafGives (λ x. IsTrue (default x)) b) c v ↔ SomeAnswersGive (FilterLeafGives cx (λ x. IsTrue (default x)) b) f v

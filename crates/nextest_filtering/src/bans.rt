@@ -68,16 +68,28 @@ fn ban_of(leaf: &ParsedLeaf, kind: FiltersetKind) -> Option<ParseSingleError>
 {
     match (kind, leaf) {
         (FiltersetKind::TestArchive, ParsedLeaf::Test(_, span)) => {
-            Some(banned(kind, *span, BannedPredicateReason::TestNotAvailableInArchive))
+            Some(banned(
+                kind,
+                *span,
+                BannedPredicateReason::TestNotAvailableInArchive,
+            ))
         }
         (FiltersetKind::TestArchive, ParsedLeaf::Group(_, span)) => {
-            Some(banned(kind, *span, BannedPredicateReason::GroupNotAvailableInArchive))
+            Some(banned(
+                kind,
+                *span,
+                BannedPredicateReason::GroupNotAvailableInArchive,
+            ))
         }
         (FiltersetKind::OverrideFilter, ParsedLeaf::Group(_, span)) => {
             Some(banned(kind, *span, BannedPredicateReason::GroupCircularDependency))
         }
         (FiltersetKind::DefaultFilter, ParsedLeaf::Group(_, span)) => {
-            Some(banned(kind, *span, BannedPredicateReason::GroupNotAvailableInDefaultFilter))
+            Some(banned(
+                kind,
+                *span,
+                BannedPredicateReason::GroupNotAvailableInDefaultFilter,
+            ))
         }
         (FiltersetKind::DefaultFilter, ParsedLeaf::Default(span)) => {
             Some(banned(kind, *span, BannedPredicateReason::DefaultInfiniteRecursion))
@@ -86,11 +98,7 @@ fn ban_of(leaf: &ParsedLeaf, kind: FiltersetKind) -> Option<ParseSingleError>
     }
 }
 
-fn banned(
-    kind: FiltersetKind,
-    span: SourceSpan,
-    reason: BannedPredicateReason,
-) -> ParseSingleError
+fn banned(kind: FiltersetKind, span: SourceSpan, reason: BannedPredicateReason) -> ParseSingleError
     ensures { result ≡ fault.BannedPredicate kind span reason }
 {
     ParseSingleError::BannedPredicate { kind, span, reason }

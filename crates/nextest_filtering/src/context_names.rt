@@ -54,7 +54,11 @@ pub(crate) struct ContextNames {
 
 impl ContextNames {
     /// Adds a package with its binaries.
-    pub(crate) fn add(&mut self, alloc: Global, added: PackageMetadata<'_>) -> Result<(), AllocError>
+    pub(crate) fn add(
+        &mut self,
+        alloc: Global,
+        added: PackageMetadata<'_>,
+    ) -> Result<(), AllocError>
         ensures { OnOk result ((p : Package) × (slice_get (graph_of added.entry).packages (place_of added.entry) ≡ Some p) × (packages_in self.new ≡ packages_in self.old ++ (p.id, p.name) ∷ []) × (binaries_in self.new ≡ binaries_in self.old ++ binaries_of p)) }
     {
         let row = added.row();
@@ -81,10 +85,7 @@ fn push_binaries(
     Ok(())
 }
 
-fn push_some(
-    binaries: &mut Vec<NamedBinary>,
-    binary: Option<NamedBinary>,
-) -> Result<(), AllocError>
+fn push_some(binaries: &mut Vec<NamedBinary>, binary: Option<NamedBinary>) -> Result<(), AllocError>
     ensures { OnOk result (binaries.new.items ≡ binaries.old.items ++ list_of binary) }
 {
     if let Some(binary) = binary {

@@ -1,10 +1,10 @@
 //! Binaries and tests that rows ask about.
 
+use crate::row_groups::OneGroup;
 use nextest_filtering::{
     BinaryQuery, BuildPlatform, CompiledExpr, EvalContext, PackageId, RustBinaryId,
     RustTestBinaryKind, TestCaseName, TestQuery,
 };
-use crate::row_groups::OneGroup;
 use row_program::{Answers, Row, RowFault};
 use serde_json::Value;
 use std::alloc::{AllocError, Global};
