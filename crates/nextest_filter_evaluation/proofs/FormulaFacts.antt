@@ -1,0 +1,69 @@
+-- Formulas whose leaves say the same.
+use Rattle.std.proofs.Common.{◌≡◌, ◌↔◌, ◌⊎◌, inl, inr, ⊎_elim, refl, sym, true≢false, Bool, true, false, ◌||◌, ◌&&◌, not}
+use Rattle.nextest_filter_evaluation.specs.Formulas.{Formula, negation, either, both, leaf, has_leaf, EachLeaf, Holds, SomeAnswersGive}
+
+or_left : (a b : Bool) → (a || b) ≡ false → a ≡ false
+or_left false b h = refl
+or_left true b h = h
+
+or_right : (a b : Bool) → (a || b) ≡ false → b ≡ false
+or_right false b h = h
+or_right true b h = absurd (true≢false h)
+
+or_first : (a b : Bool) → a ≡ true → (a || b) ≡ true
+or_first true b h = refl
+or_first false b h = absurd (true≢false (sym h))
+
+or_second : (a b : Bool) → b ≡ true → (a || b) ≡ true
+or_second true b h = refl
+or_second false b h = h
+
+module _ {L : Type 0} where
+  pub each_of : (rule : L → Type 0) (f : Formula L) → ((l : L) → rule l) → EachLeaf rule f
+  each_of rule (negation a) h = each_of rule a h
+  each_of rule (either a b) h = (each_of rule a h, each_of rule b h)
+  each_of rule (both a b) h = (each_of rule a h, each_of rule b h)
+  each_of rule (leaf l) h = h l
+
+  pub each_map : (rule other : L → Type 0) (f : Formula L) → ((l : L) → rule l → other l) → EachLeaf rule f → EachLeaf other f
+  each_map rule other (negation a) h e = each_map rule other a h e
+  each_map rule other (either a b) h e = (each_map rule other a h e.0, each_map rule other b h e.1)
+  each_map rule other (both a b) h e = (each_map rule other a h e.0, each_map rule other b h e.1)
+  each_map rule other (leaf l) h e = h l e
+
+  pub each_without : (test : L → Bool) (f : Formula L) → has_leaf test f ≡ false → EachLeaf (λ l. test l ≡ false) f
+  each_without test (negation a) h = each_without test a h
+  each_without test (either a b) h = (each_without test a (or_left _ _ h), each_without test b (or_right _ _ h))
+  each_without test (both a b) h = (each_without test a (or_left _ _ h), each_without test b (or_right _ _ h))
+  each_without test (leaf l) h = h
+
+  -- what holds where a leaf passes may be said at each leaf that does
+  pub each_if : (test : L → Bool) (X : Type 0) (f : Formula L) → (has_leaf test f ≡ true → X) → EachLeaf (λ l. test l ≡ true → X) f
+  each_if test X (negation a) h = each_if test X a h
+  each_if test X (either a b) h = (each_if test X a (λ e. h (or_first _ _ e)), each_if test X b (λ e. h (or_second _ _ e)))
+  each_if test X (both a b) h = (each_if test X a (λ e. h (or_first _ _ e)), each_if test X b (λ e. h (or_second _ _ e)))
+  each_if test X (leaf l) h = h
+
+  pub holds_alike : (P Q : L → Type 0) (f : Formula L) → EachLeaf (λ l. P l ↔ Q l) f → Holds P f ↔ Holds Q f
+  holds_alike P Q (negation a) e = let h = holds_alike P Q a e in (λ n x. n (h.1 x), λ n x. n (h.0 x))
+  holds_alike P Q (either a b) e =
+      let h = holds_alike P Q a e.0 in
+      let k = holds_alike P Q b e.1 in
+      (λ s. ⊎_elim (λ x. inl (h.0 x)) (λ y. inr (k.0 y)) s, λ s. ⊎_elim (λ x. inl (h.1 x)) (λ y. inr (k.1 y)) s)
+  holds_alike P Q (both a b) e =
+      let h = holds_alike P Q a e.0 in
+      let k = holds_alike P Q b e.1 in
+      (λ s. (h.0 s.0, k.0 s.1), λ s. (h.1 s.0, k.1 s.1))
+  holds_alike P Q (leaf l) e = e
+
+  pub gives_alike : (P Q : L → Bool → Type 0) (f : Formula L) → EachLeaf (λ l. (v : Bool) → P l v ↔ Q l v) f → (v : Bool) → SomeAnswersGive P f v ↔ SomeAnswersGive Q f v
+  gives_alike P Q (negation a) e v = gives_alike P Q a e (not v)
+  gives_alike P Q (either a b) e v =
+      let h = gives_alike P Q a e.0 in
+      let k = gives_alike P Q b e.1 in
+      (λ s. (s.0, s.1, (h s.0).0 s.2, (k s.1).0 s.3, s.4), λ s. (s.0, s.1, (h s.0).1 s.2, (k s.1).1 s.3, s.4))
+  gives_alike P Q (both a b) e v =
+      let h = gives_alike P Q a e.0 in
+      let k = gives_alike P Q b e.1 in
+      (λ s. (s.0, s.1, (h s.0).0 s.2, (k s.1).0 s.3, s.4), λ s. (s.0, s.1, (h s.0).1 s.2, (k s.1).1 s.3, s.4))
+  gives_alike P Q (leaf l) e v = e v

@@ -1,0 +1,4 @@
+pub mod SetFacts
+pub mod FormulaFacts
+pub mod KleeneFacts
+pub mod MeaningFacts

@@ -1,0 +1,4 @@
+pub mod Formulas
+pub mod Compiled
+pub mod Meaning
+pub mod Kleene

@@ -1,0 +1,70 @@
+ghost use Rattle.std.specs.Prelude.{◌≡◌, IfOk};
+ghost use Rattle.nextest_filter_evaluation.specs.Formulas.{has_leaf};
+ghost use Rattle.nextest_filter_evaluation.specs.Compiled.{compiled_of, is_default, is_group};
+
+use crate::filterset_leaf::FiltersetLeaf;
+use std::alloc::{AllocError, Global};
+
+/// A filter with its names of packages looked up.
+#[derive(Debug, Drop, PartialEq, Eq)]
+pub enum CompiledExpr {
+    Not(Box<CompiledExpr>),
+    Union(Box<CompiledExpr>, Box<CompiledExpr>),
+    Intersection(Box<CompiledExpr>, Box<CompiledExpr>),
+    Set(FiltersetLeaf),
+}
+
+impl CompiledExpr {
+    /// The filter of all tests.
+    pub const ALL: CompiledExpr = CompiledExpr::Set(FiltersetLeaf::All);
+
+    /// Whether a group is named.
+    pub fn has_group_matchers(&self) -> bool
+        ensures groups { result ≡ has_leaf is_group (compiled_of self.now) }
+    {
+        match self {
+            CompiledExpr::Not(x) => x.has_group_matchers(),
+            CompiledExpr::Union(x, y) => x.has_group_matchers() || y.has_group_matchers(),
+            CompiledExpr::Intersection(x, y) => x.has_group_matchers() || y.has_group_matchers(),
+            CompiledExpr::Set(leaf) => matches!(leaf, FiltersetLeaf::Group(..)),
+        }
+    }
+
+    /// Whether the default filter is named.
+    pub(crate) fn has_default(&self) -> bool
+        ensures { result ≡ has_leaf is_default (compiled_of self.now) }
+    {
+        match self {
+            CompiledExpr::Not(x) => x.has_default(),
+            CompiledExpr::Union(x, y) => x.has_default() || y.has_default(),
+            CompiledExpr::Intersection(x, y) => x.has_default() || y.has_default(),
+            CompiledExpr::Set(leaf) => matches!(leaf, FiltersetLeaf::Default),
+        }
+    }
+
+    /// An equal filter in memory of its own.
+    pub fn copy(&self, alloc: Global) -> Result<CompiledExpr, AllocError>
+        ensures equal { IfOk result (λ c. compiled_of c ≡ compiled_of self.now) }
+    {
+        match self {
+            CompiledExpr::Not(x) => {
+                let x = Box::new(alloc, x.copy(alloc)?)?;
+                Ok(CompiledExpr::Not(x))
+            }
+            CompiledExpr::Union(x, y) => {
+                let x = Box::new(alloc, x.copy(alloc)?)?;
+                let y = Box::new(alloc, y.copy(alloc)?)?;
+                Ok(CompiledExpr::Union(x, y))
+            }
+            CompiledExpr::Intersection(x, y) => {
+                let x = Box::new(alloc, x.copy(alloc)?)?;
+                let y = Box::new(alloc, y.copy(alloc)?)?;
+                Ok(CompiledExpr::Intersection(x, y))
+            }
+            CompiledExpr::Set(leaf) => {
+                let leaf = leaf.copy(alloc)?;
+                Ok(CompiledExpr::Set(leaf))
+            }
+        }
+    }
+}

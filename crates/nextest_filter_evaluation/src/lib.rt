@@ -1,0 +1,15 @@
+//! Compiled filters, and what they say of tests and of binaries.
+
+#![tactic(auto)]
+
+mod binary_values;
+mod compiled_expr;
+mod eval_context;
+mod filterset_leaf;
+mod kleene;
+mod no_groups;
+mod test_values;
+
+pub use crate::compiled_expr::CompiledExpr;
+pub use crate::eval_context::EvalContext;
+pub use crate::filterset_leaf::FiltersetLeaf;

@@ -1,0 +1,20 @@
+use nextest_filter_matchers::NameMatcher;
+use nextest_filter_queries::{GroupLookup, TestQuery};
+use std::alloc::AllocError;
+
+/// Stands for groups where none is named.
+pub(crate) struct NoGroups;
+
+impl GroupLookup for NoGroups {
+    ghost member = { λ _ _ _. ⊥ };
+
+    ghost ready = { λ _ _ _. Unit {0} };
+
+    fn is_member_test(
+        &self,
+        _test: &TestQuery<'_>,
+        _matcher: &NameMatcher,
+    ) -> Result<bool, AllocError> {
+        Ok(false)
+    }
+}

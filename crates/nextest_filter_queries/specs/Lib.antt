@@ -1,0 +1,4 @@
+pub mod NameTests
+pub mod BinaryIds
+pub mod Queries
+pub mod Groups

@@ -1,0 +1,30 @@
+-- What a filter is asked about.
+use Rattle.workspace_record.specs.Records.{Text}
+use Rattle.nextest_filter_faults.specs.declared.platform.BuildPlatform.{BuildPlatform}
+use Rattle.nextest_filter_queries.specs.declared.queries.BinaryQuery.{BinaryQuery}
+use Rattle.nextest_filter_queries.specs.declared.queries.TestQuery.{TestQuery}
+
+-- a binary: its package's id, its own id, its target's name, its kind and its platform
+pub record Binary : Type 0 where
+  pub package_id : Text
+  pub id : Text
+  pub name : Text
+  pub kind : Text
+  pub platform : BuildPlatform
+
+-- a test: its binary and its name
+pub record Test : Type 0 where
+  pub binary : Binary
+  pub name : Text
+
+abbrev pub binary_of : BinaryQuery → Binary
+binary_of q = record {
+  package_id = q.package_id.now;
+  id = q.binary_id.now;
+  name = q.binary_name.now;
+  kind = q.kind.now;
+  platform = q.platform;
+}
+
+abbrev pub test_of : TestQuery → Test
+test_of q = record { binary = binary_of q.binary_query; name = q.test_name.now }

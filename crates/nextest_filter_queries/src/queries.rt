@@ -1,0 +1,25 @@
+use crate::binary_id::RustBinaryId;
+use crate::binary_kind::RustTestBinaryKind;
+use crate::test_name::TestCaseName;
+use guppy_row_parts::PackageId;
+use nextest_filter_faults::BuildPlatform;
+
+/// A binary that a filter is asked about.
+#[derive(Clone, Copy, Debug, PartialEq, Eq)]
+pub struct BinaryQuery<'a> {
+    pub package_id: &'a PackageId,
+    pub binary_id: &'a RustBinaryId,
+    /// The name of its target.
+    pub binary_name: &'a str,
+    pub kind: &'a RustTestBinaryKind,
+    /// The platform for which it is built.
+    pub platform: BuildPlatform,
+}
+
+/// A test that a filter is asked about.
+#[derive(Clone, Copy, Debug, PartialEq, Eq)]
+pub struct TestQuery<'a> {
+    /// The binary that lists it.
+    pub binary_query: BinaryQuery<'a>,
+    pub test_name: &'a TestCaseName,
+}

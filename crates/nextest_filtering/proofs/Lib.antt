@@ -1,0 +1,6 @@
+pub mod ContextFacts
+pub mod PickFacts
+pub mod ReachFacts
+pub mod AcceptFacts
+pub mod ParseFacts
+pub mod SameFacts

@@ -1,0 +1,69 @@
+-- What is answered for a text, by the steps in which it is looked at.
+use Rattle.std.proofs.Common.{rules, ◌≡◌, ◌∙◌, ◌↔◌, ◌+◌, ◌<◌, ◌==◌, inl, inr, refl, sym, ap, subst, arith, ℕ, Bool, true, false, not, Option, Some, List, [], ◌∷◌, ◌++◌, length, vec_len, Vec, Global, string_bytes, String}
+use Rattle.std.proofs.lemmas.Bool.Decides.{nat_tests}
+use Rattle.workspace_record.specs.Records.{Text}
+use Rattle.nextest_filter_matchers.specs.declared.source_span.SourceSpan.{SourceSpan}
+use Rattle.nextest_filter_faults.specs.declared.filterset_kind.FiltersetKind.{FiltersetKind}
+use Rattle.nextest_filter_faults.specs.declared.parse_error.ParseSingleError.{ParseSingleError}
+use Rattle.nextest_filter_tokens.specs.FaultLists.{AreOver, AreWithin, others, refusals}
+use Rattle.nextest_filter_syntax.specs.Trees.{Tree, tree_of}
+use Rattle.nextest_filter_syntax.specs.Grammar.{ReadsWhole}
+use Rattle.nextest_filter_syntax.specs.Reading.{part_of}
+use Rattle.nextest_filter_syntax.specs.Parsing.{AreFaultsOf, ReadsSome}
+use Rattle.nextest_filter_syntax.specs.declared.parsing.ParseExprError.TheVariants as unread
+use Rattle.nextest_filter_syntax.specs.declared.parsed_expr.ParsedExpr.{ParsedExpr}
+use Rattle.nextest_filter_syntax.proofs.StepFacts.{all_faults}
+use Rattle.nextest_filter_queries.specs.declared.groups.KnownGroups.{KnownGroups}
+use Rattle.nextest_filtering.specs.Contexts.{ContextValue}
+use Rattle.nextest_filtering.specs.Filters.{filter_of}
+use Rattle.nextest_filtering.specs.Acceptance.{AreUnmatched, IsAccepted, bans}
+use Rattle.nextest_filtering.specs.Compiling.{AddsUnmatched}
+use Rattle.nextest_filtering.specs.Refusals.{IsRefused}
+use Rattle.nextest_filtering.specs.declared.refusals.FiltersetParseErrors.{FiltersetParseErrors}
+use Rattle.nextest_filtering.proofs.AcceptFacts.{accepted, banned, unmatched}
+
+pub some_in : (n : ℕ) (b : Bool) → b ≡ (n == 0) → b ≡ false → 0 < n
+some_in n b e h = grind (arith, nat_tests)
+
+pub none_in : (n : ℕ) (b : Bool) → b ≡ (n == 0) → b ≡ true → n ≡ 0
+none_in n b e h = grind (arith, nat_tests)
+
+pub no_items : {X : Type 0} (xs : List X) (n : ℕ) → n ≡ length xs → n ≡ 0 → xs ≡ []
+no_items [] n e z = refl
+no_items (x ∷ xs) n e z = absurd (omega (arith, e, z))
+
+pub unread_as : (text lent : Text) (v : Vec ParseSingleError Global) → lent ≡ text → 0 < v.len → AreWithin (length lent) v.items → AreOver lent v.items → (others v.items ≡ 0 ↔ ReadsSome lent) → AreFaultsOf text (unread.Faults v)
+unread_as text lent v e some within over reads =
+    subst (λ xs. AreFaultsOf xs (unread.Faults v)) e
+    (some, within, over, reads, λ r. let zero = reads.1 r in let all = all_faults v.items in let size = v.ok.0 in omega (arith, zero, all, size, some))
+
+some_same : {A : Type 0} (d a b : A) → Some a ≡ Some b → a ≡ b
+some_same d a b e = search rules
+
+pub read_as : (text lent : Text) (o : Option (ParsedExpr SourceSpan)) (parsed : ParsedExpr SourceSpan) → lent ≡ text → o ≡ Some parsed → (t : Tree SourceSpan) × ReadsWhole lent t × (part_of o ≡ Some t) → ReadsWhole text (tree_of parsed)
+read_as text lent o parsed e is (t, whole, part) =
+    let same : t ≡ tree_of parsed = some_same t t (tree_of parsed) (sym part ∙ ap part_of is) in
+    subst (λ xs. ReadsWhole xs (tree_of parsed)) e (subst (ReadsWhole lent) same whole)
+
+module _ (cx : ContextValue) (groups : KnownGroups) (kind : FiltersetKind) (text : Text) (parsed : ParsedExpr SourceSpan) (reads : ReadsWhole text (tree_of parsed)) (input : String Global) where
+  pub refused_by_bans : (v : Vec ParseSingleError Global) → 0 < v.len → v.items ≡ bans kind (filter_of parsed) → IsRefused cx groups kind text (record { input = input; errors = v })
+  refused_by_bans v some e = record {
+    parsed = parsed;
+    reads = reads;
+    not_accepted = banned cx groups kind (filter_of parsed) v.items e (subst (λ n. 0 < n) v.ok.0 some);
+    some = some;
+    faults = inl e;
+  }
+
+  pub refused_by_names : (v : Vec ParseSingleError Global) → 0 < v.len → bans kind (filter_of parsed) ≡ [] → AreUnmatched cx groups (filter_of parsed) v.items → IsRefused cx groups kind text (record { input = input; errors = v })
+  refused_by_names v some e u = record {
+    parsed = parsed;
+    reads = reads;
+    not_accepted = unmatched cx groups kind (filter_of parsed) v.items u (subst (λ n. 0 < n) v.ok.0 some);
+    some = some;
+    faults = inr (e, u);
+  }
+
+-- the faults that were added to none
+pub added_alone : (cx : ContextValue) (groups : KnownGroups) (parsed : ParsedExpr SourceSpan) (old new : List ParseSingleError) → old ≡ [] → AddsUnmatched cx groups (filter_of parsed) old new → AreUnmatched cx groups (filter_of parsed) new
+added_alone cx groups parsed old new none (faults, u, e) = subst (AreUnmatched cx groups (filter_of parsed)) (sym (e ∙ ap (λ xs. xs ++ faults) none)) u

@@ -1,0 +1,167 @@
+//! Filters with their names of packages looked up.
+
+ghost use Rattle.std.specs.Prelude.{◌≡◌, ◌++◌, ◌∷◌, [], true, IfOk, OnOk, if◌then◌else◌, map};
+ghost use Rattle.nextest_filter_faults.specs.declared.parse_error.ParseSingleError.TheVariants.{NoPackageMatch};
+ghost use Rattle.nextest_filter_queries.specs.NameTests.{SuitsOneOf, name_test};
+ghost use Rattle.nextest_filter_queries.specs.Groups.{AreKnown};
+ghost use Rattle.nextest_filter_evaluation.specs.Formulas as formula;
+ghost use Rattle.nextest_filter_evaluation.specs.Formulas.{has_leaf};
+ghost use Rattle.nextest_filter_evaluation.specs.Compiled.{compiled_of, leaf_of};
+ghost use Rattle.nextest_filtering.specs.Acceptance.{names_group};
+ghost use Rattle.nextest_filtering.specs.Compiling.{AddsUnmatched, ArePackages, IsCompiled, IsCompiledLeaf, IsPicked};
+ghost use Rattle.nextest_filtering.specs.ContextViews.{AddsUnless};
+ghost use Rattle.nextest_filtering.specs.Filters.{filter_leaf, filter_of};
+
+use crate::matching::id_set;
+use crate::parse_context::ParseContext;
+use guppy_package_graph::DependencyDirection;
+use nextest_filter_evaluation::{CompiledExpr, FiltersetLeaf};
+use nextest_filter_queries::{KnownGroups, same_matcher};
+use nextest_filter_syntax::{NameMatcher, ParseSingleError, ParsedExpr, ParsedLeaf, SourceSpan};
+use std::alloc::{AllocError, Global};
+
+/// The compiled filter. Adds a fault for each leaf that matches nothing, from left to right.
+pub(crate) fn compile_expr(
+    alloc: Global,
+    expr: &ParsedExpr,
+    cx: &ParseContext<'_>,
+    groups: &KnownGroups,
+    errors: &mut Vec<ParseSingleError>,
+) -> Result<CompiledExpr, AllocError>
+    requires groups { has_leaf names_group (filter_of expr.now) ≡ true → AreKnown groups.now }
+    ensures compiled { IfOk result (λ c. IsCompiled cx.now (filter_of expr.now) (compiled_of c)) }
+    ensures faults { OnOk result (AddsUnmatched cx.now groups.now (filter_of expr.now) errors.old.items errors.new.items) }
+{
+    match expr {
+        ParsedExpr::Not(_, x) => {
+            let x = Box::new(alloc, compile_expr(alloc, x, cx, groups, errors)?)?;
+            Ok(CompiledExpr::Not(x))
+        }
+        ParsedExpr::Union(_, x, y) => {
+            let x = Box::new(alloc, compile_expr(alloc, x, cx, groups, errors)?)?;
+            let y = Box::new(alloc, compile_expr(alloc, y, cx, groups, errors)?)?;
+            Ok(CompiledExpr::Union(x, y))
+        }
+        ParsedExpr::Intersection(_, x, y) => {
+            let x = Box::new(alloc, compile_expr(alloc, x, cx, groups, errors)?)?;
+            let y = Box::new(alloc, compile_expr(alloc, y, cx, groups, errors)?)?;
+            Ok(CompiledExpr::Intersection(x, y))
+        }
+        ParsedExpr::Difference(_, x, y) => {
+            let x = Box::new(alloc, compile_expr(alloc, x, cx, groups, errors)?)?;
+            let y = Box::new(alloc, compile_expr(alloc, y, cx, groups, errors)?)?;
+            let y = Box::new(alloc, CompiledExpr::Not(y))?;
+            Ok(CompiledExpr::Intersection(x, y))
+        }
+        ParsedExpr::Parens(x) => {
+            let x = compile_expr(alloc, x, cx, groups, errors)?;
+            Ok(x)
+        }
+        ParsedExpr::Set(leaf) => {
+            let leaf = compile_leaf(alloc, leaf, cx, groups, errors)?;
+            Ok(CompiledExpr::Set(leaf))
+        }
+    }
+}
+
+fn compile_leaf(
+    alloc: Global,
+    leaf: &ParsedLeaf,
+    cx: &ParseContext<'_>,
+    groups: &KnownGroups,
+    errors: &mut Vec<ParseSingleError>,
+) -> Result<FiltersetLeaf, AllocError>
+    requires groups { names_group (filter_leaf leaf.now) ≡ true → AreKnown groups.now }
+    ensures compiled { IfOk result (λ l. IsCompiledLeaf cx.now (filter_leaf leaf.now) (leaf_of l)) }
+    ensures faults { OnOk result (AddsUnmatched cx.now groups.now (formula.leaf (filter_leaf leaf.now)) errors.old.items errors.new.items) }
+{
+    match leaf {
+        ParsedLeaf::Package(matcher, span) => {
+            let packages = packages_of(alloc, matcher, *span, cx, None, errors)?;
+            Ok(packages)
+        }
+        ParsedLeaf::Deps(matcher, span) => {
+            let direction = Some(DependencyDirection::Forward);
+            let packages = packages_of(alloc, matcher, *span, cx, direction, errors)?;
+            Ok(packages)
+        }
+        ParsedLeaf::Rdeps(matcher, span) => {
+            let direction = Some(DependencyDirection::Reverse);
+            let packages = packages_of(alloc, matcher, *span, cx, direction, errors)?;
+            Ok(packages)
+        }
+        ParsedLeaf::Kind(matcher, span) => {
+            let matcher = same_matcher(alloc, matcher)?;
+            Ok(FiltersetLeaf::Kind(matcher, *span))
+        }
+        ParsedLeaf::Binary(matcher, span) => {
+            let is_some = cx.has_binary_name(alloc, matcher)?;
+            expect(is_some, ParseSingleError::NoBinaryNameMatch(*span), errors)?;
+            let matcher = same_matcher(alloc, matcher)?;
+            Ok(FiltersetLeaf::Binary(matcher, *span))
+        }
+        ParsedLeaf::BinaryId(matcher, span) => {
+            let is_some = cx.has_binary_id(alloc, matcher)?;
+            expect(is_some, ParseSingleError::NoBinaryIdMatch(*span), errors)?;
+            let matcher = same_matcher(alloc, matcher)?;
+            Ok(FiltersetLeaf::BinaryId(matcher, *span))
+        }
+        ParsedLeaf::Platform(platform, span) => Ok(FiltersetLeaf::Platform(*platform, *span)),
+        ParsedLeaf::Test(matcher, span) => {
+            let matcher = same_matcher(alloc, matcher)?;
+            Ok(FiltersetLeaf::Test(matcher, *span))
+        }
+        ParsedLeaf::Group(matcher, span) => {
+            let is_some = groups.matches(alloc, matcher)?;
+            expect(is_some, ParseSingleError::NoGroupMatch(*span), errors)?;
+            let matcher = same_matcher(alloc, matcher)?;
+            Ok(FiltersetLeaf::Group(matcher, *span))
+        }
+        ParsedLeaf::Default(_) => Ok(FiltersetLeaf::Default),
+        ParsedLeaf::All => Ok(FiltersetLeaf::All),
+        ParsedLeaf::None => Ok(FiltersetLeaf::None),
+    }
+}
+
+/// Adds the fault, unless something was found.
+fn expect(
+    is_some: bool,
+    fault: ParseSingleError,
+    errors: &mut Vec<ParseSingleError>,
+) -> Result<(), AllocError>
+    ensures { OnOk result (errors.new.items ≡ errors.old.items ++ (if is_some then [] else fault ∷ [])) }
+{
+    if !is_some {
+        errors.push(fault)?;
+    }
+    Ok(())
+}
+
+/// The packages that match, or all that paths join with them in the direction. Adds a fault where none
+/// matches.
+fn packages_of(
+    alloc: Global,
+    matcher: &NameMatcher,
+    span: SourceSpan,
+    cx: &ParseContext<'_>,
+    direction: Option<DependencyDirection>,
+    errors: &mut Vec<ParseSingleError>,
+) -> Result<FiltersetLeaf, AllocError>
+    ensures packages { IfOk result (λ l. ArePackages (IsPicked cx.now (name_test matcher.now) direction) (leaf_of l)) }
+    ensures faults { OnOk result (AddsUnless (SuitsOneOf (name_test matcher.now) (map (λ p. p.1) cx.now.packages)) (NoPackageMatch span ∷ []) errors.old.items errors.new.items) }
+{
+    let matched = cx.matched(alloc, matcher)?;
+    let is_some = !matched.is_empty();
+    expect(is_some, ParseSingleError::NoPackageMatch(span), errors)?;
+    match direction {
+        None => {
+            let ids = id_set(alloc, &matched)?;
+            Ok(FiltersetLeaf::Packages(ids))
+        }
+        Some(direction) => {
+            let reached = cx.reached(alloc, &matched, direction)?;
+            let ids = id_set(alloc, &reached)?;
+            Ok(FiltersetLeaf::Packages(ids))
+        }
+    }
+}

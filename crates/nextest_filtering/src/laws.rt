@@ -1,0 +1,9 @@
+//! Laws that hold of all filters that are compiled.
+
+ghost use Rattle.nextest_filtering.specs.Laws.{CompiledGiveTheSame, CompiledHoldTheSame};
+
+/// A compiled filter says of tests and of binaries what the filter says that it is made of.
+pub fn compiled_filters_say_the_same()
+    ensures holds { CompiledHoldTheSame }
+    ensures gives { CompiledGiveTheSame }
+{}

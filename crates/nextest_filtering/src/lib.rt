@@ -1,0 +1,34 @@
+//! Filters over a package graph: texts compiled, and asked about binaries and tests. It gives out all
+//! of the syntax and of what filters are asked.
+
+#![tactic(auto)]
+
+mod bans;
+mod compiling;
+mod context_names;
+mod filterset;
+pub mod laws;
+mod matching;
+mod parse_context;
+mod refusals;
+
+pub use crate::filterset::Filterset;
+pub use crate::parse_context::ParseContext;
+pub use nextest_filter_evaluation::{CompiledExpr, EvalContext, FiltersetLeaf};
+pub use nextest_filter_queries::{
+    BinaryQuery, GroupLookup, KnownGroups, PackageId, RustBinaryId, RustTestBinaryKind,
+    TestCaseName, TestQuery,
+};
+pub use nextest_filter_syntax::{
+    AndOperator, BuildPlatform, DifferenceOperator, FILTERSET_REFERENCE_MD, FiltersetKind,
+    GenericGlob, NameMatcher, NotOperator, OrOperator, ParsedExpr, ParsedLeaf, SourceSpan,
+    parse_with_faults,
+};
+
+/// Why filter texts are refused.
+pub mod errors {
+    pub use crate::refusals::{FiltersetError, FiltersetParseErrors};
+    pub use nextest_filter_syntax::{
+        BannedPredicateReason, GlobConstructError, GlobError, ParseExprError, ParseSingleError,
+    };
+}
