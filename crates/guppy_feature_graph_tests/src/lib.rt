@@ -1,4 +1,4 @@
-//! Visitors of feature graphs that keep a state, boxed ones, closures, and counted resolves.
+//! Visitors of feature graphs that keep a state, boxed ones, and closures.
 #![tactic(auto)]
 
 #[cfg(test)]

@@ -1,5 +1,3 @@
-ghost use Rattle.std.specs.Prelude.{◌≡◌, ◌<◌};
-
 use crate::graphs::{WEAK, graph_of, id_of};
 use crate::visitors::{Follows, FollowsOptional};
 use guppy_feature_graph::{
@@ -7,10 +5,7 @@ use guppy_feature_graph::{
     FeatureLinkVisitor, FeatureQuery, LinkDeclarations,
 };
 use guppy_package_graph::{DependencyDirection, Error, PackageId};
-use numbered_graph::Looks;
-use std::alloc::{AllocError, Global};
-use std::marker::Brand;
-use std::sync::ledger::{Blank, Ledger};
+use std::alloc::Global;
 use std::test::Fail;
 
 // From the feature `weak` of app, and from its dependency foo.
@@ -96,38 +91,5 @@ fn closure_shown_the_required_half_first(rt: HostRuntime) -> Result<(), Fail> {
     let shown = halves_shown(rt.alloc())?;
     let wanted = [LinkDeclarations::Required, LinkDeclarations::Optional];
     assert!(rt; shown.iter().copied().eq(wanted.iter().copied()));
-    Ok(())
-}
-
-// How many features a counted resolve includes.
-fn counted<L: Ledger>(
-    alloc: Global,
-    query: FeatureQuery<'_>,
-    visitor: &mut dyn FeatureLinkVisitor,
-    blank: Blank,
-) -> Result<usize, AllocError>
-    requires name { blank.name ≡ L.name }
-    requires parts { blank.parts ≡ L.parts }
-    requires some { 0 < blank.parts }
-{
-    let mut looks = Looks::<L>::new(blank);
-    let included = query.resolve_with_counted(alloc, visitor, &mut looks)?;
-    Ok(included.len())
-}
-
-fn counted_in(alloc: Global, data: &FeatureGraphData<'_>) -> Result<usize, Fail> {
-    let app = id_of(alloc, "app")?;
-    let query = query_of(alloc, FeatureGraph::of(data), &app)?;
-    let mut visitor = Follows { left: 1, shown: 0 };
-    let count = counted::<Brand>(alloc, query, &mut visitor, Blank::new(1))?;
-    Ok(count)
-}
-
-#[test]
-fn counts_looks(rt: HostRuntime) -> Result<(), Fail> {
-    let packages = graph_of(rt.alloc(), WEAK)?;
-    let data = FeatureGraphData::build(rt.alloc(), &packages)?;
-    let count = counted_in(rt.alloc(), &data)?;
-    assert_eq!(rt; count, 5);
     Ok(())
 }
