@@ -7,9 +7,11 @@ mod compiled_expr;
 mod eval_context;
 mod filterset_leaf;
 mod kleene;
+mod lent_lookup;
 mod no_groups;
 mod test_values;
 
 pub use crate::compiled_expr::CompiledExpr;
 pub use crate::eval_context::EvalContext;
 pub use crate::filterset_leaf::FiltersetLeaf;
+pub use crate::no_groups::NoGroups;

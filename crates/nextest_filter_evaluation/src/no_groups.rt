@@ -2,8 +2,8 @@ use nextest_filter_matchers::NameMatcher;
 use nextest_filter_queries::{GroupLookup, TestQuery};
 use std::alloc::AllocError;
 
-/// Stands for groups where none is named.
-pub(crate) struct NoGroups;
+/// Stands for groups where none is named: no test is in any.
+pub struct NoGroups;
 
 impl GroupLookup for NoGroups {
     ghost member = { λ _ _ _. ⊥ };

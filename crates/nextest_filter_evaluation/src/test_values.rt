@@ -10,6 +10,7 @@ ghost use Rattle.nextest_filter_evaluation.specs.Meaning.{LeafHolds, Passes};
 use crate::compiled_expr::CompiledExpr;
 use crate::eval_context::EvalContext;
 use crate::filterset_leaf::FiltersetLeaf;
+use crate::lent_lookup::LentLookup;
 use crate::no_groups::NoGroups;
 use nextest_filter_queries::{GroupLookup, TestQuery, suits};
 use std::alloc::{AllocError, Global};
@@ -27,7 +28,7 @@ impl CompiledExpr {
         ensures holds { IfOk result (λ r. IsTrue r ↔ Passes (compiled_of cx.now.default_filter.now) (λ _. ⊥) (test_of query.now) (compiled_of self.now)) }
         ensures answers { has_leaf has_pattern (compiled_of self.now) ≡ false → has_leaf has_pattern (compiled_of cx.now.default_filter.now) ≡ false → IsOk result }
     {
-        self.matches_test_with_groups(alloc, query, cx, &NoGroups)
+        self.matches_test_by(alloc, query, cx, &NoGroups)
     }
 
     /// Whether the filter holds of the test, whose groups the lookup knows. Memory is wanted where the
@@ -42,19 +43,33 @@ impl CompiledExpr {
         ensures holds { IfOk result (λ r. IsTrue r ↔ Passes (compiled_of cx.now.default_filter.now) (member groups.now (test_of query.now)) (test_of query.now) (compiled_of self.now)) }
         ensures answers { has_leaf has_pattern (compiled_of self.now) ≡ false → has_leaf has_pattern (compiled_of cx.now.default_filter.now) ≡ false → (has_leaf is_group (compiled_of self.now) ≡ true → (m : NameTest) → ready groups.now (test_of query.now) m) → IsOk result }
     {
+        self.matches_test_by(alloc, query, cx, &LentLookup { lookup: groups })
+    }
+
+    /// The same by a lookup of a known type.
+    pub fn matches_test_by<G: GroupLookup>(
+        &self,
+        alloc: Global,
+        query: &TestQuery<'_>,
+        cx: &EvalContext<'_>,
+        groups: &G,
+    ) -> Result<bool, AllocError>
+        ensures holds { IfOk result (λ r. IsTrue r ↔ Passes (compiled_of cx.now.default_filter.now) (G.member groups.now (test_of query.now)) (test_of query.now) (compiled_of self.now)) }
+        ensures answers { has_leaf has_pattern (compiled_of self.now) ≡ false → has_leaf has_pattern (compiled_of cx.now.default_filter.now) ≡ false → (has_leaf is_group (compiled_of self.now) ≡ true → (m : NameTest) → G.ready groups.now (test_of query.now) m) → IsOk result }
+    {
         let default = self.default_value(alloc, query, cx.default_filter, groups)?;
         self.value_of(alloc, query, groups, default)
     }
 
     /// Whether the default filter holds of the test, if it is named.
-    fn default_value(
+    fn default_value<G: GroupLookup>(
         &self,
         alloc: Global,
         query: &TestQuery<'_>,
         default_filter: &CompiledExpr,
-        groups: &dyn GroupLookup,
+        groups: &G,
     ) -> Result<bool, AllocError>
-        ensures holds { IfOk result (λ r. has_leaf is_default (compiled_of self.now) ≡ true → (IsTrue r ↔ Holds (LeafHolds (member groups.now (test_of query.now)) (IsTrue false) (test_of query.now)) (compiled_of default_filter.now))) }
+        ensures holds { IfOk result (λ r. has_leaf is_default (compiled_of self.now) ≡ true → (IsTrue r ↔ Holds (LeafHolds (G.member groups.now (test_of query.now)) (IsTrue false) (test_of query.now)) (compiled_of default_filter.now))) }
         ensures answers { has_leaf has_pattern (compiled_of default_filter.now) ≡ false → has_leaf is_group (compiled_of default_filter.now) ≡ false → IsOk result }
     {
         if !self.has_default() {
@@ -65,15 +80,15 @@ impl CompiledExpr {
     }
 
     /// Whether the filter holds of the test, where the default filter does or does not.
-    fn value_of(
+    fn value_of<G: GroupLookup>(
         &self,
         alloc: Global,
         query: &TestQuery<'_>,
-        groups: &dyn GroupLookup,
+        groups: &G,
         default: bool,
     ) -> Result<bool, AllocError>
-        ensures holds { IfOk result (λ r. IsTrue r ↔ Holds (LeafHolds (member groups.now (test_of query.now)) (IsTrue default) (test_of query.now)) (compiled_of self.now)) }
-        ensures answers { has_leaf has_pattern (compiled_of self.now) ≡ false → (has_leaf is_group (compiled_of self.now) ≡ true → (m : NameTest) → ready groups.now (test_of query.now) m) → IsOk result }
+        ensures holds { IfOk result (λ r. IsTrue r ↔ Holds (LeafHolds (G.member groups.now (test_of query.now)) (IsTrue default) (test_of query.now)) (compiled_of self.now)) }
+        ensures answers { has_leaf has_pattern (compiled_of self.now) ≡ false → (has_leaf is_group (compiled_of self.now) ≡ true → (m : NameTest) → G.ready groups.now (test_of query.now) m) → IsOk result }
     {
         match self {
             CompiledExpr::Not(x) => {
@@ -95,15 +110,15 @@ impl CompiledExpr {
     }
 }
 
-fn leaf_holds(
+fn leaf_holds<G: GroupLookup>(
     alloc: Global,
     leaf: &FiltersetLeaf,
     query: &TestQuery<'_>,
-    groups: &dyn GroupLookup,
+    groups: &G,
     default: bool,
 ) -> Result<bool, AllocError>
-    ensures holds { IfOk result (λ r. IsTrue r ↔ LeafHolds (member groups.now (test_of query.now)) (IsTrue default) (test_of query.now) (leaf_of leaf.now)) }
-    ensures answers { has_pattern (leaf_of leaf.now) ≡ false → (is_group (leaf_of leaf.now) ≡ true → (m : NameTest) → ready groups.now (test_of query.now) m) → IsOk result }
+    ensures holds { IfOk result (λ r. IsTrue r ↔ LeafHolds (G.member groups.now (test_of query.now)) (IsTrue default) (test_of query.now) (leaf_of leaf.now)) }
+    ensures answers { has_pattern (leaf_of leaf.now) ≡ false → (is_group (leaf_of leaf.now) ≡ true → (m : NameTest) → G.ready groups.now (test_of query.now) m) → IsOk result }
 {
     let binary = query.binary_query;
     match leaf {

@@ -1,3 +1,4 @@
+pub mod PatternFacts
 pub mod SignFacts
 pub mod ReadFacts
 pub mod OnceFacts

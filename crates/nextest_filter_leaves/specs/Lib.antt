@@ -1,4 +1,5 @@
 pub mod Leaves
+pub mod AsWritten
 pub mod LeafTexts
 pub mod LeafGrammar
 pub mod Laws

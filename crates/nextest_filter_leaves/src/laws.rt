@@ -1,8 +1,13 @@
 //! Laws that hold of all leaves.
 
-ghost use Rattle.nextest_filter_leaves.specs.Laws.{LeavesReadOnce};
+ghost use Rattle.nextest_filter_leaves.specs.Laws.{LeavesReadOnce, PatternsOfOneTextMatchAlike};
 
 /// From one place on, a leaf is read in one way alone.
 pub fn leaves_read_once()
     ensures { LeavesReadOnce }
+{}
+
+/// Two patterns that were read in one text by the default options are found in the same names.
+pub fn patterns_of_one_text_match_alike()
+    ensures alike { PatternsOfOneTextMatchAlike }
 {}

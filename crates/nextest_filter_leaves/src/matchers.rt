@@ -5,6 +5,7 @@ ghost use Rattle.regex.specs.Strings.{regex_source};
 ghost use Rattle.nextest_filter_tokens.specs.Bytes.{is_byte};
 ghost use Rattle.nextest_filter_tokens.specs.FaultLists.{AreOver, AreWithin, IsOverPattern, others, refusals};
 ghost use Rattle.nextest_filter_leaves.specs.declared.signs.Style.TheVariants.{Glob as Globs};
+ghost use Rattle.nextest_filter_leaves.specs.AsWritten.{IsAsWritten, IsMatcherAsWritten};
 ghost use Rattle.nextest_filter_leaves.specs.LeafGrammar.{PatternFrom, ReadsMatcher, ReadsSome, TextFrom, made_of};
 
 use crate::places::close_place;
@@ -71,6 +72,7 @@ fn glob_matcher(
     ensures within { OnOk result ((n : ℕ) → AreWithin n faults.old.list.items → span.offset + span.len ≤ n → AreWithin n faults.new.list.items) }
     ensures over { OnOk result ((text : List ℕ) → AreOver text faults.old.list.items → AreOver text faults.new.list.items) }
     ensures read { IfOk result (λ r. IfSome r (λ m. made_of Globs implicit (string_bytes value) ≡ Some (matcher_of m))) }
+    ensures as_written { IfOk result (λ r. IfSome r IsMatcherAsWritten) }
     ensures spoiled { IfOk result (λ r. IfNone r (0 < vec_len faults.new.list)) }
     ensures fault { IfOk result (λ r. IfNone r (0 < others faults.new.list.items)) }
     ensures only { IfOk result (λ r. others faults.old.list.items ≡ 0 → (m : Matcher) → made_of Globs implicit (string_bytes value) ≡ Some m → others faults.new.list.items ≡ 0) }
@@ -100,6 +102,7 @@ fn made(
     ensures within { OnOk result ((n : ℕ) → AreWithin n faults.old.list.items → span.offset + span.len ≤ n → AreWithin n faults.new.list.items) }
     ensures over { OnOk result ((text : List ℕ) → AreOver text faults.old.list.items → AreOver text faults.new.list.items) }
     ensures read { IfOk result (λ r. IfSome r (λ m. made_of style implicit (string_bytes value) ≡ Some (matcher_of m))) }
+    ensures as_written { IfOk result (λ r. IfSome r IsMatcherAsWritten) }
     ensures spoiled { IfOk result (λ r. IfNone r (0 < vec_len faults.new.list)) }
     ensures fault { IfOk result (λ r. IfNone r (0 < others faults.new.list.items)) }
     ensures only { IfOk result (λ r. others faults.old.list.items ≡ 0 → (m : Matcher) → made_of style implicit (string_bytes value) ≡ Some m → others faults.new.list.items ≡ 0) }
@@ -135,6 +138,7 @@ fn text_matcher(
     ensures within { OnOk result (AreWithin (length text.now) faults.new.list.items) }
     ensures over { OnOk result (AreOver text.now faults.new.list.items) }
     ensures read { IfOk result (λ p. others faults.new.list.items ≡ 0 → IfSome p.0 (λ m. TextFrom text.now style implicit at (matcher_of m) p.1)) }
+    ensures as_written { IfOk result (λ p. IfSome p.0 IsMatcherAsWritten) }
     ensures spoiled { IfOk result (λ p. IfNone p.0 (0 < vec_len faults.new.list)) }
     ensures fault { IfOk result (λ p. IfNone p.0 (0 < others faults.new.list.items)) }
     ensures only { IfOk result (λ p. others faults.old.list.items ≡ 0 → (x : Matcher) (j : ℕ) → TextFrom text.now style implicit at x j → (p.1 ≡ j) × (others faults.new.list.items ≡ 0)) }
@@ -155,7 +159,8 @@ fn text_matcher(
 
 /// The regex of a pattern, and none of a pattern that is refused.
 fn regex_of(alloc: Global, pattern: &str) -> Result<Option<Regex>, AllocError>
-    ensures { IfOk result (λ r. IfSome r (λ x. regex_source x ≡ pattern.now)) }
+    ensures source { IfOk result (λ r. IfSome r (λ x. regex_source x ≡ pattern.now)) }
+    ensures as_written { IfOk result (λ r. IfSome r IsAsWritten) }
 {
     match Regex::new(alloc, pattern) {
         Ok(regex) => Ok(Some(regex)),
@@ -177,6 +182,7 @@ fn built(
     ensures within { OnOk result ((n : ℕ) → AreWithin n faults.old.list.items → span.offset + span.len ≤ n → AreWithin n faults.new.list.items) }
     ensures over { OnOk result ((text : List ℕ) → AreOver text faults.old.list.items → IsOverPattern text span.offset (span.offset + span.len) → AreOver text faults.new.list.items) }
     ensures read { IfOk result (λ r. IfSome r (λ m. matcher_of m ≡ IsPattern pattern.now)) }
+    ensures as_written { IfOk result (λ r. IfSome r IsMatcherAsWritten) }
     ensures spoiled { IfOk result (λ r. IfNone r (0 < vec_len faults.new.list)) }
 {
     match regex_of(alloc, pattern)? {
@@ -212,6 +218,7 @@ fn pattern_matcher(
     ensures over { OnOk result (AreOver text.now faults.new.list.items) }
     ensures read { IfOk result (λ p. others faults.new.list.items ≡ 0 → IfSome p.0 (λ m. PatternFrom text.now (at + 1) (matcher_of m) p.1)) }
     ensures refused { IfOk result (λ p. others faults.new.list.items ≡ 0 → IfNone p.0 ((x : Matcher) × PatternFrom text.now (at + 1) x p.1)) }
+    ensures as_written { IfOk result (λ p. IfSome p.0 IsMatcherAsWritten) }
     ensures spoiled { IfOk result (λ p. IfNone p.0 (0 < vec_len faults.new.list)) }
     ensures only { IfOk result (λ p. others faults.old.list.items ≡ 0 → (x : Matcher) (j : ℕ) → PatternFrom text.now (at + 1) x j → (p.1 ≡ j) × (others faults.new.list.items ≡ 0)) }
 {
@@ -258,6 +265,7 @@ pub(crate) fn matcher_from(
     ensures over { OnOk result (AreOver text.now faults.new.list.items) }
     ensures read { IfOk result (λ p. others faults.new.list.items ≡ 0 → IfSome p.0 (λ m. ReadsMatcher text.now predicate at (matcher_of m) p.1)) }
     ensures refused { IfOk result (λ p. others faults.new.list.items ≡ 0 → IfNone p.0 ((x : Matcher) × ReadsMatcher text.now predicate at x p.1)) }
+    ensures as_written { IfOk result (λ p. IfSome p.0 IsMatcherAsWritten) }
     ensures spoiled { IfOk result (λ p. IfNone p.0 (0 < vec_len faults.new.list)) }
     ensures only { IfOk result (λ p. others faults.old.list.items ≡ 0 → (x : Matcher) (j : ℕ) → ReadsMatcher text.now predicate at x j → (p.1 ≡ j) × (others faults.new.list.items ≡ 0)) }
 {

@@ -5,6 +5,7 @@ ghost use Rattle.nextest_filter_faults.specs.Signs.{platform_text};
 ghost use Rattle.nextest_filter_faults.specs.declared.platform.BuildPlatform as declared;
 ghost use Rattle.nextest_filter_matchers.specs.declared.source_span.SourceSpan as source;
 ghost use Rattle.nextest_filter_tokens.specs.FaultLists.{AreOver, AreWithin, others, refusals};
+ghost use Rattle.nextest_filter_leaves.specs.AsWritten.{IsLeafAsWritten, IsMatcherAsWritten};
 ghost use Rattle.nextest_filter_leaves.specs.Leaves.{Leaf, Named, leaf_of};
 ghost use Rattle.nextest_filter_leaves.specs.LeafGrammar as spec;
 ghost use Rattle.nextest_filter_leaves.specs.LeafGrammar.{IsUpToClose, NamedFrom, NullaryFrom, PlatformFrom};
@@ -19,7 +20,8 @@ use std::alloc::{AllocError, Global};
 
 /// The leaf of a predicate's matcher.
 fn leaf_with(predicate: Predicate, matcher: NameMatcher, span: SourceSpan) -> ParsedLeaf
-    ensures { leaf_of result ≡ Named predicate (matcher_of matcher) span }
+    ensures value { leaf_of result ≡ Named predicate (matcher_of matcher) span }
+    ensures as_written { IsMatcherAsWritten matcher → IsLeafAsWritten result }
 {
     match predicate {
         Predicate::Package => ParsedLeaf::Package(matcher, span),
@@ -35,7 +37,8 @@ fn leaf_with(predicate: Predicate, matcher: NameMatcher, span: SourceSpan) -> Pa
 
 /// The leaf of a word that takes nothing.
 fn nullary_leaf(word: Nullary, span: SourceSpan) -> ParsedLeaf
-    ensures { leaf_of result ≡ spec.nullary_leaf word span }
+    ensures value { leaf_of result ≡ spec.nullary_leaf word span }
+    ensures as_written { IsLeafAsWritten result }
 {
     match word {
         Nullary::Default => ParsedLeaf::Default(span),
@@ -88,6 +91,7 @@ pub fn named_set_from(
     ensures over { OnOk result (AreOver text.now faults.new.list.items) }
     ensures read { IfOk result (λ p. others faults.new.list.items ≡ 0 → IfSome p.0 (λ l. NamedFrom text.now predicate at (leaf_of l) p.1)) }
     ensures refused { IfOk result (λ p. others faults.new.list.items ≡ 0 → IfNone p.0 ((x : Leaf source.SourceSpan) × NamedFrom text.now predicate at x p.1)) }
+    ensures as_written { IfOk result (λ p. IfSome p.0 IsLeafAsWritten) }
     ensures spoiled { IfOk result (λ p. IfNone p.0 (0 < vec_len faults.new.list)) }
     ensures only { IfOk result (λ p. others faults.old.list.items ≡ 0 → (x : Leaf source.SourceSpan) (j : ℕ) → NamedFrom text.now predicate at x j → (p.1 ≡ j) × (others faults.new.list.items ≡ 0)) }
 {
@@ -164,6 +168,7 @@ pub fn platform_set_from(
     ensures within { OnOk result (AreWithin (length text.now) faults.new.list.items) }
     ensures over { OnOk result (AreOver text.now faults.new.list.items) }
     ensures read { IfOk result (λ p. others faults.new.list.items ≡ 0 → IfSome p.0 (λ l. PlatformFrom text.now at (leaf_of l) p.1)) }
+    ensures as_written { IfOk result (λ p. IfSome p.0 IsLeafAsWritten) }
     ensures spoiled { IfOk result (λ p. IfNone p.0 (0 < vec_len faults.new.list)) }
     ensures fault { IfOk result (λ p. IfNone p.0 (0 < others faults.new.list.items)) }
     ensures only { IfOk result (λ p. others faults.old.list.items ≡ 0 → (x : Leaf source.SourceSpan) (j : ℕ) → PlatformFrom text.now at x j → (p.1 ≡ j) × (others faults.new.list.items ≡ 0)) }
@@ -233,6 +238,7 @@ pub fn nullary_set_from(
     ensures refusals { OnOk result (refusals faults.new.list.items ≡ refusals faults.old.list.items) }
     ensures within { OnOk result (AreWithin (length text.now) faults.new.list.items) }
     ensures over { OnOk result (AreOver text.now faults.new.list.items) }
+    ensures as_written { IfOk result (λ p. IsLeafAsWritten p.0) }
     ensures read { IfOk result (λ p. others faults.new.list.items ≡ 0 → NullaryFrom text.now word start at (leaf_of p.0) p.1) }
     ensures only { IfOk result (λ p. others faults.old.list.items ≡ 0 → (x : Leaf source.SourceSpan) (j : ℕ) → NullaryFrom text.now word start at x j → (p.1 ≡ j) × (others faults.new.list.items ≡ 0)) }
 {

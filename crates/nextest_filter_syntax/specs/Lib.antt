@@ -1,4 +1,5 @@
 pub mod Trees
+pub mod AsWritten
 pub mod TreeTexts
 pub mod Runtime
 pub mod Grammar

@@ -2,6 +2,7 @@ ghost use Rattle.std.specs.Prelude.{◌≡◌, ◌≤◌, ◌<◌, ◌↔◌, So
 ghost use Rattle.nextest_filter_matchers.specs.declared.source_span.SourceSpan as source;
 ghost use Rattle.nextest_filter_tokens.specs.Bytes.{skip};
 ghost use Rattle.nextest_filter_tokens.specs.FaultLists.{AreOver, AreWithin, others, refusals};
+ghost use Rattle.nextest_filter_syntax.specs.AsWritten.{IsExprAsWritten};
 ghost use Rattle.nextest_filter_syntax.specs.Trees.{Tree, tree_of};
 ghost use Rattle.nextest_filter_syntax.specs.Grammar.{ReadsWhole};
 ghost use Rattle.nextest_filter_syntax.specs.Reading.{part_of};
@@ -54,6 +55,7 @@ pub fn parse_with_faults(
     ensures exact { IfOk result (λ r. vec_len r.1 ≡ 0 ↔ ((t : Tree source.SourceSpan) × ReadsWhole text.now t × (part_of r.0 ≡ Some t))) }
     ensures reads { IfOk result (λ r. others r.1.items ≡ 0 ↔ ReadsSome text.now) }
     ensures spoiled { IfOk result (λ r. IfNone r.0 (0 < vec_len r.1)) }
+    ensures as_written { IfOk result (λ r. IfSome r.0 IsExprAsWritten) }
     ensures built { IfOk result (λ r. IfSome r.0 (λ _. refusals r.1.items ≡ 0)) }
     ensures tree { IfOk result (λ r. (t : Tree source.SourceSpan) → ReadsWhole text.now t → IfSome r.0 (λ x. tree_of x ≡ t)) }
     ensures within { IfOk result (λ r. AreWithin (length text.now) r.1.items) }
@@ -70,11 +72,13 @@ impl ParsedExpr<SourceSpan> {
     ghost use Rattle.nextest_filter_matchers.specs.declared.source_span.SourceSpan as source;
     ghost use Rattle.nextest_filter_syntax.specs.Trees.{Tree, tree_of};
     ghost use Rattle.nextest_filter_syntax.specs.Grammar.{ReadsWhole};
+    ghost use Rattle.nextest_filter_syntax.specs.AsWritten.{IsExprAsWritten};
     ghost use Rattle.nextest_filter_syntax.specs.Parsing.{AreFaultsOf};
 
     /// The tree of a filter, even where faults of its text were found.
     pub fn parse(alloc: Global, text: &str) -> Result<ParsedExpr, ParseExprError>
         ensures tree { IfOk result (λ x. (t : Tree source.SourceSpan) → ReadsWhole text.now t → tree_of x ≡ t) }
+        ensures as_written { IfOk result IsExprAsWritten }
         ensures faults { IfErr result (AreFaultsOf text.now) }
     {
         match parse_with_faults(alloc, text) {

@@ -1,4 +1,6 @@
-ghost use Rattle.std.specs.Prelude.{◌≡◌, IfOk};
+ghost use Rattle.std.specs.Prelude.{◌≡◌, IfOk, IfSome};
+ghost use Rattle.nextest_filter_leaves.specs.AsWritten.{IsLeafAsWritten};
+ghost use Rattle.nextest_filter_syntax.specs.AsWritten.{IsExprAsWritten};
 ghost use Rattle.nextest_filter_syntax.specs.Trees.{tree_of};
 ghost use Rattle.nextest_filter_syntax.specs.Grammar.{joined_of};
 ghost use Rattle.nextest_filter_syntax.specs.Reading.{joined_part, leaf_part, negated_part, parens_part, part_of};
@@ -11,7 +13,8 @@ use std::alloc::{AllocError, Global};
 
 /// The expression of a leaf, unless it is spoiled.
 pub(crate) fn leaf_expr(leaf: Option<ParsedLeaf>) -> Option<ParsedExpr>
-    ensures { part_of result ≡ leaf_part leaf }
+    ensures value { part_of result ≡ leaf_part leaf }
+    ensures as_written { IfSome leaf IsLeafAsWritten → IfSome result IsExprAsWritten }
 {
     match leaf {
         Some(leaf) => Some(ParsedExpr::Set(leaf)),
@@ -25,7 +28,8 @@ pub(crate) fn negated(
     op: NotOperator,
     expr: Option<ParsedExpr>,
 ) -> Result<Option<ParsedExpr>, AllocError>
-    ensures { IfOk result (λ r. part_of r ≡ negated_part op (part_of expr)) }
+    ensures value { IfOk result (λ r. part_of r ≡ negated_part op (part_of expr)) }
+    ensures as_written { IfSome expr IsExprAsWritten → IfOk result (λ r. IfSome r IsExprAsWritten) }
 {
     match expr {
         Some(expr) => {
@@ -41,7 +45,8 @@ pub(crate) fn in_parens(
     alloc: Global,
     expr: Option<ParsedExpr>,
 ) -> Result<Option<ParsedExpr>, AllocError>
-    ensures { IfOk result (λ r. part_of r ≡ parens_part (part_of expr)) }
+    ensures value { IfOk result (λ r. part_of r ≡ parens_part (part_of expr)) }
+    ensures as_written { IfSome expr IsExprAsWritten → IfOk result (λ r. IfSome r IsExprAsWritten) }
 {
     match expr {
         Some(expr) => {
@@ -59,7 +64,8 @@ fn joined_by(
     left: ParsedExpr,
     right: ParsedExpr,
 ) -> Result<ParsedExpr, AllocError>
-    ensures { IfOk result (λ x. tree_of x ≡ joined_of op (tree_of left) (tree_of right)) }
+    ensures value { IfOk result (λ x. tree_of x ≡ joined_of op (tree_of left) (tree_of right)) }
+    ensures as_written { IsExprAsWritten left → IsExprAsWritten right → IfOk result IsExprAsWritten }
 {
     let left = Box::new(alloc, left)?;
     let right = Box::new(alloc, right)?;
@@ -80,7 +86,8 @@ pub(crate) fn joined(
     left: Option<ParsedExpr>,
     right: Option<ParsedExpr>,
 ) -> Result<Option<ParsedExpr>, AllocError>
-    ensures { IfOk result (λ r. part_of r ≡ joined_part found (part_of left) (part_of right)) }
+    ensures value { IfOk result (λ r. part_of r ≡ joined_part found (part_of left) (part_of right)) }
+    ensures as_written { IfSome left IsExprAsWritten → IfSome right IsExprAsWritten → IfOk result (λ r. IfSome r IsExprAsWritten) }
 {
     let Found::Right(op, _) = found else {
         return Ok(None);

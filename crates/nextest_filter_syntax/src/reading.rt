@@ -5,6 +5,7 @@ ghost use Rattle.nextest_filter_faults.specs.Faults.{is_refusal, span_of};
 ghost use Rattle.nextest_filter_tokens.specs.FaultLists.{AreOver, AreWithin, others, refusals};
 ghost use Rattle.nextest_filter_tokens.specs.Heads.{HeadEndsWithin, head_at};
 ghost use Rattle.nextest_filter_syntax.specs.Trees.{Tree};
+ghost use Rattle.nextest_filter_syntax.specs.AsWritten.{IsExprAsWritten};
 ghost use Rattle.nextest_filter_syntax.specs.Grammar.{Reads};
 ghost use Rattle.nextest_filter_syntax.specs.Reading.{Ends, IsReading, parens_part, part_of};
 ghost use Rattle.nextest_filter_leaves.specs.LeafGrammar.{Stands};
@@ -126,6 +127,7 @@ fn closed_parens(
     ensures within { OnOk result (AreWithin (length text.now) faults.new.list.items) }
     ensures over { OnOk result (AreOver text.now faults.new.list.items) }
     ensures value { IfOk result (λ p. part_of p.0 ≡ parens_part (part_of tree)) }
+    ensures as_written { IfSome tree IsExprAsWritten → IfOk result (λ p. IfSome p.0 IsExprAsWritten) }
     ensures read { IfOk result (λ p. others faults.new.list.items ≡ 0 → Stands text.now at 41 p.1) }
     ensures only { IfOk result (λ p. others faults.old.list.items ≡ 0 → (j : ℕ) → Stands text.now at 41 j → (p.1 ≡ j) × (others faults.new.list.items ≡ 0)) }
 {
@@ -158,6 +160,7 @@ pub(crate) fn tree_from(
     ensures within { OnOk result (AreWithin (length text.now) faults.new.list.items) }
     ensures over { OnOk result (AreOver text.now faults.new.list.items) }
     ensures read { IfOk result (λ p. others faults.new.list.items ≡ 0 → IsReading text.now room level at p.0 p.1) }
+    ensures as_written { IfOk result (λ p. IfSome p.0 IsExprAsWritten) }
     ensures spoiled { IfOk result (λ p. IfNone p.0 (0 < vec_len faults.new.list)) }
     ensures only { IfOk result (λ p. others faults.old.list.items ≡ 0 → (t : Tree source.SourceSpan) (j : ℕ) → Reads text.now room level at t j → Ends text.now level j → (p.1 ≡ j) × (others faults.new.list.items ≡ 0)) }
 {
@@ -197,6 +200,7 @@ fn operand_from(
     ensures within { OnOk result (AreWithin (length text.now) faults.new.list.items) }
     ensures over { OnOk result (AreOver text.now faults.new.list.items) }
     ensures read { IfOk result (λ p. others faults.new.list.items ≡ 0 → IsReading text.now room 0 at p.0 p.1) }
+    ensures as_written { IfOk result (λ p. IfSome p.0 IsExprAsWritten) }
     ensures spoiled { IfOk result (λ p. IfNone p.0 (0 < vec_len faults.new.list)) }
     ensures only { IfOk result (λ p. others faults.old.list.items ≡ 0 → (t : Tree source.SourceSpan) (j : ℕ) → Reads text.now room 0 at t j → (p.1 ≡ j) × (others faults.new.list.items ≡ 0)) }
 {

@@ -1,5 +1,5 @@
 -- When filters are accepted.
-use Rattle.std.proofs.Common.{◌≡◌, ◌∙◌, ◌↔◌, ◌⊎◌, ◌<◌, ◌==◌, inl, inr, ⊎_elim, refl, sym, ap, subst, arith, true≢false, ℕ, Bool, true, false, not, ◌||◌, IsTrue, if◌then◌else◌, List, [], ◌∷◌, ◌++◌, length, map, Contains, append-nil}
+use Rattle.std.proofs.Common.{◌≡◌, ◌∙◌, ◌↔◌, ◌<◌, ◌==◌, inl, inr, ⊎_elim, refl, sym, ap, subst, arith, true≢false, ℕ, Bool, true, false, not, ◌||◌, IsTrue, if◌then◌else◌, List, [], ◌∷◌, ◌++◌, length, map, Contains}
 use Rattle.std.proofs.lemmas.Bool.Decides.{nat_tests}
 use Rattle.list_facts.proofs.Membership.{Contains-none, Contains-first, Contains-map, Contains-map_cases}
 use Rattle.workspace_record.specs.Records.{Text}

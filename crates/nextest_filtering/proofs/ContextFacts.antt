@@ -2,7 +2,7 @@
 use Rattle.std.proofs.Common.{rules, ◌≡◌, ◌∙◌, ◌↔◌, IsTrue, refl, sym, ap, ap₂, subst, append_assoc, append-nil, ℕ, List, [], ◌∷◌, ◌++◌, map, flat_map, Contains, Option, Some, None, slice_get}
 use Rattle.list_facts.proofs.Membership.{Contains-map, Contains-map_cases}
 use Rattle.list_facts.proofs.Lists.{flat_map-append}
-use Rattle.workspace_record.specs.Records.{Text, Package}
+use Rattle.workspace_record.specs.Records.{Package}
 use Rattle.numbered_graph.specs.Sets.{has}
 use Rattle.guppy_package_table.specs.Tables.{TableValue}
 use Rattle.guppy_package_graph.specs.PackagesViews.{all_left, packages_graph_of, packages_left}

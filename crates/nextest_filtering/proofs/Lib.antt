@@ -4,3 +4,5 @@ pub mod ReachFacts
 pub mod AcceptFacts
 pub mod ParseFacts
 pub mod SameFacts
+pub mod AlikeFacts
+pub mod BareFacts

@@ -1,11 +1,12 @@
 -- What is answered for a text, by the steps in which it is looked at.
-use Rattle.std.proofs.Common.{rules, ◌≡◌, ◌∙◌, ◌↔◌, ◌+◌, ◌<◌, ◌==◌, inl, inr, refl, sym, ap, subst, arith, ℕ, Bool, true, false, not, Option, Some, List, [], ◌∷◌, ◌++◌, length, vec_len, Vec, Global, string_bytes, String}
+use Rattle.std.proofs.Common.{rules, ◌≡◌, ◌∙◌, ◌↔◌, ◌<◌, ◌==◌, inl, inr, refl, sym, ap, subst, arith, ℕ, Bool, true, false, Option, Some, List, [], ◌∷◌, ◌++◌, length, Vec, Global, String}
 use Rattle.std.proofs.lemmas.Bool.Decides.{nat_tests}
 use Rattle.workspace_record.specs.Records.{Text}
 use Rattle.nextest_filter_matchers.specs.declared.source_span.SourceSpan.{SourceSpan}
 use Rattle.nextest_filter_faults.specs.declared.filterset_kind.FiltersetKind.{FiltersetKind}
 use Rattle.nextest_filter_faults.specs.declared.parse_error.ParseSingleError.{ParseSingleError}
-use Rattle.nextest_filter_tokens.specs.FaultLists.{AreOver, AreWithin, others, refusals}
+use Rattle.nextest_filter_tokens.specs.FaultLists.{AreOver, AreWithin, others}
+use Rattle.nextest_filter_syntax.specs.AsWritten.{IsExprAsWritten}
 use Rattle.nextest_filter_syntax.specs.Trees.{Tree, tree_of}
 use Rattle.nextest_filter_syntax.specs.Grammar.{ReadsWhole}
 use Rattle.nextest_filter_syntax.specs.Reading.{part_of}
@@ -16,11 +17,10 @@ use Rattle.nextest_filter_syntax.proofs.StepFacts.{all_faults}
 use Rattle.nextest_filter_queries.specs.declared.groups.KnownGroups.{KnownGroups}
 use Rattle.nextest_filtering.specs.Contexts.{ContextValue}
 use Rattle.nextest_filtering.specs.Filters.{filter_of}
-use Rattle.nextest_filtering.specs.Acceptance.{AreUnmatched, IsAccepted, bans}
+use Rattle.nextest_filtering.specs.Acceptance.{AreUnmatched, bans}
 use Rattle.nextest_filtering.specs.Compiling.{AddsUnmatched}
 use Rattle.nextest_filtering.specs.Refusals.{IsRefused}
-use Rattle.nextest_filtering.specs.declared.refusals.FiltersetParseErrors.{FiltersetParseErrors}
-use Rattle.nextest_filtering.proofs.AcceptFacts.{accepted, banned, unmatched}
+use Rattle.nextest_filtering.proofs.AcceptFacts.{banned, unmatched}
 
 pub some_in : (n : ℕ) (b : Bool) → b ≡ (n == 0) → b ≡ false → 0 < n
 some_in n b e h = grind (arith, nat_tests)
@@ -45,11 +45,12 @@ read_as text lent o parsed e is (t, whole, part) =
     let same : t ≡ tree_of parsed = some_same t t (tree_of parsed) (sym part ∙ ap part_of is) in
     subst (λ xs. ReadsWhole xs (tree_of parsed)) e (subst (ReadsWhole lent) same whole)
 
-module _ (cx : ContextValue) (groups : KnownGroups) (kind : FiltersetKind) (text : Text) (parsed : ParsedExpr SourceSpan) (reads : ReadsWhole text (tree_of parsed)) (input : String Global) where
+module _ (cx : ContextValue) (groups : KnownGroups) (kind : FiltersetKind) (text : Text) (parsed : ParsedExpr SourceSpan) (reads : ReadsWhole text (tree_of parsed)) (written : IsExprAsWritten parsed) (input : String Global) where
   pub refused_by_bans : (v : Vec ParseSingleError Global) → 0 < v.len → v.items ≡ bans kind (filter_of parsed) → IsRefused cx groups kind text (record { input = input; errors = v })
   refused_by_bans v some e = record {
     parsed = parsed;
     reads = reads;
+    as_written = written;
     not_accepted = banned cx groups kind (filter_of parsed) v.items e (subst (λ n. 0 < n) v.ok.0 some);
     some = some;
     faults = inl e;
@@ -59,6 +60,7 @@ module _ (cx : ContextValue) (groups : KnownGroups) (kind : FiltersetKind) (text
   refused_by_names v some e u = record {
     parsed = parsed;
     reads = reads;
+    as_written = written;
     not_accepted = unmatched cx groups kind (filter_of parsed) v.items u (subst (λ n. 0 < n) v.ok.0 some);
     some = some;
     faults = inr (e, u);

@@ -1,5 +1,5 @@
 -- Packages that are picked one by one.
-use Rattle.std.proofs.Common.{◌≡◌, ◌∙◌, ◌↔◌, ◌⊎◌, ◌+◌, ◌<◌, inl, inr, ⊎_elim, refl, sym, ap, subst, true≢false, append_assoc, append-nil, length, take, drop, get_or, Bool, true, false, IsTrue, if◌then◌else◌, ℕ, List, [], ◌∷◌, ◌++◌, map, Contains}
+use Rattle.std.proofs.Common.{◌≡◌, ◌∙◌, ◌↔◌, ◌⊎◌, ◌+◌, ◌<◌, inl, inr, ⊎_elim, refl, sym, ap, subst, true≢false, append-nil, length, take, drop, get_or, Bool, true, false, IsTrue, if◌then◌else◌, ℕ, List, [], ◌∷◌, ◌++◌, map, Contains}
 use Rattle.list_facts.specs.Ascending.{text_cmp}
 use Rattle.nextest_filtering.proofs.ContextFacts.{map-append}
 use Rattle.list_facts.proofs.Ascending.{text_total, text_exact, Contains-insert_key, Contains-insert_key_cases}

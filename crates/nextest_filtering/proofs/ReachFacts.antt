@@ -1,5 +1,5 @@
 -- What a walk from packages reaches, by the ids of packages.
-use Rattle.std.proofs.Common.{◌≡◌, ◌∙◌, ◌↔◌, sym, subst, ℕ, Bool, List, Contains, IsTrue}
+use Rattle.std.proofs.Common.{◌≡◌, ◌↔◌, sym, subst, ℕ, Bool, List, Contains, IsTrue}
 use Rattle.list_facts.proofs.Quantifiers.{Any-from_Contains, Any_cases}
 use Rattle.numbered_graph.specs.Paths.{IsReached, any_link}
 use Rattle.numbered_graph.specs.Sets.{has}
@@ -13,7 +13,7 @@ use Rattle.guppy_package_graph.specs.Queries.{AreInitials, IsQueryOf, QueryValue
 use Rattle.guppy_package_graph.specs.Resolves.{IsReachOf}
 use Rattle.guppy_package_graph.specs.SetValues.{SetValue}
 use Rattle.nextest_filter_queries.specs.NameTests.{NameTest, Suits}
-use Rattle.nextest_filtering.specs.Contexts.{ContextValue, Leads}
+use Rattle.nextest_filtering.specs.Contexts.{ContextValue}
 use Rattle.nextest_filtering.specs.ContextViews.{ArePicked, IsInSet}
 use Rattle.nextest_filtering.specs.Meaning.{IsMatched, IsReachedOf, LeadsAlong}
 

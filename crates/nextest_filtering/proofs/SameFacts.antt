@@ -1,5 +1,5 @@
 -- Compiled filters say what the filters say that they are made of.
-use Rattle.std.proofs.Common.{◌≡◌, ◌↔◌, ◌⊎◌, inl, inr, ⊎_elim, Bool, true, false, not}
+use Rattle.std.proofs.Common.{◌↔◌, inl, inr, ⊎_elim, Bool, true, false, not}
 use Rattle.nextest_filter_tokens.specs.declared.heads.Predicate.TheVariants as names
 use Rattle.nextest_filter_queries.specs.NameTests.{NameTest}
 use Rattle.nextest_filter_queries.specs.Queries as asked
@@ -12,10 +12,10 @@ use Rattle.nextest_filtering.specs.Filters as filter
 use Rattle.nextest_filtering.specs.Meaning.{FilterLeafHolds, FilterLeafGives}
 use Rattle.nextest_filtering.specs.Compiling.{IsCompiled, IsCompiledLeaf}
 
-same : (P : Type 0) → P ↔ P
+pub same : (P : Type 0) → P ↔ P
 same P = (λ p. p, λ p. p)
 
-gives_same : (P Q : Type 0) → P ↔ Q → (v : Bool) → Gives P v ↔ Gives Q v
+pub gives_same : (P Q : Type 0) → P ↔ Q → (v : Bool) → Gives P v ↔ Gives Q v
 gives_same P Q h true = h
 gives_same P Q h false = (λ n q. n (h.1 q), λ n p. n (h.0 p))
 

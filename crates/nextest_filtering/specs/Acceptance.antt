@@ -1,10 +1,7 @@
 -- Which filters are accepted: what is banned where a filter stands, and which names have to be there.
-use Rattle.std.specs.Prelude.{◌≡◌, ◌⊎◌, Bool, true, false, List, [], ◌∷◌, ◌++◌, Option, Some, map}
-use Rattle.std.specs.Prelude as std
-use Rattle.nextest_filter_matchers.specs.declared.source_span.SourceSpan.{SourceSpan}
+use Rattle.std.specs.Prelude.{◌≡◌, ◌⊎◌, Bool, true, false, List, [], ◌∷◌, ◌++◌, map}
 use Rattle.nextest_filter_faults.specs.declared.filterset_kind.FiltersetKind.{FiltersetKind}
 use Rattle.nextest_filter_faults.specs.declared.filterset_kind.FiltersetKind.TheVariants as kind
-use Rattle.nextest_filter_faults.specs.declared.filterset_kind.BannedPredicateReason.{BannedPredicateReason}
 use Rattle.nextest_filter_faults.specs.declared.filterset_kind.BannedPredicateReason.TheVariants.{DefaultInfiniteRecursion, GroupCircularDependency, GroupNotAvailableInDefaultFilter, GroupNotAvailableInArchive, TestNotAvailableInArchive}
 use Rattle.nextest_filter_faults.specs.declared.parse_error.ParseSingleError.{ParseSingleError}
 use Rattle.nextest_filter_faults.specs.declared.parse_error.ParseSingleError.TheVariants.{BannedPredicate, NoPackageMatch, NoGroupMatch, NoBinaryIdMatch, NoBinaryNameMatch}
@@ -14,7 +11,7 @@ use Rattle.nextest_filter_queries.specs.Groups.{known_groups}
 use Rattle.nextest_filter_queries.specs.declared.groups.KnownGroups.{KnownGroups}
 use Rattle.nextest_filter_evaluation.specs.Formulas.{Formula, negation, either, both, leaf, EachLeaf}
 use Rattle.nextest_filtering.specs.Contexts.{ContextValue}
-use Rattle.nextest_filtering.specs.Filters.{FilterLeaf, Named, Platform, Default, All}
+use Rattle.nextest_filtering.specs.Filters.{FilterLeaf, Named, Default}
 
 abbrev pub names_group : FilterLeaf → Bool
 names_group (Named names.Group test span) = true

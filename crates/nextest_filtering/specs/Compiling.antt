@@ -1,5 +1,5 @@
 -- How compiled filters stand to the filters that they are made of.
-use Rattle.std.specs.Prelude.{◌≡◌, ◌↔◌, List, [], ◌∷◌, ◌++◌, Option, Some, None, Contains}
+use Rattle.std.specs.Prelude.{◌≡◌, ◌↔◌, List, ◌++◌, Option, Some, None, Contains}
 use Rattle.workspace_record.specs.Records.{Text}
 use Rattle.guppy_row_parts.specs.declared.dependency_direction.DependencyDirection.{DependencyDirection}
 use Rattle.nextest_filter_faults.specs.declared.parse_error.ParseSingleError.{ParseSingleError}

@@ -5,4 +5,5 @@ pub mod Meaning
 pub mod Acceptance
 pub mod Compiling
 pub mod Refusals
+pub mod SameFilters
 pub mod Laws

@@ -1,5 +1,5 @@
 -- What filters say of tests and of binaries, over the packages of a context and the paths of its graph.
-use Rattle.std.specs.Prelude.{◌≡◌, Bool, List, map, Contains}
+use Rattle.std.specs.Prelude.{◌≡◌, Bool, Contains}
 use Rattle.workspace_record.specs.Records.{Text}
 use Rattle.guppy_row_parts.specs.declared.dependency_direction.DependencyDirection.{DependencyDirection}
 use Rattle.guppy_row_parts.specs.declared.dependency_direction.DependencyDirection.TheVariants.{Forward, Reverse}

@@ -1,8 +1,9 @@
 -- What is answered for a text that is no accepted filter.
-use Rattle.std.specs.Prelude.{◌≡◌, ◌⊎◌, ◌<◌, [], List, vec_len, string_bytes}
+use Rattle.std.specs.Prelude.{◌≡◌, ◌⊎◌, ◌<◌, [], vec_len, string_bytes}
 use Rattle.workspace_record.specs.Records.{Text}
 use Rattle.nextest_filter_matchers.specs.declared.source_span.SourceSpan.{SourceSpan}
 use Rattle.nextest_filter_faults.specs.declared.filterset_kind.FiltersetKind.{FiltersetKind}
+use Rattle.nextest_filter_syntax.specs.AsWritten.{IsExprAsWritten}
 use Rattle.nextest_filter_syntax.specs.Trees.{tree_of}
 use Rattle.nextest_filter_syntax.specs.Grammar.{ReadsWhole}
 use Rattle.nextest_filter_syntax.specs.Parsing.{AreFaultsOf}
@@ -21,6 +22,7 @@ module _ (cx : ContextValue) (groups : KnownGroups) (kind : FiltersetKind) where
   pub record IsRefused (text : Text) (refused : FiltersetParseErrors) : Type 0 where
     pub parsed : ParsedExpr SourceSpan
     pub reads : ReadsWhole text (tree_of parsed)
+    pub as_written : IsExprAsWritten parsed
     pub not_accepted : IsAccepted cx groups kind (filter_of parsed) → ⊥
     pub some : 0 < vec_len refused.errors
     pub faults : (refused.errors.items ≡ bans kind (filter_of parsed)) ⊎ ((bans kind (filter_of parsed) ≡ []) × AreUnmatched cx groups (filter_of parsed) refused.errors.items)

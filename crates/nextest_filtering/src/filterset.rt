@@ -4,6 +4,7 @@ ghost use Rattle.std.specs.Prelude.{◌≡◌, ◌↔◌, ◌<◌, Bool, Some, f
 ghost use Rattle.std.specs.Str.Iter.{HasSubslice};
 ghost use Rattle.nextest_filter_faults.specs.declared.filterset_kind.FiltersetKind.TheVariants.{Test};
 ghost use Rattle.nextest_filter_syntax.specs.Grammar.{ReadsWhole};
+ghost use Rattle.nextest_filter_syntax.specs.AsWritten.{IsExprAsWritten};
 ghost use Rattle.nextest_filter_syntax.specs.Trees.{tree_of};
 ghost use Rattle.nextest_filter_queries.specs.Groups.{AreKnown};
 ghost use Rattle.nextest_filter_queries.specs.NameTests.{NameTest};
@@ -51,6 +52,7 @@ impl Filterset {
         requires known { kind ≡ Test → AreKnown known_groups.now }
         ensures input { IfOk result (λ f. string_bytes f.input ≡ string_bytes input) }
         ensures reads { IfOk result (λ f. ReadsWhole (string_bytes input) (tree_of f.parsed)) }
+        ensures as_written { IfOk result (λ f. IsExprAsWritten f.parsed) }
         ensures accepted { IfOk result (λ f. IsAccepted cx.now known_groups.now kind (filter_of f.parsed)) }
         ensures compiled { IfOk result (λ f. IsCompiled cx.now (filter_of f.parsed) (compiled_of f.compiled)) }
         ensures refused { IfErr result (IsRefusal cx.now known_groups.now kind (string_bytes input)) }

@@ -12,11 +12,11 @@ use Rattle.nextest_filter_syntax.proofs.reading.+reading.Goals as goal
 
 pub operand_from-returns-in_ok-leaf-in-Names-clause-read : goal.operand_from-returns-in_ok-leaf-in-Names-clause-read
 operand_from-returns-in_ok-leaf-in-Names-clause-read n c clean =
-    leaf_read c.args.text.now c.args.room c.args.at c.in_ok-leaf-in-Names.end c.skip_blanks-start.result _ c.in_ok-leaf-in-Names.leaf _ c.skip_blanks-start.ensures.value c.in-Names.ensures.value c.leaf_expr.ensures (c.in_ok-leaf-in-Names.ensures.read clean) (c.in_ok-leaf-in-Names.ensures.refused clean)
+    leaf_read c.args.text.now c.args.room c.args.at c.in_ok-leaf-in-Names.end c.skip_blanks-start.result _ c.in_ok-leaf-in-Names.leaf _ c.skip_blanks-start.ensures.value c.in-Names.ensures.value c.leaf_expr.ensures.value (c.in_ok-leaf-in-Names.ensures.read clean) (c.in_ok-leaf-in-Names.ensures.refused clean)
 
 pub operand_from-returns-in_ok-leaf-in-Platform-clause-read : goal.operand_from-returns-in_ok-leaf-in-Platform-clause-read
 operand_from-returns-in_ok-leaf-in-Platform-clause-read n c clean =
-    leaf_read c.args.text.now c.args.room c.args.at c.in_ok-leaf-in-Platform.end c.skip_blanks-start.result _ c.in_ok-leaf-in-Platform.leaf _ c.skip_blanks-start.ensures.value c.in-Platform.ensures.value c.leaf_expr-in-Platform.ensures (c.in_ok-leaf-in-Platform.ensures.read clean) (fault_none _ c.in_ok-leaf-in-Platform.leaf _ clean c.in_ok-leaf-in-Platform.ensures.fault)
+    leaf_read c.args.text.now c.args.room c.args.at c.in_ok-leaf-in-Platform.end c.skip_blanks-start.result _ c.in_ok-leaf-in-Platform.leaf _ c.skip_blanks-start.ensures.value c.in-Platform.ensures.value c.leaf_expr-in-Platform.ensures.value (c.in_ok-leaf-in-Platform.ensures.read clean) (fault_none _ c.in_ok-leaf-in-Platform.leaf _ clean c.in_ok-leaf-in-Platform.ensures.fault)
 
 pub operand_from-returns-in_ok-leaf-in-Says-clause-read : goal.operand_from-returns-in_ok-leaf-in-Says-clause-read
 operand_from-returns-in_ok-leaf-in-Says-clause-read n c clean =
@@ -29,7 +29,7 @@ operand_from-returns-in_ok-leaf-in-Says-clause-only n c clean t j r =
 
 pub operand_from-returns-in_ok-tree-in-Negates-2-clause-read : goal.operand_from-returns-in_ok-tree-in-Negates-2-clause-read
 operand_from-returns-in_ok-tree-in-Negates-2-clause-read n c clean =
-    negated_read c.args.text.now c.args.room c.args.at c.skip_blanks-start.result c.in-Negates.next c.in_ok-tree-in-Negates.end c.in-Negates.op c.in_ok-tree-in-Negates.tree c.in_ok-tree-in-Negates-2.tree c.skip_blanks-start.ensures.value c.in-Negates.ensures.value (omega arith) c.in_ok-tree-in-Negates-2.ensures (c.in_ok-tree-in-Negates.ensures.read clean)
+    negated_read c.args.text.now c.args.room c.args.at c.skip_blanks-start.result c.in-Negates.next c.in_ok-tree-in-Negates.end c.in-Negates.op c.in_ok-tree-in-Negates.tree c.in_ok-tree-in-Negates-2.tree c.skip_blanks-start.ensures.value c.in-Negates.ensures.value (omega arith) c.in_ok-tree-in-Negates-2.ensures.value (c.in_ok-tree-in-Negates.ensures.read clean)
 
 pub operand_from-returns-in_ok-tree-in-Negates-2-clause-only : goal.operand_from-returns-in_ok-tree-in-Negates-2-clause-only
 operand_from-returns-in_ok-tree-in-Negates-2-clause-only n c clean t j r =
@@ -64,6 +64,7 @@ tree_from-loop-tree-init n c =
       read = λ clean. first_read text c.args.room c.args.level lower c.args.at c.in_ok-tree-2.end c.in_ok-tree-2.tree is (first.read clean);
       refusals = first.refusals;
       spoiled = first.spoiled;
+      as_written = first.as_written;
       only = λ clean t j r ends.
           let from = first_only text c.args.room c.args.level lower c.args.at j t is r ends in
           let tree = first.only clean from.0 from.1 from.2 from.4 in
@@ -106,9 +107,10 @@ tree_from-loop-tree-preserved n c =
       over = right.over;
       read = λ clean.
           let first : others c.loop-tree.faults.list.items ≡ 0 = omega (arith, clean, right.others, found.others) in
-          step_read text room level lower c.args.at c.loop-tree.end c.in-Some.next c.in_ok-right.after c.in_ok-found.found c.loop-tree.tree c.in_ok-right.right c.in_ok-tree-3.tree found.value place (λ wrong. omega (arith, clean, right.others, found.wrong wrong)) c.in_ok-tree-3.ensures (before.read first) (right.read clean);
-      refusals = step_refusals text c.in_ok-found.found c.in-Some.next _ _ _ _ c.loop-tree.tree c.in_ok-right.right c.in_ok-tree-3.tree place c.in_ok-tree-3.ensures before.refusals found.refusals right.refusals;
-      spoiled = step_spoiled text c.in_ok-found.found c.in-Some.next _ _ _ c.loop-tree.tree c.in_ok-right.right c.in_ok-tree-3.tree place c.in_ok-tree-3.ensures before.spoiled found.some right.spoiled (omega (arith, found.grows, right.grows)) right.grows;
+          step_read text room level lower c.args.at c.loop-tree.end c.in-Some.next c.in_ok-right.after c.in_ok-found.found c.loop-tree.tree c.in_ok-right.right c.in_ok-tree-3.tree found.value place (λ wrong. omega (arith, clean, right.others, found.wrong wrong)) c.in_ok-tree-3.ensures.value (before.read first) (right.read clean);
+      refusals = step_refusals text c.in_ok-found.found c.in-Some.next _ _ _ _ c.loop-tree.tree c.in_ok-right.right c.in_ok-tree-3.tree place c.in_ok-tree-3.ensures.value before.refusals found.refusals right.refusals;
+      spoiled = step_spoiled text c.in_ok-found.found c.in-Some.next _ _ _ c.loop-tree.tree c.in_ok-right.right c.in_ok-tree-3.tree place c.in_ok-tree-3.ensures.value before.spoiled found.some right.spoiled (omega (arith, found.grows, right.grows)) right.grows;
+      as_written = c.in_ok-tree-3.ensures.as_written before.as_written right.as_written;
       only = λ clean t j r ends.
           let from = before.only clean t j r ends in
           let step = step_only text room level lower c.loop-tree.end c.in-Some.next j from.1.0 t c.in_ok-found.found is found.value place from.1.1 ends in

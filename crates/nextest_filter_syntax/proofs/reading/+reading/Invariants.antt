@@ -1,6 +1,7 @@
 use Rattle.std.proofs.Common.{◌≡◌, ℕ, ◌+◌, ◌-◌, ◌*◌, ◌≤◌, ◌<◌, IfSome, IfNone, length, vec_len}
 use Rattle.nextest_filter_matchers.specs.declared.source_span.SourceSpan.{SourceSpan}
 use Rattle.nextest_filter_tokens.specs.FaultLists.{AreOver, AreWithin, others, refusals}
+use Rattle.nextest_filter_syntax.specs.AsWritten.{IsExprAsWritten}
 use Rattle.nextest_filter_syntax.specs.Trees.{Tree}
 use Rattle.nextest_filter_syntax.specs.Grammar.{MoreOf, Reads}
 use Rattle.nextest_filter_syntax.specs.Reading.{Ends}
@@ -23,6 +24,7 @@ invariant-tree_from-loop-tree l = record {
   over : AreOver l.text l.faults.list.items;
   read : others l.faults.list.items ≡ 0 → IsBegun l.text l.room l.level (l.level - 1) l.at l.tree l.end;
   refusals : IfSome l.tree (λ _. refusals l.faults.list.items ≡ refusals l.fn.faults.list.items);
+  as_written : IfSome l.tree IsExprAsWritten;
   spoiled : IfNone l.tree (0 < vec_len l.faults.list);
   only : others l.fn.faults.list.items ≡ 0 → (t : Tree SourceSpan) (j : ℕ) → Reads l.text l.room l.level l.at t j → Ends l.text l.level j → (others l.faults.list.items ≡ 0) × ((a : Tree SourceSpan) × MoreOf l.text l.room (l.level - 1) l.end a t j);
 }

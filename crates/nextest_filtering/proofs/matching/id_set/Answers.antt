@@ -1,4 +1,4 @@
-use Rattle.std.proofs.Common.{◌∙◌, ◌↔◌, Contains, ap, map, subst, take, take_all}
+use Rattle.std.proofs.Common.{◌∙◌, ◌↔◌, Contains, ap, map, subst, take_all}
 use Rattle.std.specs.BTreeSet.{insert_key}
 use Rattle.list_facts.specs.Ascending.{text_cmp}
 use Rattle.workspace_record.specs.Records.{Text}

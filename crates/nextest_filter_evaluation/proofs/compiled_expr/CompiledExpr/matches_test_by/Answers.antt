@@ -1,6 +1,6 @@
 use Rattle.nextest_filter_evaluation.specs.Compiled.{compiled_of}
 use Rattle.nextest_filter_evaluation.proofs.MeaningFacts.{alone, iff_trans, says_alike, with_default}
-use Rattle.nextest_filter_evaluation.proofs.compiled_expr.CompiledExpr.matches_test_with_groups.Goals as goal
+use Rattle.nextest_filter_evaluation.proofs.compiled_expr.CompiledExpr.matches_test_by.Goals as goal
 
 pub returns-clause-holds : goal.returns-clause-holds
 returns-clause-holds g c =
