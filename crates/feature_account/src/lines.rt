@@ -23,7 +23,8 @@ pub fn counts(
     by_kind && is_in_force(table, &line.spec)
 }
 
-fn is_in_force(table: &PlatformTable, spec: &Option<String>) -> bool
+/// Whether a line for the platforms of this spec is in force on the table's platform.
+pub fn is_in_force(table: &PlatformTable, spec: &Option<String>) -> bool
     ensures { result ≡ is_in_force table.now (option_map string_bytes spec.now) }
 {
     match spec {

@@ -1,5 +1,5 @@
 -- Features and their order; what the accounts of what is on conclude.
-use Rattle.std.proofs.Common.{◌≡◌, ℕ, ◌++◌, [], ◌∷◌, ◌∙◌, ◌<◌, ◌+◌, List, Option, Some, None, ap, sym, subst, take, get_or, length, slice_get, Vec, Result, Ok, Err, IfOk, IsTrue, Contains, ◌↔◌, false, nat_lt, ◌≤◌, arith}
+use Rattle.std.proofs.Common.{◌≡◌, ℕ, ◌++◌, [], ◌∷◌, ◌∙◌, ◌<◌, ◌+◌, List, Option, ap, sym, subst, take, get_or, length, slice_get, Vec, Result, Ok, Err, IfOk, IsTrue, Contains, ◌↔◌, false, nat_lt, ◌≤◌, arith}
 use Rattle.std.specs.Global.{Global}
 use Rattle.std.specs.List.{cons_option}
 use Rattle.std.specs.Option.{option_map}

@@ -1,2 +1,3 @@
 pub mod Concluded
+pub mod Halving
 pub mod OnLines

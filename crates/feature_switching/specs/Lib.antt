@@ -1,5 +1,2 @@
-pub mod ErrorTexts
-pub mod Errors
-pub mod Extras
+pub mod LentLabels
 pub mod OnLines
-pub mod Switching

@@ -64,7 +64,8 @@ fn line_is_on(
     counts(index, table, link.from.as_str(), line) && start_is_on(on, link, line)
 }
 
-fn start_is_on(on: &FeaturesOn, link: &LinkRecord, line: &LineRecord) -> bool
+/// Whether that is on from which the line is: the link's source, or the optional dependency of its name.
+pub fn start_is_on(on: &FeaturesOn, link: &LinkRecord, line: &LineRecord) -> bool
     ensures { result ≡ concluded_set on.now (line_start link.now line.now) }
 {
     if line.optional {

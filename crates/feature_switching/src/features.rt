@@ -1,20 +1,20 @@
 //! The features that rules switch on.
 
 ghost use Rattle.std.specs.Prelude.{◌≡◌, ◌↔◌, IfOk, IsTrue, Contains};
-ghost use Rattle.std.specs.List.{list_any};
 ghost use Rattle.std.specs.List.Sorted.{IsStrictlySortedBy};
 ghost use Rattle.list_facts.specs.Ascending.{IsAscendingOf};
-ghost use Rattle.workspace_record.specs.Features.{FeatureValue, Base, Named, Dep, label_eq, feature_eq, feature_cmp};
-ghost use Rattle.workspace_record.specs.LabelView.{label_view};
+ghost use Rattle.workspace_record.specs.Features.{FeatureValue, feature_cmp};
 ghost use Rattle.feature_account.specs.Accounts.{conclusions, concluded_set};
 ghost use Rattle.feature_account.specs.RuleList.{base_of, named_of, dep_of};
 ghost use Rattle.feature_account.specs.Closed.{IsOn};
+ghost use Rattle.feature_switching.specs.LentLabels.{lent_view};
 
+use crate::lent_label::{LentLabel, compare};
 use account_making::account_of;
 use feature_account::Rule;
 use std::alloc::{AllocError, Global};
 use std::marker::Model;
-use workspace_record::{Feature, Label};
+use workspace_record::Feature;
 
 /// The features that are on, in ascending order, each once.
 #[derive(Debug, Drop)]
@@ -24,11 +24,14 @@ pub struct FeaturesOn {
 
 impl Model for FeaturesOn {
     ghost use Rattle.std.specs.Prelude.{List};
-    ghost use Rattle.workspace_record.specs.Features.{FeatureValue};
+    ghost use Rattle.std.specs.List.Sorted.{IsStrictlySortedBy};
+    ghost use Rattle.workspace_record.specs.Features.{FeatureValue, feature_cmp};
 
     ghost Value = { List FeatureValue };
 
     ghost view = { λ on. on.features.items };
+
+    ghost invariant = { λ on. IsStrictlySortedBy feature_cmp on.features.items };
 }
 
 impl FeaturesOn {
@@ -36,69 +39,51 @@ impl FeaturesOn {
     pub fn contains(&self, feature: &Feature) -> bool
         ensures { IsTrue result ↔ Contains self.now feature.now }
     {
-        concludes(&self.features, feature)
+        let label = LentLabel::of(&feature.label);
+        finds(&self.features, feature.package.as_str(), label)
     }
 
     /// Whether the package's base is on.
-    pub(crate) fn contains_base(&self, package_id: &str) -> bool
+    pub fn contains_base(&self, package_id: &str) -> bool
         ensures { result ≡ concluded_set self.now (base_of package_id.now) }
     {
-        self.features
-            .iter()
-            .any(|f| f.package.as_str() == package_id && is_base(&f.label))
+        finds(&self.features, package_id, LentLabel::Base)
     }
 
     /// Whether the package's feature of this name is on.
-    pub(crate) fn contains_named(&self, package_id: &str, name: &str) -> bool
+    pub fn contains_named(&self, package_id: &str, name: &str) -> bool
         ensures { result ≡ concluded_set self.now (named_of package_id.now name.now) }
     {
-        self.features.iter().any(|f| f.package.as_str() == package_id && is_named(&f.label, name))
+        finds(&self.features, package_id, LentLabel::Named(name))
     }
 
     /// Whether the package's optional dependency of this name is on.
-    pub(crate) fn contains_dep(&self, package_id: &str, name: &str) -> bool
+    pub fn contains_dep(&self, package_id: &str, name: &str) -> bool
         ensures { result ≡ concluded_set self.now (dep_of package_id.now name.now) }
     {
-        self.features.iter().any(|f| f.package.as_str() == package_id && is_dep(&f.label, name))
+        finds(&self.features, package_id, LentLabel::Dep(name))
     }
 
     /// The features in order.
     pub fn as_slice(&self) -> &[Feature]
-        ensures { result.now ≡ self.now }
+        ensures value { result.now ≡ self.now }
+        ensures ascending { IsStrictlySortedBy feature_cmp self.now }
     {
         self.features.as_slice()
     }
 }
 
-fn is_base(label: &Label) -> bool
-    ensures { result ≡ label_eq Base (label_view label.now) }
+/// Whether one of the features, which ascend, is that of a package with this label; by halving.
+fn finds(features: &[Feature], package_id: &str, label: LentLabel<'_>) -> bool
+    requires { IsStrictlySortedBy feature_cmp features.now }
+    ensures { result ≡ concluded_set features.now (record { package_id = package_id.now; label = lent_view label.entry }) }
 {
-    match label {
-        Label::Base => true,
-        Label::Named(_) | Label::Dep(_) => false,
-    }
-}
-
-fn is_named(label: &Label, name: &str) -> bool
-    ensures { result ≡ label_eq (Named name.now) (label_view label.now) }
-{
-    match label {
-        Label::Named(text) => text.as_str() == name,
-        Label::Base | Label::Dep(_) => false,
-    }
-}
-
-fn is_dep(label: &Label, name: &str) -> bool
-    ensures { result ≡ label_eq (Dep name.now) (label_view label.now) }
-{
-    match label {
-        Label::Dep(text) => text.as_str() == name,
-        Label::Base | Label::Named(_) => false,
-    }
+    let found = features.binary_search_by(|feature| compare(feature, package_id, label));
+    found.is_ok()
 }
 
 /// The features that lie in every set that the rules close.
-pub(crate) fn features_of(alloc: Global, rules: &[Rule]) -> Result<FeaturesOn, AllocError>
+pub fn features_of(alloc: Global, rules: &[Rule]) -> Result<FeaturesOn, AllocError>
     ensures on { IfOk result (λ on. (f : FeatureValue) → Contains on f ↔ IsOn rules.now f) }
     ensures ascending { IfOk result (λ on. IsStrictlySortedBy feature_cmp on) }
 {
@@ -133,10 +118,4 @@ fn conclusions(alloc: Global, rules: &[Rule], account: &[usize]) -> Result<Vec<F
         }
     }
     Ok(found)
-}
-
-fn concludes(found: &[Feature], feature: &Feature) -> bool
-    ensures { result ≡ list_any (feature_eq feature.now) found.now }
-{
-    found.iter().any(|f| feature == f)
 }

@@ -2,12 +2,7 @@
 #![tactic(auto)]
 
 pub mod availability;
-mod extras;
 mod features;
-mod select_error;
-mod switching;
+mod lent_label;
 
-pub use crate::features::FeaturesOn;
-pub use crate::select_error::SelectError;
-pub use crate::switching::{account, features_on};
-pub use account_making::{Account, WriteAccountError, write_account};
+pub use crate::features::{FeaturesOn, features_of};

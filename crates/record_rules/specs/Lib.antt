@@ -1,5 +1,4 @@
 pub mod Binaries
 pub mod BinaryOrder
 pub mod BinaryView
-pub mod ErrorTexts
 pub mod RecordRules

@@ -1,21 +1,17 @@
--- The rules that records keep, and the first place that breaks one.
-use Rattle.std.specs.Prelude.{◌≡◌, ℕ, ◌==◌, Bool, true, false, not, ◌&&◌, ◌||◌, List, [], ◌∷◌, Option, Some, None, is_none, Result, Ok, Err, map, position, codes, length, nat_eq}
+-- The rules that records keep, but for that on filters, and the first place that breaks one.
+use Rattle.std.specs.Prelude.{◌≡◌, ℕ, ◌==◌, Bool, true, false, not, ◌&&◌, ◌||◌, List, [], ◌∷◌, Option, Some, None, is_none, map, position, codes, length, nat_eq}
 use Rattle.std.specs.List.{list_any, list_all, starts_with}
 use Rattle.std.specs.Option.{option_or}
 use Rattle.std.specs.Str.{bytes_eq}
 use Rattle.workspace_record.specs.Records.{Text, Package, Line, Workspace}
-use Rattle.workspace_record.specs.declared.kinds.TargetKind.{TargetKind}
-use Rattle.workspace_record.specs.declared.kinds.TargetKind.TheVariants.{Lib, ProcMacro, Test, Bench, Bin, Example, BuildScript}
 use Rattle.workspace_record.specs.declared.kinds.LineKind.{LineKind}
 use Rattle.workspace_record.specs.declared.kinds.LineKind.TheVariants.{Normal, Build, Dev}
 use Rattle.feature_account.specs.RuleList.{has_feature}
 use Rattle.package_rules.specs.Places.{first_repeat}
-use Rattle.package_rules.specs.Rules.{is_distinct, first_broken, package_rules, first_fault}
+use Rattle.package_rules.specs.Rules.{earlier, is_distinct, first_broken, package_rules, first_fault}
 use Rattle.package_rules.specs.declared.record_rule.RecordRule.{RecordRule}
 use Rattle.package_rules.specs.declared.record_rule.RecordRule.TheVariants.{PackageIds, Versions, LinkEnds, LinkNames, LinkLines, Requirements, Members, MemberNames, MemberPaths, DefaultMembers, Targets, OptionalLines, FeatureNames, BinaryIds, BinaryIdTexts, RequiredFeatures, Groups, Filters}
 use Rattle.record_rules.specs.Binaries.{binaries}
-use Rattle.record_rules.specs.declared.record_error.RecordError.{RecordError}
-use Rattle.record_rules.specs.declared.record_error.RecordError.TheVariants.{Broken, NotYet, Memory}
 
 -- no feature name of the package stands twice, and no optional name
 abbrev pub has_distinct_features : Package → Bool
@@ -29,7 +25,11 @@ has_required_features p = list_all (λ t. list_all (has_feature p) t.required_fe
 abbrev pub is_blank : ℕ → Bool
 is_blank byte = (byte == 32) || (byte == 10)
 
--- the first place at which the record breaks a rule on features or binaries
+-- names of this sort are not for groups that a record names
+abbrev pub is_reserved : Text → Bool
+is_reserved name = starts_with nat_eq name (codes "@")
+
+-- the first place at which the record breaks a rule on features, binaries or names of groups
 abbrev pub further_broken : Workspace → RecordRule → Option ℕ
 further_broken w PackageIds = None
 further_broken w Versions = None
@@ -47,14 +47,14 @@ further_broken w FeatureNames = position (λ p. not (has_distinct_features p)) w
 further_broken w BinaryIds = first_repeat bytes_eq (map (λ b. b.id) (binaries w))
 further_broken w BinaryIdTexts = position (λ b. list_any is_blank b.id) (binaries w)
 further_broken w RequiredFeatures = position (λ p. not (has_required_features p)) w.packages
-further_broken w Groups = None
+further_broken w Groups = earlier (position (λ g. is_reserved g.name) w.groups) (first_repeat bytes_eq (map (λ g. g.name) w.groups))
 further_broken w Filters = None
 
--- the rules on features and binaries in the order in which they are tested
+-- the rules on features, binaries and names of groups in the order in which they are tested
 abbrev pub further_rules : List RecordRule
-further_rules = FeatureNames ∷ (BinaryIds ∷ (BinaryIdTexts ∷ (RequiredFeatures ∷ [])))
+further_rules = FeatureNames ∷ (BinaryIds ∷ (BinaryIdTexts ∷ (RequiredFeatures ∷ (Groups ∷ []))))
 
--- the first rule that the record breaks, and the first place that breaks it: rules on packages, links and members come before those on features and binaries
+-- the first rule that the record breaks, and the first place that breaks it: rules on packages, links and members come before those on features, binaries and names of groups
 abbrev pub fault_of : Workspace → Option (RecordRule × ℕ)
 fault_of w = option_or (first_fault (first_broken w.packages w.links w.workspace) package_rules) (first_fault (further_broken w) further_rules)
 
@@ -71,28 +71,10 @@ is_normal Dev = false
 abbrev pub is_thin_line : Line → Bool
 is_thin_line line = is_normal line.kind && not line.optional && is_none line.spec
 
-abbrev pub is_library : TargetKind → Bool
-is_library Lib = true
-is_library ProcMacro = false
-is_library Test = false
-is_library Bench = false
-is_library Bin = false
-is_library Example = false
-is_library BuildScript = false
-
--- the package has no optional dependency and libraries alone, and its features enable features of its own
+-- the package has no optional dependency, and its features enable features of its own
 abbrev pub is_thin_package : Package → Bool
-is_thin_package p =
-    (length p.optional == 0) && list_all (λ f. list_all is_thin_entry f.enables) p.features && list_all (λ t. is_library t.kind) p.targets
+is_thin_package p = (length p.optional == 0) && list_all (λ f. list_all is_thin_entry f.enables) p.features
 
 -- the parts of records that are served so far
 abbrev pub is_thin : Workspace → Bool
-is_thin w =
-    list_all is_thin_package w.packages && list_all (λ l. list_all is_thin_line l.lines) w.links && (length w.groups == 0) && is_none w.default_filter
-
--- what a check of a record answers: nothing where the rules are kept and the record is served, the first broken rule, or that it is not served yet
-abbrev pub IsChecked : Workspace → Result (Unit {0}) RecordError → Type 0
-IsChecked w (Ok _) = (fault_of w ≡ None) × (is_thin w ≡ true)
-IsChecked w (Err (Broken rule place)) = fault_of w ≡ Some (rule, place)
-IsChecked w (Err NotYet) = (fault_of w ≡ None) × (is_thin w ≡ false)
-IsChecked w (Err Memory) = Unit {0}
+is_thin w = list_all is_thin_package w.packages && list_all (λ l. list_all is_thin_line l.lines) w.links

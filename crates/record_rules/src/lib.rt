@@ -1,13 +1,14 @@
-//! The rules that records of workspaces keep, and the test binaries of a workspace.
+//! The rules that records of workspaces keep, but for that on their filters, and the test binaries of a
+//! workspace.
 #![tactic(auto)]
 
 pub mod binaries;
 mod binary_rules;
 mod feature_rules;
-mod record_error;
+mod group_rules;
 mod record_rules;
 mod thin;
 
-pub use crate::record_error::RecordError;
-pub use crate::record_rules::check_record;
+pub use crate::record_rules::fault_of;
+pub use crate::thin::is_thin;
 pub use package_rules::RecordRule;

@@ -2,20 +2,15 @@
 
 ghost use Rattle.std.specs.Prelude.{◌≡◌, map, string_bytes};
 ghost use Rattle.std.specs.List.{list_all};
-ghost use Rattle.record_rules.specs.RecordRules.{is_thin_entry, is_normal, is_thin_line, is_library, is_thin_package, is_thin};
+ghost use Rattle.record_rules.specs.RecordRules.{is_thin_entry, is_normal, is_thin_line, is_thin_package, is_thin};
 
-use workspace_record::{
-    LineKind, LineRecord, LinkRecord, PackageRecord, TargetKind, WorkspaceRecord,
-};
+use workspace_record::{LineKind, LineRecord, LinkRecord, PackageRecord, WorkspaceRecord};
 
 /// Whether the record has only the parts that are served so far.
-pub(crate) fn is_thin(record: &WorkspaceRecord) -> bool
+pub fn is_thin(record: &WorkspaceRecord) -> bool
     ensures { result ≡ is_thin record.now }
 {
-    has_thin_packages(record)
-        && has_thin_links(record)
-        && record.groups.is_empty()
-        && record.default_filter.is_none()
+    has_thin_packages(record) && has_thin_links(record)
 }
 
 fn has_thin_packages(record: &WorkspaceRecord) -> bool
@@ -39,19 +34,13 @@ fn is_thin_link(link: &LinkRecord) -> bool
 fn is_thin_package(row: &PackageRecord) -> bool
     ensures { result ≡ is_thin_package row.now }
 {
-    row.optional.is_empty() && has_thin_features(row) && has_libraries_alone(row)
+    row.optional.is_empty() && has_thin_features(row)
 }
 
 fn has_thin_features(row: &PackageRecord) -> bool
     ensures { result ≡ list_all (λ f. list_all is_thin_entry f.enables) row.now.features }
 {
     row.features.iter().all(|f| has_thin_entries(&f.enables))
-}
-
-fn has_libraries_alone(row: &PackageRecord) -> bool
-    ensures { result ≡ list_all (λ t. is_library t.kind) row.now.targets }
-{
-    row.targets.iter().all(|t| is_library(t.kind))
 }
 
 fn has_thin_entries(entries: &[String]) -> bool
@@ -84,19 +73,5 @@ fn is_normal(kind: LineKind) -> bool
     match kind {
         LineKind::Normal => true,
         LineKind::Build | LineKind::Dev => false,
-    }
-}
-
-fn is_library(kind: TargetKind) -> bool
-    ensures { result ≡ is_library kind }
-{
-    match kind {
-        TargetKind::Lib => true,
-        TargetKind::ProcMacro
-        | TargetKind::Test
-        | TargetKind::Bench
-        | TargetKind::Bin
-        | TargetKind::Example
-        | TargetKind::BuildScript => false,
     }
 }

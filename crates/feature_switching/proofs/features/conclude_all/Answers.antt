@@ -1,8 +1,5 @@
-use Rattle.std.proofs.Common.{◌≡◌, ◌↔◌, ◌∙◌, ap, subst, Contains, Result, Ok, Err, IfOk, List, Vec, ℕ}
-use Rattle.workspace_record.specs.Features.{FeatureValue}
+use Rattle.std.proofs.Common.{◌≡◌, subst, IfOk}
 use Rattle.feature_account.specs.Accounts.{conclusions}
-use Rattle.feature_account.specs.Closed.{IsOn}
-use Rattle.account_making.proofs.Concluding.{concluded_iff}
 use Rattle.feature_switching.proofs.Concluded.{on_where_concluded}
 use Rattle.feature_switching.proofs.features.conclude_all.Goals as goal
 

@@ -7,5 +7,5 @@ pub returns : goal.returns
 returns c =
     let on = c.args.self.now in
     let feature = c.args.feature.now in
-    let is : c.concludes.result ≡ concluded_set on feature = cc in
+    let is : c.finds.result ≡ concluded_set on feature = cc in
     subst (λ b. IsTrue b ↔ Contains on feature) (sym is) (concluded_iff on feature)

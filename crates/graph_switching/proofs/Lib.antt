@@ -1,0 +1,4 @@
+pub mod PlacesOn
+pub mod SourceFacts
+pub mod LinksOn
+pub mod OrderFacts

@@ -1,0 +1,2 @@
+pub mod LinesOn
+pub mod DependencyOrders

@@ -1,0 +1,12 @@
+//! The package graph with just the lines that are on, and the order in which its packages build.
+#![tactic(auto)]
+
+mod lines_on;
+mod ordering;
+mod switching;
+
+pub use crate::ordering::dependency_order;
+pub use crate::switching::switched_on;
+pub use feature_switching::FeaturesOn;
+pub use guppy_package_graph::PackageGraph;
+pub use workspace_record::PlatformTable;

@@ -1,0 +1,59 @@
+//! Which lines of a link are on.
+
+ghost use Rattle.std.specs.Prelude.{◌≡◌, ◌<◌, All, IfOk, filter, length};
+ghost use Rattle.std.specs.List.Sorted.{IsStrictlyIncreasing};
+ghost use Rattle.workspace_record.specs.LinesAt.{lines_at};
+ghost use Rattle.feature_account.specs.Accounts.{concluded_set};
+ghost use Rattle.feature_account.specs.Lines.{counts_for};
+ghost use Rattle.feature_account.specs.RuleList.{line_start};
+ghost use Rattle.graph_switching.specs.LinesOn.{line_is_on};
+
+use feature_account::lines::is_in_force;
+use feature_switching::FeaturesOn;
+use feature_switching::availability::start_is_on;
+use std::alloc::{AllocError, Global};
+use workspace_record::{LineKind, LineRecord, LinkRecord, PlatformTable};
+
+/// The places of the link's lines that are on, in order, where its source is a workspace package or not.
+pub(crate) fn places_on(
+    alloc: Global,
+    in_workspace: bool,
+    features: &FeaturesOn,
+    table: &PlatformTable,
+    link: &LinkRecord,
+) -> Result<Vec<usize>, AllocError>
+    ensures in_range { IfOk result (λ v. All (λ i. i < length link.now.lines) v.items) }
+    ensures ascending { IfOk result (λ v. IsStrictlyIncreasing v.items) }
+    ensures lines { IfOk result (λ v. lines_at link.now.lines v.items ≡ filter (line_is_on in_workspace features.now table.now link.now) link.now.lines) }
+{
+    let mut places = Vec::new(alloc);
+    for (place, line) in link.lines.iter().enumerate() {
+        if line_is_on(in_workspace, features, table, link, line) {
+            places.push(place)?;
+        }
+    }
+    Ok(places)
+}
+
+fn line_is_on(
+    in_workspace: bool,
+    features: &FeaturesOn,
+    table: &PlatformTable,
+    link: &LinkRecord,
+    line: &LineRecord,
+) -> bool
+    ensures { result ≡ line_is_on in_workspace features.now table.now link.now line.now }
+{
+    counts_for(in_workspace, line.kind)
+        && is_in_force(table, &line.spec)
+        && start_is_on(features, link, line)
+}
+
+fn counts_for(in_workspace: bool, kind: LineKind) -> bool
+    ensures { result ≡ counts_for in_workspace kind }
+{
+    match kind {
+        LineKind::Normal | LineKind::Build => true,
+        LineKind::Dev => in_workspace,
+    }
+}

@@ -1,0 +1,68 @@
+//! The package graph with just the lines that are on.
+
+ghost use Rattle.std.specs.Prelude.{◌≡◌, ◌++◌, ◌<◌, Some, IfOk, OnOk, filter, length, map, slice_get};
+ghost use Rattle.package_rules.specs.Kept.{AreKept};
+ghost use Rattle.guppy_package_table.specs.Tables.{IsTableOf};
+ghost use Rattle.graph_switching.specs.LinesOn.{is_link_on, link_on, links_on, with_lines_on};
+
+use crate::lines_on::places_on;
+use feature_switching::FeaturesOn;
+use guppy_package_graph::{PackageGraph, PackageGraphError};
+use std::alloc::{AllocError, Global};
+use workspace_record::{LinkRecord, PlatformTable};
+
+/// The graph of the same packages with exactly the lines that are on where these features are: those
+/// that count on the table's platform and whose start is among the features. A link stays where a line
+/// of it does. Takes time in proportion to packages, lines and the logarithm of the features.
+pub fn switched_on(
+    alloc: Global,
+    graph: &PackageGraph,
+    features: &FeaturesOn,
+    table: &PlatformTable,
+) -> Result<PackageGraph, AllocError>
+    ensures kept { IfOk result (λ g. AreKept g.packages g.links g.workspace) }
+    ensures table { IfOk result (IsTableOf graph.now.packages (links_on graph.now features.now table.now) graph.now.workspace) }
+{
+    let links = links_on(alloc, graph, features, table)?;
+    match graph.with_links(alloc, links) {
+        Ok(switched) => Ok(switched),
+        Err(PackageGraphError::Memory) => Err(AllocError),
+        Err(PackageGraphError::Broken { .. }) => unreachable!(),
+    }
+}
+
+/// The rows of the links that are on, each with just its lines that are.
+fn links_on(
+    alloc: Global,
+    graph: &PackageGraph,
+    features: &FeaturesOn,
+    table: &PlatformTable,
+) -> Result<Vec<LinkRecord>, AllocError>
+    ensures links { IfOk result (λ v. v.items ≡ links_on graph.now features.now table.now) }
+    ensures kept { IfOk result (λ v. AreKept graph.now.packages v.items graph.now.workspace) }
+{
+    let mut links = Vec::new(alloc);
+    for (number, row) in graph.link_rows().iter().enumerate() {
+        let in_workspace = graph.link_at(number).from().in_workspace();
+        push_link_on(alloc, in_workspace, features, table, row, &mut links)?;
+    }
+    Ok(links)
+}
+
+/// Adds the row with just its lines that are on, if there are any.
+fn push_link_on(
+    alloc: Global,
+    in_workspace: bool,
+    features: &FeaturesOn,
+    table: &PlatformTable,
+    row: &LinkRecord,
+    links: &mut Vec<LinkRecord>,
+) -> Result<(), AllocError>
+    ensures { OnOk result (links.new.items ≡ links.old.items ++ link_on in_workspace features.now table.now row.now) }
+{
+    let places = places_on(alloc, in_workspace, features, table, row)?;
+    if !places.is_empty() {
+        links.push(row.copy_some(alloc, &places)?)?;
+    }
+    Ok(())
+}

@@ -1,0 +1,2 @@
+pub mod InForce
+pub mod Counting

@@ -1,0 +1,6 @@
+pub mod AlikeFacts
+pub mod ContextFacts
+pub mod BanFacts
+pub mod FilterFacts
+pub mod GroupFacts
+pub mod MeaningFacts

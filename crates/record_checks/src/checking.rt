@@ -1,0 +1,66 @@
+//! Whether a record keeps the rules and is served.
+
+ghost use Rattle.std.specs.Prelude.{◌≡◌, None};
+ghost use Rattle.record_rules.specs.RecordRules.{fault_of};
+ghost use Rattle.record_checks.specs.Checks.{IsChecked};
+ghost use Rattle.record_checks.specs.Compiling.{AnswersFilters, ChecksFilters};
+ghost use Rattle.record_checks.specs.Contexts.{IsDeclaredGraph};
+
+use crate::compiled_filters::record_filters;
+use crate::graph::{context_over, graph_of};
+use crate::record_error::RecordError;
+use guppy_package_graph::{PackageGraph, PackageGraphError};
+use record_rules::{fault_of, is_thin};
+use std::alloc::Global;
+use workspace_record::WorkspaceRecord;
+
+/// Tests each rule in turn, the one on filters last, and then whether the record is served. Of several
+/// broken rules the first one is answered, at its first place, and of a refused filter all faults.
+pub fn check_record(alloc: Global, record: &WorkspaceRecord) -> Result<(), RecordError>
+    ensures checked { IsChecked record.now result }
+{
+    if let Some((rule, place)) = fault_of(alloc, record)? {
+        return Err(RecordError::Broken { rule, place });
+    }
+    match check_filters(alloc, record) {
+        Err(refused) => Err(refused),
+        Ok(()) if is_thin(record) => Ok(()),
+        Ok(()) => Err(RecordError::NotYet),
+    }
+}
+
+/// Whether the filters of the record are accepted.
+fn check_filters(alloc: Global, record: &WorkspaceRecord) -> Result<(), RecordError>
+    ensures { ChecksFilters record.now result }
+{
+    match declared_graph(alloc, record) {
+        Ok(graph) => check_over(alloc, record, &graph),
+        Err(refused) => Err(refused),
+    }
+}
+
+/// The package graph of the record, or the first rule that it breaks.
+pub fn declared_graph(alloc: Global, record: &WorkspaceRecord) -> Result<PackageGraph, RecordError>
+    ensures graph { AnswersFilters (IsDeclaredGraph record.now) record.now result }
+{
+    match graph_of(alloc, record) {
+        Ok(graph) => Ok(graph),
+        Err(PackageGraphError::Broken { rule, place }) => Err(RecordError::Broken { rule, place }),
+        Err(PackageGraphError::Memory) => Err(RecordError::Memory),
+    }
+}
+
+fn check_over(
+    alloc: Global,
+    record: &WorkspaceRecord,
+    graph: &PackageGraph,
+) -> Result<(), RecordError>
+    requires declared { IsDeclaredGraph record.now graph.now }
+    ensures { ChecksFilters record.now result }
+{
+    let cx = context_over(alloc, graph, graph)?;
+    match record_filters(alloc, record, &cx) {
+        Ok(_) => Ok(()),
+        Err(refused) => Err(refused),
+    }
+}

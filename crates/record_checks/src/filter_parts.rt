@@ -1,0 +1,21 @@
+ghost use Rattle.std.specs.Prelude.{◌≡◌, false};
+ghost use Rattle.nextest_filter_evaluation.specs.Compiled.{compiled_of, is_default, is_group};
+ghost use Rattle.nextest_filter_evaluation.specs.Formulas.{has_leaf};
+
+use nextest_filtering::CompiledExpr;
+
+/// A group of tests by its name, with its filter.
+#[derive(Debug, Drop)]
+pub struct GroupFilter {
+    pub(crate) name: String,
+    pub(crate) filter: CompiledExpr,
+}
+
+/// The groups of a record with their filters, in order, and the default filter.
+#[derive(Debug, Drop)]
+pub struct RecordFilters {
+    pub(crate) groups: Vec<GroupFilter>,
+    pub(crate) default_filter: CompiledExpr,
+    ghost no_default: { has_leaf is_default (compiled_of default_filter) ≡ false },
+    ghost no_group: { has_leaf is_group (compiled_of default_filter) ≡ false },
+}

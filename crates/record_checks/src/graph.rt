@@ -1,0 +1,40 @@
+//! The graph of a record's packages, and the packages over which its filters are matched.
+
+ghost use Rattle.std.specs.Prelude.{◌≡◌, IfErr, IfOk};
+ghost use Rattle.guppy_package_table.specs.Refusals.{IsRefusal};
+ghost use Rattle.guppy_package_table.specs.Tables.{ids_of};
+ghost use Rattle.nextest_filtering.specs.Contexts.{IsContextOf};
+ghost use Rattle.record_checks.specs.Contexts.{IsDeclaredGraph, IsNeeded};
+
+use guppy_package_graph::{PackageGraph, PackageGraphError};
+use nextest_filtering::ParseContext;
+use std::alloc::{AllocError, Global};
+use workspace_record::WorkspaceRecord;
+
+/// The package graph of the record, or the first rule on packages, links and members that it breaks.
+pub fn graph_of(alloc: Global, record: &WorkspaceRecord) -> Result<PackageGraph, PackageGraphError>
+    ensures built { IfOk result (IsDeclaredGraph record.now) }
+    ensures refused { IfErr result (IsRefusal record.now.packages record.now.links record.now.workspace) }
+{
+    let copy = record.copy(alloc)?;
+    let (packages, links, workspace) = (copy.packages, copy.links, copy.workspace);
+    match PackageGraph::from_records(alloc, packages, links, workspace) {
+        Ok(graph) => Ok(graph),
+        Err(refused) => Err(refused),
+    }
+}
+
+/// The context of filters whose names are matched over the packages to which declared links lead from
+/// the members, and whose paths follow the links of `followed`, a graph of the same packages.
+pub fn context_over<'g>(
+    alloc: Global,
+    declared: &PackageGraph,
+    followed: &'g PackageGraph,
+) -> Result<ParseContext<'g>, AllocError>
+    requires same { ids_of followed.now.packages ≡ ids_of declared.now.packages }
+    ensures context { IfOk result (IsContextOf followed.now declared.now (IsNeeded declared.now)) }
+{
+    let query = declared.query_workspace(alloc)?;
+    let needed = query.resolve(alloc)?;
+    ParseContext::with_packages(alloc, followed, &needed)
+}
