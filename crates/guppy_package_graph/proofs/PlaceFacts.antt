@@ -1,5 +1,5 @@
 -- Places of packages that are still to come.
-use Rattle.std.proofs.Common.{◌≡◌, ◌↔◌, ⊎_elim, ℕ, zero, suc, ◌-◌, ◌<◌, true≢false, ◌&&◌, Bool, true, List, [], ◌∷◌, Option, Some, None, Result, Ok, Err, IfOk, MatchOption, All, Any, Contains, subst, sym, ap, refl, ◌∙◌, inr, map, filter, length, get_or, drop, nat_lt, arith}
+use Rattle.std.proofs.Common.{◌≡◌, ◌↔◌, ⊎_elim, ℕ, zero, suc, ◌-◌, ◌<◌, true≢false, ◌&&◌, Bool, true, List, [], ◌∷◌, Option, Some, None, Result, Ok, Err, IfOk, MatchOption, All, Any, Contains, subst, sym, ap, refl, ◌∙◌, inr, map, filter, length, get_or, drop, nat_lt, arith, is_some, option_map, slice_get}
 use Rattle.std.proofs.lemmas.Bool.{and_from, and_parts, lt-ltb, ltb-true}
 use Rattle.std.proofs.lemmas.List.{get_or-map, get_or-reverse, length-map, length-reverse}
 use Rattle.list_facts.proofs.Membership.{Contains-cons_cases, Contains-filter_cases, Contains-first, Contains-none}
@@ -12,9 +12,13 @@ use Rattle.numbered_graph.specs.Listings.{IsListing}
 use Rattle.numbered_graph.specs.Sets.{has}
 use Rattle.guppy_row_parts.specs.declared.error.Error.{Error}
 use Rattle.guppy_row_parts.specs.declared.error.Error.TheVariants.{UnknownPackageId}
-use Rattle.workspace_record.specs.Records.{Text}
-use Rattle.guppy_package_table.specs.Tables.{TableValue}
-use Rattle.guppy_package_graph.specs.Finding.{IsMissing, IsUnknown}
+use Rattle.std.specs.Cmp.Lexicographic.{bytes_decides}
+use Rattle.std.specs.Str.{bytes_eq}
+use Rattle.std.proofs.lemmas.List.Quantifiers.{position-Some}
+use Rattle.std.proofs.lemmas.Option.{get_or_from_slice_get, slice_get_within}
+use Rattle.workspace_record.specs.Records.{Member, Package, Text}
+use Rattle.guppy_package_table.specs.Tables.{TableValue, id_at, ids_of, member_of, member_path_at}
+use Rattle.guppy_package_graph.specs.Finding.{IsAt, IsMissing, IsUnknown}
 use Rattle.std.proofs.lemmas.List.Elements.{All-tail}
 
 pub rest_within : (P : ℕ → Type 0) (before after : List ℕ) (r : Option ℕ) → MatchOption r ((before ≡ []) × (after ≡ [])) (λ x. before ≡ x ∷ after) → All P before → All P after
@@ -94,3 +98,22 @@ one_alone x v = (λ h. ⊎_elim (λ is. sym is) (λ later. absurd (Contains-none
 -- what holds of all that is read in a list
 pub unmapped : {X Y : Type 0} (P : Y → Type 0) (f : X → Y) (xs : List X) → All P (map f xs) → All (λ x. P (f x)) xs
 unmapped P f xs h k d lt = subst P (get_or-map f xs k d (f d) lt) (h k (f d) (subst (λ n. k < n) (sym (length-map xs f)) lt))
+
+-- the path of the member whose row stands at the place
+pub path_at_row : (g : TableValue) (place : ℕ) (row : Package) → slice_get g.packages place ≡ Some row → member_path_at g place ≡ option_map (λ m. m.path) (member_of g row.id)
+path_at_row g place row is =
+    ap (λ id. option_map (λ m. m.path) (member_of g id)) (get_or-map (λ p. p.id) g.packages place row [] (slice_get_within g.packages place row is) ∙ ap (λ p. p.id) (get_or_from_slice_get g.packages place row row is))
+
+-- each member has a path
+pub member_has_path : (g : TableValue) (id : Text) → is_some (option_map (λ m. m.path) (member_of g id)) ≡ is_some (member_of g id)
+member_has_path g id = by (member_of g id)
+  where
+    by : (o : Option Member) → is_some (option_map (λ m. m.path) o) ≡ is_some o
+    by (Some m) = refl
+    by None = refl
+
+-- the package at the place of an id is a member exactly where the id is a member's
+pub member_at : (g : TableValue) (id : Text) (v : ℕ) → IsAt g id v → is_some (member_path_at g v) ≡ is_some (member_of g id)
+member_at g id v at =
+    let found = position-Some (bytes_eq id) (ids_of g.packages) v [] at in
+    ap (λ x. is_some (option_map (λ m. m.path) (member_of g x))) (sym ((bytes_decides id (id_at g v)).0 found.1)) ∙ member_has_path g id

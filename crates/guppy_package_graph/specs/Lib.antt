@@ -2,6 +2,7 @@ pub mod Directions
 pub mod Views
 pub mod Finding
 pub mod Members
+pub mod Sources
 pub mod IdViews
 pub mod MemberViews
 pub mod CycleViews

@@ -18,6 +18,7 @@ mod members_by_name;
 mod members_by_path;
 mod metadata_links;
 mod metadata_sets;
+mod other_links;
 mod package_graph;
 mod package_ids;
 mod package_link;

@@ -33,12 +33,13 @@ pub struct PackageGraph {
 impl Model for PackageGraph {
     ghost use Rattle.guppy_package_table.specs.Tables.{TableValue};
     ghost use Rattle.guppy_workspace_members.specs.Members.{AreByName, AreByPath};
+    ghost use Rattle.package_rules.specs.Kept.{AreKept};
 
     ghost Value = { TableValue };
 
     ghost view = { λ g. g.table };
 
-    ghost invariant = { λ g. AreByPath g.table g.members.by_path.items × AreByName g.table g.members.by_name.items };
+    ghost invariant = { λ g. (AreByPath g.table g.members.by_path.items × AreByName g.table g.members.by_name.items) × AreKept g.table.packages g.table.links g.table.workspace };
 }
 
 impl PackageGraph {
@@ -81,9 +82,11 @@ impl PackageGraph {
         &self.members.by_name
     }
 
-    /// The rows of the links, in the order of the record.
+    /// The rows of the links, in the order of the record; with those of the packages and the workspace
+    /// they keep the rules, as in each graph.
     pub fn link_rows(&self) -> &[LinkRow]
         ensures rows { result.now ≡ self.now.links }
+        ensures kept { AreKept self.now.packages self.now.links self.now.workspace }
     {
         self.table.links()
     }

@@ -1,9 +1,9 @@
 ghost use Rattle.std.specs.Prelude.{◌≡◌, ◌<◌, Some, length, slice_get};
-ghost use Rattle.guppy_package_table.specs.PackageDetailsViews.{row_of};
-ghost use Rattle.guppy_package_table.specs.Tables.{ids_of};
+ghost use Rattle.guppy_package_table.specs.PackageDetailsViews.{member_path_of, row_of};
+ghost use Rattle.guppy_package_table.specs.Tables.{ids_of, member_path_at};
 
 use crate::package_graph::PackageGraph;
-use guppy_package_parts::PackageId;
+use guppy_package_parts::{PackageId, PackageSource};
 use guppy_package_table::PackageDetails;
 use std::ops::Deref;
 
@@ -15,9 +15,13 @@ pub struct PackageMetadata<'g> {
     details: PackageDetails<'g>,
     ghost in_range: { place < length graph.now.packages },
     ghost at_place: { slice_get graph.now.packages place ≡ Some (row_of details) },
+    ghost at_path: { member_path_of details ≡ member_path_at graph.now place },
 }
 
 impl<'g> PackageMetadata<'g> {
+    ghost use Rattle.std.specs.Prelude.{is_some};
+    ghost use Rattle.guppy_row_parts.specs.SourceViews.{source_view};
+    ghost use Rattle.guppy_package_graph.specs.Sources.{IsSourceAt};
     ghost use Rattle.guppy_package_graph.specs.Views.{graph_of, place_of};
 
     pub(crate) fn at(graph: &'g PackageGraph, place: usize) -> PackageMetadata<'g>
@@ -46,6 +50,20 @@ impl<'g> PackageMetadata<'g> {
         ensures graph { result.now ≡ graph_of self.now }
     {
         self.graph
+    }
+
+    /// Whether the package is a member of the workspace.
+    pub fn in_workspace(&self) -> bool
+        ensures member { result ≡ is_some (member_path_at (graph_of self.now) (place_of self.now)) }
+    {
+        self.details.in_workspace()
+    }
+
+    /// Where the package comes from: a member of the workspace from there, with its path.
+    pub fn source(&self) -> PackageSource<'g>
+        ensures source { IsSourceAt (graph_of self.now) (place_of self.now) (source_view result) }
+    {
+        self.details.source()
     }
 
     pub(crate) fn place(&self) -> usize
