@@ -1,11 +1,12 @@
 -- Features found by their ids, and those that are not there.
-use Rattle.std.proofs.Common.{◌≡◌, ◌↔◌, ℕ, ◌<◌, ◌≤◌, length, false, not, List, All, Contains, map, sym, subst, arith}
+use Rattle.std.proofs.Common.{◌≡◌, ◌↔◌, ℕ, ◌<◌, ◌≤◌, length, Bool, true, false, not, List, [], All, Contains, map, refl, sym, subst, arith}
 use Rattle.std.proofs.lemmas.List.Elements.{All-contains}
-use Rattle.std.proofs.lemmas.List.Sums.{prefix_len-le-length}
+use Rattle.std.proofs.lemmas.List.Folds.{list_any_at}
+use Rattle.std.proofs.lemmas.List.Sums.{prefix_len-le-length, prefix_len_stops}
 use Rattle.list_facts.proofs.Membership.{Contains-map, Contains-map_cases}
 use Rattle.list_facts.proofs.Quantifiers.{Any-from_Contains, Any_cases}
 use Rattle.workspace_record.specs.Features.{FeatureValue, feature_eq}
-use Rattle.guppy_feature_demands.specs.Nodes.{is_node, number_of}
+use Rattle.guppy_feature_demands.specs.Nodes.{base_of, is_node, number_of}
 use Rattle.guppy_feature_demands.proofs.EntryFacts.{list_any_from_position_or_len}
 use Rattle.guppy_feature_nodes.specs.Graphs.{FeatureGraphValue}
 use Rattle.guppy_feature_graph.specs.Finding.{IsNamed, IsNumber, IsUnknown}
@@ -16,6 +17,14 @@ at_end a b le ge = omega (arith, le, ge)
 -- a feature whose number is past the end is not there
 not_there : (nodes : List FeatureValue) (f : FeatureValue) → length nodes ≤ number_of nodes f → is_node nodes f ≡ false
 not_there nodes f h = list_any_from_position_or_len (feature_eq f) nodes (at_end (number_of nodes f) (length nodes) (prefix_len-le-length (λ x. not (feature_eq f x)) nodes) h)
+
+not_not : (b : Bool) → not b ≡ false → b ≡ true
+not_not true e = refl
+not_not false e = sym e
+
+-- a feature with a number is there
+pub known : (nodes : List FeatureValue) (f : FeatureValue) → number_of nodes f < length nodes → is_node nodes f ≡ true
+known nodes f lt = list_any_at (feature_eq f) nodes (number_of nodes f) (base_of []) lt (not_not _ (prefix_len_stops (λ x. not (feature_eq f x)) nodes (base_of []) lt))
 
 pub is_unknown : (g : FeatureGraphValue) (f : FeatureValue) (n count : ℕ) → n ≡ number_of g.nodes f → count ≡ length g.nodes → count ≤ n → IsUnknown g f
 is_unknown g f n count number counted h = not_there g.nodes f (subst (λ k. length g.nodes ≤ k) number (subst (λ k. k ≤ n) counted h))

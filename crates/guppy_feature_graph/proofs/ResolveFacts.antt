@@ -22,11 +22,11 @@ use Rattle.workspace_record.specs.Records.{Link}
 use Rattle.guppy_row_parts.specs.declared.dependency_direction.DependencyDirection.{DependencyDirection}
 use Rattle.guppy_package_graph.specs.Directions.{direction_of}
 use Rattle.guppy_package_graph.specs.Visits.{Chain, SameSteps}
-use Rattle.guppy_feature_nodes.specs.GraphEdges.{EdgeForm, EdgeValue, ToBase, ToFeature, ToDependency, ByStrongEntries, ByWeakEntries, ByLines}
+use Rattle.guppy_feature_nodes.specs.GraphEdges.{EdgeForm, EdgeValue, ToBase, ToFeature, ToDependency, ByStrongEntries, ByWeakEntries, ByLines, ends_of}
 use Rattle.guppy_feature_nodes.specs.Graphs.{FeatureGraphValue}
 use Rattle.guppy_feature_nodes.specs.Offering.{offer_edge, offer_edges, offered, sort_of}
 use Rattle.guppy_feature_graph.specs.Queries.{IsQueryOf, QueryValue}
-use Rattle.guppy_feature_graph.specs.Resolves.{IsReachOf, IsResolved, ends_of, is_weak_form, offered_edges, shown_to}
+use Rattle.guppy_feature_graph.specs.Resolves.{IsReachOf, IsResolved, is_weak_form, offered_edges, shown_to}
 use Rattle.guppy_feature_graph.specs.Sets.{SetValue}
 use Rattle.guppy_feature_graph.specs.Links as links
 

@@ -6,8 +6,8 @@ use Rattle.numbered_offers.specs.declared.offer.Offer.{Offer}
 use Rattle.guppy_feature_graph.specs.ContextViews.{query_of}
 use Rattle.guppy_feature_graph.specs.Links.{link_of}
 use Rattle.guppy_feature_graph.specs.Queries.{QueryValue}
-use Rattle.guppy_feature_graph.specs.Views.{link_view}
-use Rattle.guppy_feature_graph.specs.declared.conditional_link.ConditionalLink.{ConditionalLink}
+use Rattle.guppy_feature_views.specs.Views.{link_view}
+use Rattle.guppy_feature_views.specs.declared.conditional_link.ConditionalLink.{ConditionalLink}
 use Rattle.guppy_feature_graph.specs.declared.feature_link_context.FeatureLinkContext.{FeatureLinkContext}
 
 -- the closure is called with the link that is offered, of the query's graph, and answers

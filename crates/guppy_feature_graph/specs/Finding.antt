@@ -6,8 +6,8 @@ use Rattle.guppy_row_parts.specs.declared.error.Error.{Error}
 use Rattle.guppy_row_parts.specs.declared.error.Error.TheVariants.{Memory, UnknownFeatureId}
 use Rattle.guppy_feature_demands.specs.Nodes.{is_node, number_of}
 use Rattle.guppy_feature_nodes.specs.Graphs.{FeatureGraphValue}
-use Rattle.guppy_feature_graph.specs.Views.{metadata_graph_of, node_of}
-use Rattle.guppy_feature_graph.specs.declared.feature_metadata.FeatureMetadata.{FeatureMetadata}
+use Rattle.guppy_feature_views.specs.Views.{metadata_graph_of, node_of}
+use Rattle.guppy_feature_views.specs.declared.feature_metadata.FeatureMetadata.{FeatureMetadata}
 
 -- the feature is the node with this number
 abbrev pub IsNumber : FeatureGraphValue → FeatureValue → ℕ → Type 0

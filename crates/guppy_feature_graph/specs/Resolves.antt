@@ -1,6 +1,5 @@
 -- Resolves: the links that are offered, and the features that are included.
 use Rattle.std.specs.Prelude.{◌≡◌, ◌↔◌, ℕ, ◌+◌, Bool, true, false, List, map, length, count_by, IsTrue}
-use Rattle.numbered_graph.specs.declared.link.Link as numbered
 use Rattle.numbered_graph.specs.Links.{near_of}
 use Rattle.numbered_graph.specs.Paths.{any_link, IsReached}
 use Rattle.numbered_graph.specs.Sets.{has}
@@ -10,16 +9,13 @@ use Rattle.numbered_offers.specs.Least.{AnswersBy, IsLeast}
 use Rattle.numbered_offers.specs.Runs.{IsLegalRun, IsReachedBy, Run}
 use Rattle.guppy_row_parts.specs.declared.dependency_direction.DependencyDirection.{DependencyDirection}
 use Rattle.guppy_package_graph.specs.Directions.{direction_of}
-use Rattle.guppy_feature_nodes.specs.GraphEdges.{EdgeForm, EdgeValue, ToBase, ToFeature, ToDependency, ByStrongEntries, ByWeakEntries, ByLines}
+use Rattle.guppy_feature_nodes.specs.GraphEdges.{EdgeForm, EdgeValue, ToBase, ToFeature, ToDependency, ByStrongEntries, ByWeakEntries, ByLines, edge_ends, ends_of}
 use Rattle.guppy_feature_nodes.specs.Graphs.{FeatureGraphValue}
 use Rattle.guppy_feature_nodes.specs.Offering.{offers_of}
-use Rattle.guppy_feature_graph.specs.Links.{LinkValue, edge_of, link_of}
+use Rattle.guppy_feature_graph.specs.Links.{link_of}
+use Rattle.guppy_feature_views.specs.Links.{LinkValue, edge_of}
 use Rattle.guppy_feature_graph.specs.Queries.{QueryValue}
 use Rattle.guppy_feature_graph.specs.Sets.{SetValue}
-
--- the two ends of an edge
-abbrev pub ends_of : EdgeValue → numbered.Link
-ends_of e = record { from = e.from; to = e.to }
 
 -- the feature from which a link is followed in a direction
 abbrev pub near_node : DependencyDirection → LinkValue → ℕ
@@ -51,7 +47,7 @@ shown_to q run = map (λ (s : Offer × Bool). ((q, link_of q.graph s.0), s.1)) r
 -- the features of the set are those that edges lead to from the initials, in the query's direction
 pub record IsReachOf (q : QueryValue) (s : SetValue) : Type 0 where
   pub graph : s.graph ≡ q.graph
-  pub members : (v : ℕ) → IsTrue (has s.included v) ↔ IsReached (direction_of q.direction) (map ends_of q.graph.edges) any_link q.initials v
+  pub members : (v : ℕ) → IsTrue (has s.included v) ↔ IsReached (direction_of q.direction) (edge_ends q.graph.edges) any_link q.initials v
 
 -- the edge is offered in halves
 abbrev pub is_weak_form : EdgeForm → Bool

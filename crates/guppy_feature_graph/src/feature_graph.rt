@@ -7,11 +7,12 @@ ghost use Rattle.guppy_feature_demands.specs.NameViews.{name_view};
 ghost use Rattle.guppy_feature_demands.specs.Nodes.{is_node};
 ghost use Rattle.guppy_feature_demands.specs.Warnings.{warnings_of};
 ghost use Rattle.guppy_feature_graph.specs.Finding.{FindsFeature, FindsNumber};
-ghost use Rattle.guppy_feature_graph.specs.Views.{feature_graph_of, link_view};
+ghost use Rattle.guppy_feature_graph.specs.StandardFilters.{FindsDefault};
+ghost use Rattle.guppy_feature_graph.specs.Views.{feature_graph_of};
+ghost use Rattle.guppy_feature_views.specs.Views.{link_view};
 
-use crate::conditional_link::ConditionalLink;
-use crate::feature_metadata::FeatureMetadata;
 use guppy_feature_nodes::{FeatureGraphData, FeatureId, FeatureName, LinkDeclarations};
+use guppy_feature_views::{ConditionalLink, FeatureMetadata};
 use guppy_package_graph::{Error, FeatureGraphWarning, PackageGraph};
 
 /// The features of a package graph's packages and the links between them: a view of data that is
@@ -79,6 +80,16 @@ impl<'g> FeatureGraph<'g> {
     {
         let node = self.number_of(feature_id)?;
         Ok(FeatureMetadata::at(self.built, node))
+    }
+
+    /// Whether a feature is one that its package switches on by default: edges to packages themselves
+    /// and to features that others enable by name lead to it from `default`, or where the package names
+    /// no such feature from the package itself.
+    pub fn is_default_feature(&self, feature_id: FeatureId<'_>) -> Result<bool, Error>
+        ensures answer { FindsDefault (feature_graph_of self.now) (id_view feature_id.entry) result }
+    {
+        let node = self.number_of(feature_id)?;
+        Ok(self.built.is_default(node))
     }
 
     pub(crate) fn number_of(&self, feature_id: FeatureId<'_>) -> Result<usize, Error>

@@ -1,10 +1,10 @@
 ghost use Rattle.std.specs.Prelude.{◌≡◌, ◌↔◌, Contains, IsTrue};
 ghost use Rattle.guppy_feature_graph.specs.ContextViews.{query_of};
 ghost use Rattle.guppy_feature_graph.specs.Resolves.{near_node};
-ghost use Rattle.guppy_feature_graph.specs.Views.{link_view};
+ghost use Rattle.guppy_feature_views.specs.Views.{link_view};
 
-use crate::conditional_link::ConditionalLink;
 use crate::feature_query::FeatureQuery;
+use guppy_feature_views::ConditionalLink;
 use guppy_package_graph::DependencyDirection;
 
 /// The query for which a link is shown.

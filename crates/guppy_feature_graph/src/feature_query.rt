@@ -1,6 +1,6 @@
 ghost use Rattle.std.specs.Prelude.{◌≡◌, ◌↔◌, ◌<◌, ℕ, All, Contains, IfOk, IsTrue, length};
 ghost use Rattle.numbered_graph.specs.Sets.{has};
-ghost use Rattle.guppy_feature_graph.specs.Queries.{AreInitials, IsQueryOf};
+ghost use Rattle.guppy_feature_graph.specs.Queries.{AreInitials, AreStarts, IsQueryOf};
 ghost use Rattle.guppy_feature_graph.specs.Views.{feature_graph_of};
 
 use crate::feature_graph::FeatureGraph;
@@ -43,6 +43,22 @@ impl<'g> FeatureQuery<'g> {
             direction,
             starts,
         })
+    }
+
+    /// A query from the features of a set, which are told by their numbers too.
+    pub(crate) fn with_starts(
+        initials: FeatureSet<'g>,
+        direction: DependencyDirection,
+        starts: Vec<usize>,
+    ) -> FeatureQuery<'g>
+        requires { AreStarts (length initials.graph.nodes) initials.included starts.items }
+        ensures { result ≡ record { graph = initials.entry.graph; direction = direction; initials = starts.items } }
+    {
+        FeatureQuery {
+            initials,
+            direction,
+            starts,
+        }
     }
 
     /// The graph that is asked.

@@ -1,12 +1,20 @@
-ghost use Rattle.std.specs.Prelude.{◌≡◌, ◌↔◌, IsTrue, count_by, length};
+ghost use Rattle.std.specs.Prelude.{◌≡◌, ◌↔◌, ◌&&◌, ◌||◌, ◌<◌, ℕ, not, All, IfOk, IsTrue, count_by, length, map};
+ghost use Rattle.numbered_graph.specs.ListedViews.{in_direction, listed_left};
+ghost use Rattle.numbered_graph.specs.Sets.{differs, has};
+ghost use Rattle.guppy_package_graph.specs.Directions.{direction_of};
 ghost use Rattle.guppy_feature_ids.specs.IdViews.{id_view};
 ghost use Rattle.guppy_feature_graph.specs.Finding.{FindsMembership};
+ghost use Rattle.guppy_feature_graph.specs.Sets.{IsInOrder, listed};
 ghost use Rattle.guppy_feature_graph.specs.Views.{feature_graph_of};
+ghost use Rattle.guppy_feature_views.specs.FeatureViews.{features_graph_of, features_left, ids_graph_of, ids_nodes_left};
 
+use crate::direction::direction_of;
 use crate::feature_graph::FeatureGraph;
 use guppy_feature_nodes::FeatureId;
-use guppy_package_graph::Error;
-use numbered_graph::NodeSet;
+use guppy_feature_views::{FeatureIds, Features};
+use guppy_package_graph::{DependencyDirection, Error};
+use numbered_graph::{Listed, NodeSet};
+use std::alloc::{AllocError, Global};
 use std::marker::Model;
 
 /// A set of features of a graph.
@@ -71,4 +79,102 @@ impl<'g> FeatureSet<'g> {
         let node = self.graph.number_of(feature_id)?;
         Ok(self.included.contains(node))
     }
+
+    /// Whether the graphs of both sets have the same list of features.
+    pub fn same_features(&self, other: &FeatureSet<'_>) -> bool
+        ensures same { IsTrue result ↔ (self.now.graph.nodes ≡ other.now.graph.nodes) }
+    {
+        same_ids(
+            self.graph.built().feature_ids(),
+            other.graph.built().feature_ids(),
+        )
+    }
+
+    /// The features that are in one of the two sets.
+    pub fn union(&self, alloc: Global, other: &FeatureSet<'_>) -> Result<FeatureSet<'g>, AllocError>
+        requires { self.now.graph.nodes ≡ other.now.graph.nodes }
+        ensures graph { IfOk result (λ s. s.graph ≡ self.now.graph) }
+        ensures members { IfOk result (λ s. (v : ℕ) → has s.included v ≡ (has self.now.included v || has other.now.included v)) }
+    {
+        let included = self.included.union(alloc, &other.included)?;
+        Ok(FeatureSet::of(self.graph, included))
+    }
+
+    /// The features that are in both sets.
+    pub fn intersection(
+        &self,
+        alloc: Global,
+        other: &FeatureSet<'_>,
+    ) -> Result<FeatureSet<'g>, AllocError>
+        requires { self.now.graph.nodes ≡ other.now.graph.nodes }
+        ensures graph { IfOk result (λ s. s.graph ≡ self.now.graph) }
+        ensures members { IfOk result (λ s. (v : ℕ) → has s.included v ≡ (has self.now.included v && has other.now.included v)) }
+    {
+        let included = self.included.intersection(alloc, &other.included)?;
+        Ok(FeatureSet::of(self.graph, included))
+    }
+
+    /// The features that are in this set and not in the other.
+    pub fn difference(
+        &self,
+        alloc: Global,
+        other: &FeatureSet<'_>,
+    ) -> Result<FeatureSet<'g>, AllocError>
+        requires { self.now.graph.nodes ≡ other.now.graph.nodes }
+        ensures graph { IfOk result (λ s. s.graph ≡ self.now.graph) }
+        ensures members { IfOk result (λ s. (v : ℕ) → has s.included v ≡ (has self.now.included v && not (has other.now.included v))) }
+    {
+        let included = self.included.difference(alloc, &other.included)?;
+        Ok(FeatureSet::of(self.graph, included))
+    }
+
+    /// The features that are in exactly one of the two sets.
+    pub fn symmetric_difference(
+        &self,
+        alloc: Global,
+        other: &FeatureSet<'_>,
+    ) -> Result<FeatureSet<'g>, AllocError>
+        requires { self.now.graph.nodes ≡ other.now.graph.nodes }
+        ensures graph { IfOk result (λ s. s.graph ≡ self.now.graph) }
+        ensures members { IfOk result (λ s. (v : ℕ) → has s.included v ≡ differs (has self.now.included v) (has other.now.included v)) }
+    {
+        let included = self.included.symmetric_difference(alloc, &other.included)?;
+        Ok(FeatureSet::of(self.graph, included))
+    }
+
+    /// The ids of the features of the set: components together, edges between components forward, and
+    /// those forward too that stand on more than dev lines, unless they lie on a cycle of such edges.
+    /// In Reverse that list reversed.
+    pub fn feature_ids(&self, direction: DependencyDirection) -> FeatureIds<'_>
+        ensures graph { ids_graph_of result ≡ self.now.graph }
+        ensures listed { ids_nodes_left result ≡ in_direction (direction_of direction) (listed self.now) }
+        ensures listing { IsInOrder self.now }
+    {
+        FeatureIds::of(self.graph.built(), self.listed(direction))
+    }
+
+    /// The features of the set, in the order of `feature_ids`.
+    pub fn features(&self, direction: DependencyDirection) -> Features<'_>
+        ensures graph { features_graph_of result ≡ self.now.graph }
+        ensures listed { features_left result ≡ in_direction (direction_of direction) (listed self.now) }
+        ensures listing { IsInOrder self.now }
+    {
+        Features::of(self.graph.built(), self.listed(direction))
+    }
+
+    /// The numbers of the features of the set, in that order.
+    pub(crate) fn listed(&self, direction: DependencyDirection) -> Listed<'_>
+        ensures listed { listed_left result ≡ in_direction (direction_of direction) (listed self.now) }
+        ensures within { All (λ v. v < length self.now.graph.nodes) (listed_left result) }
+        ensures listing { IsInOrder self.now }
+    {
+        let built = self.graph.built();
+        Listed::new(built.listing(), &self.included, direction_of(direction))
+    }
+}
+
+fn same_ids(a: &[FeatureId<'_>], b: &[FeatureId<'_>]) -> bool
+    ensures { IsTrue result ↔ (map id_view a.now ≡ map id_view b.now) }
+{
+    a == b
 }

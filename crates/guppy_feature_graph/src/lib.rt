@@ -3,30 +3,57 @@
 
 #![tactic(auto)]
 
-mod conditional_link;
+mod choosing;
+mod cycles;
+mod depending;
 mod direction;
+mod feature_filter;
+mod feature_filter_fn;
 mod feature_graph;
 mod feature_link_context;
-mod feature_metadata;
 mod feature_query;
 mod feature_set;
+mod feature_sets;
+mod features_for;
+mod filter_by_ids;
+mod filter_by_names;
+mod filtered;
+mod filters;
 mod found_features;
+mod initial_packages;
 pub mod laws;
-mod package_links;
+mod lists_of_packages;
+mod package_features;
+mod package_sets;
+mod packages_of;
 mod queries;
 mod resolves;
 mod resolving;
+mod set_parts;
+mod standard_features;
+mod taking;
+mod verifying;
 mod visitor;
 
-pub use crate::conditional_link::ConditionalLink;
+pub use crate::cycles::Cycles;
+pub use crate::feature_filter::FeatureFilter;
+pub use crate::feature_filter_fn::FeatureFilterFn;
 pub use crate::feature_graph::FeatureGraph;
 pub use crate::feature_link_context::FeatureLinkContext;
-pub use crate::feature_metadata::FeatureMetadata;
 pub use crate::feature_query::FeatureQuery;
 pub use crate::feature_set::FeatureSet;
-pub use crate::package_links::PackageLinks;
+pub use crate::filter_by_ids::{FeatureIdFilter, feature_id_filter};
+pub use crate::filter_by_names::{NamedFeatureFilter, named_feature_filter};
+pub use crate::package_sets::{
+    default_feature_id, package_to_feature_set, query_to_feature_query, set_to_feature_set,
+};
+pub use crate::standard_features::StandardFeatures;
 pub use crate::visitor::FeatureLinkVisitor;
+pub use guppy_feature_lists::{DisplayFeatures, FeatureList, IntoIter, Iter, LabelNames};
 pub use guppy_feature_nodes::{
     ConditionalLinkImpl, EnabledLink, FeatureEdge, FeatureGraphData, FeatureId, FeatureKind,
     FeatureLabel, FeatureName, LinkDeclarations, NodeEdge, SlashForm, WeakIndex, WeakSlashImpl,
+};
+pub use guppy_feature_views::{
+    AllCycles, ConditionalLink, FeatureIds, FeatureIdsAt, FeatureMetadata, Features, PackageLinks,
 };

@@ -6,13 +6,13 @@ ghost use Rattle.numbered_offers.specs.Runs.{Run};
 ghost use Rattle.guppy_feature_graph.specs.Closures.{AsksClosure};
 ghost use Rattle.guppy_feature_graph.specs.Resolves.{IsReachOf, IsResolved, most_looks, shown_to};
 
-use crate::conditional_link::ConditionalLink;
 use crate::direction::direction_of;
 use crate::feature_link_context::FeatureLinkContext;
 use crate::feature_query::FeatureQuery;
 use crate::feature_set::FeatureSet;
 use crate::resolving::{offers_of, resolve_by_closure, resolve_by_visitor};
 use crate::visitor::FeatureLinkVisitor;
+use guppy_feature_views::ConditionalLink;
 use numbered_graph::Looks;
 use numbered_offers::reach_all;
 use std::alloc::{AllocError, Global};

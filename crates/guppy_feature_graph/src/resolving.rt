@@ -10,14 +10,14 @@ ghost use Rattle.numbered_offers.specs.declared.offer.Offer.{Offer};
 ghost use Rattle.guppy_feature_graph.specs.Closures.{AsksClosure};
 ghost use Rattle.guppy_feature_graph.specs.Links.{declarations_of, link_of};
 ghost use Rattle.guppy_feature_graph.specs.Resolves.{IsResolved, most_looks, shown_to};
-ghost use Rattle.guppy_feature_graph.specs.Views.{link_view};
+ghost use Rattle.guppy_feature_views.specs.Views.{link_view};
 
-use crate::conditional_link::ConditionalLink;
 use crate::direction::direction_of;
 use crate::feature_link_context::FeatureLinkContext;
 use crate::feature_query::FeatureQuery;
 use crate::visitor::FeatureLinkVisitor;
 use guppy_feature_nodes::LinkDeclarations;
+use guppy_feature_views::ConditionalLink;
 use numbered_graph::{Looks, NodeSet};
 use numbered_offers::{Due, Offer, OfferGraph, OfferKind, OfferWalk};
 use std::alloc::{AllocError, Global};

@@ -3,12 +3,12 @@
 ghost use Rattle.std.specs.Prelude.{Bool, List, ℕ};
 ghost use Rattle.guppy_package_graph.specs.Visits.{SameSteps};
 ghost use Rattle.guppy_feature_graph.specs.ContextViews.{query_of};
-ghost use Rattle.guppy_feature_graph.specs.Links.{LinkValue};
+ghost use Rattle.guppy_feature_views.specs.Links.{LinkValue};
 ghost use Rattle.guppy_feature_graph.specs.Queries.{QueryValue};
-ghost use Rattle.guppy_feature_graph.specs.Views.{link_view};
+ghost use Rattle.guppy_feature_views.specs.Views.{link_view};
 
-use crate::conditional_link::ConditionalLink;
 use crate::feature_link_context::FeatureLinkContext;
+use guppy_feature_views::ConditionalLink;
 
 /// Says of each link that a resolve shows whether the link is followed. Its state is seen as a list of
 /// whole numbers; its steps relate the state before, the query with the link, the answer and the state

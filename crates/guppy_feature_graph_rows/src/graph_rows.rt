@@ -1,5 +1,7 @@
 use crate::features::{Named, find_in};
+use crate::lists::tell_lists;
 use crate::resolves::{Asked, tell_resolves};
+use crate::sets::tell_sets;
 use guppy_feature_graph::{FeatureGraph, FeatureGraphData, FeatureMetadata};
 use guppy_package_graph::PackageGraph;
 use record_files::read_record;
@@ -8,13 +10,23 @@ use std::alloc::{AllocError, Global};
 use workspace_record::WorkspaceRecord;
 
 /// Rows of feature graphs. A row has a `record`, a feature to `find`, and features to start from
-/// (`starts`), a `direction`, and what a visitor `accepts` (a word of `Rule`).
+/// (`starts`), a `direction`, what a visitor `accepts` (a word of `Rule`), two sets of features
+/// (`one`, `two`), and a `package`.
 #[derive(Drop)]
 pub(crate) struct GraphRows;
 
 impl RowRunner for GraphRows {
     fn inputs(&self) -> &'static [&'static str] {
-        &["record", "find", "starts", "direction", "accepts"]
+        &[
+            "record",
+            "find",
+            "starts",
+            "direction",
+            "accepts",
+            "one",
+            "two",
+            "package",
+        ]
     }
 
     fn run_row(
@@ -65,7 +77,10 @@ fn tell_features(
         answers.push("found", found_text(alloc, graph, &named)?)?;
     }
     let features = data.feature_ids();
-    tell_resolves(alloc, row, Asked { graph, features }, answers)
+    let asked = Asked { graph, features };
+    tell_lists(alloc, row, asked, answers)?;
+    tell_sets(alloc, row, asked, answers)?;
+    tell_resolves(alloc, row, asked, answers)
 }
 
 fn counts_text(alloc: Global, graph: FeatureGraph<'_>) -> Result<String, AllocError> {

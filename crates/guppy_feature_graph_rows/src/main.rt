@@ -6,7 +6,10 @@ mod chooser;
 mod features;
 mod graph_rows;
 mod link_texts;
+mod lists;
+mod packages;
 mod resolves;
+mod sets;
 
 use crate::graph_rows::GraphRows;
 use row_program::run_rows;

@@ -4,3 +4,4 @@ pub mod EdgeFacts
 pub mod OfferFacts
 pub mod NodeFacts
 pub mod GraphFacts
+pub mod OrderFacts

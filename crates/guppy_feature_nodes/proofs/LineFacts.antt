@@ -1,6 +1,7 @@
 -- What is demanded by a line is demanded by a line of the rows.
 use Rattle.std.proofs.Common.{◌≡◌, ℕ, zero, suc, ◌+◌, ◌<◌, length, get_or, Bool, true, false, cond, List, [], ◌∷◌, ◌++◌, ◌⊎◌, All, Contains, Option, Some, None, option_and_then, slice_get, map, filter, flat_map, IsTrue, refl, sym, subst, ap, ◌∙◌, ⊎_elim, arith}
 use Rattle.std.specs.Option.{is_some}
+use Rattle.std.proofs.lemmas.Bool.{false≢true}
 use Rattle.std.proofs.lemmas.Option.{slice_get-get_or}
 use Rattle.list_facts.proofs.Membership.{Contains-none, Contains-cons_cases, Contains-append_cases, Contains-map_cases, Contains-filter_cases, Contains-flat_map_cases}
 use Rattle.workspace_record.specs.Records.{Text, FeatureEntry, Package, Line, Link}
@@ -30,20 +31,29 @@ numbered-at xs p h =
     let at : p.0 ≡ k = found.2 ∙ omega arith in
     ap (slice_get xs) at ∙ slice_get-get_or xs k p.1 found.1 ∙ ap Some (found.3 p.1)
 
+-- demands of this form are made by lines
+abbrev pub by_lines : FormValue → Bool
+by_lines FeatureToBase = false
+by_lines NamedFeature = false
+by_lines NamedFeatureDepColon = false
+by_lines (StrongSlash name) = true
+by_lines (WeakSlash name) = true
+by_lines DependenciesSection = true
+
 module _ (links : List Link) where
-  -- the demand is made by no line, or by one of the rows
+  -- the demand is made by no line, or by one of the rows; where its form is that of lines, by one
   abbrev HasLine : DemandValue → Type 0
-  HasLine d = (x : ℕ × ℕ) → d.line ≡ Some x → IsLineAt links x
+  HasLine d = ((x : ℕ × ℕ) → d.line ≡ Some x → IsLineAt links x) × (by_lines d.form ≡ true → IsTrue (is_some d.line))
 
   -- all of these demands are
   abbrev AllHaveLines : List DemandValue → Type 0
   AllHaveLines ds = (d : DemandValue) → Contains ds d → HasLine d
 
-  always : (form : FormValue) (f g : FeatureValue) → HasLine (leads form f g)
-  always form f g x h = absurd (none_some x h)
+  always : (form : FormValue) (f g : FeatureValue) → by_lines form ≡ false → HasLine (leads form f g)
+  always form f g plain = (λ x h. absurd (none_some x h), λ h. absurd (false≢true (sym plain ∙ h)))
 
   by_a_line : (form : FormValue) (f g : FeatureValue) (x : ℕ × ℕ) → IsLineAt links x → HasLine (leads_by form f g x)
-  by_a_line form f g x here y h = subst (IsLineAt links) (same x y h) here
+  by_a_line form f g x here = (λ y h. subst (IsLineAt links) (same x y h) here, λ h. refl)
     where
       same : (x y : ℕ × ℕ) → Some x ≡ Some y → x ≡ y
       same x y h = cc
@@ -80,15 +90,15 @@ module _ (links : List Link) where
 
   dependency_lines : (nodes : List FeatureValue) (id : Text) (f : FeatureValue) (name : Text) → AllHaveLines (dependency_demands nodes id f name)
   dependency_lines nodes id f name =
-      and_these (leads NamedFeatureDepColon f (dep_of id name)) (cond (is_node nodes (dep_of id name)) (leads NamedFeature f (named_of id name) ∷ []) []) (always NamedFeatureDepColon f (dep_of id name)) (by (is_node nodes (dep_of id name)))
+      and_these (leads NamedFeatureDepColon f (dep_of id name)) (cond (is_node nodes (dep_of id name)) (leads NamedFeature f (named_of id name) ∷ []) []) (always NamedFeatureDepColon f (dep_of id name) refl) (by (is_node nodes (dep_of id name)))
     where
       by : (b : Bool) → AllHaveLines (cond b (leads NamedFeature f (named_of id name) ∷ []) [])
-      by true = and_these (leads NamedFeature f (named_of id name)) [] (always NamedFeature f (named_of id name)) none_at_all
+      by true = and_these (leads NamedFeature f (named_of id name)) [] (always NamedFeature f (named_of id name) refl) none_at_all
       by false = none_at_all
 
   entry_lines : (nodes : List FeatureValue) (id : Text) (f : FeatureValue) (e : EntryValue) → AllHaveLines (entry_demands nodes (numbered links) id f e)
-  entry_lines nodes id f (OwnFeature name) = and_these (leads NamedFeature f (named_of id name)) [] (always NamedFeature f (named_of id name)) none_at_all
-  entry_lines nodes id f (Dependency name) = and_these (leads NamedFeatureDepColon f (dep_of id name)) [] (always NamedFeatureDepColon f (dep_of id name)) none_at_all
+  entry_lines nodes id f (OwnFeature name) = and_these (leads NamedFeature f (named_of id name)) [] (always NamedFeature f (named_of id name) refl) none_at_all
+  entry_lines nodes id f (Dependency name) = and_these (leads NamedFeatureDepColon f (dep_of id name)) [] (always NamedFeatureDepColon f (dep_of id name) refl) none_at_all
   entry_lines nodes id f (Strong name x) = both_parts (flat_map (slash_demands (StrongSlash name) f x) (links_named (numbered links) id name)) (dependency_demands nodes id f name) (named_lines (StrongSlash name) f id name x) (dependency_lines nodes id f name)
   entry_lines nodes id f (Weak name x) = named_lines (WeakSlash name) f id name x
 
@@ -103,5 +113,5 @@ module _ (links : List Link) where
       let nodes = nodes_of packages in
       let entries = flat_map (package_demands nodes (numbered links)) packages in
       let lines = flat_map link_demands (numbered links) in
-      both_parts (base_demands nodes) (entries ++ lines) (each_of (λ f. leads FeatureToBase f (base_of f.package_id)) nodes (λ f h. always FeatureToBase f (base_of f.package_id)))
+      both_parts (base_demands nodes) (entries ++ lines) (each_of (λ f. leads FeatureToBase f (base_of f.package_id)) nodes (λ f h. always FeatureToBase f (base_of f.package_id) refl))
       (both_parts entries lines (all_of (package_demands nodes (numbered links)) packages (λ p h. package_lines nodes p)) (all_of link_demands (numbered links) (λ link h. link_lines link h)))

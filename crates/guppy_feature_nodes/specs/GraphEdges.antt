@@ -1,6 +1,7 @@
 -- The edges of a feature graph.
-use Rattle.std.specs.Prelude.{◌≡◌, ◌≢◌, ℕ, ◌<◌, List, [], All, length, map, slice_get, slice_index_or}
+use Rattle.std.specs.Prelude.{◌≡◌, ◌≢◌, ℕ, ◌<◌, Bool, true, false, List, [], All, length, map, slice_get, slice_index_or}
 use Rattle.std.specs.Option.{option_map_or}
+use Rattle.numbered_graph.specs.declared.link.Link as numbered
 use Rattle.workspace_record.specs.Records.{Text, Package, Link}
 use Rattle.guppy_package_parts.specs.Lines.{IsLineAt}
 use Rattle.workspace_record.specs.Features.{FeatureValue}
@@ -61,12 +62,31 @@ pub record AreEdges (packages : List Package) (links : List Link) (edges : List 
 abbrev pub edge_at : List EdgeValue → ℕ → EdgeValue
 edge_at edges number = slice_index_or edges number (record { from = 0; to = 0; form = ToBase; lines = [] })
 
--- the edge leads from one node to another, and the lines behind it are lines of the rows
+-- the edge is crossed always, whichever lines are on
+abbrev pub is_always : EdgeForm → Bool
+is_always ToBase = true
+is_always ToFeature = true
+is_always ToDependency = true
+is_always ByStrongEntries = false
+is_always (ByWeakEntries dep) = false
+is_always ByLines = false
+
+-- the edge leads from one node to another; the lines behind it are lines of the rows, and there are some unless it is crossed
+-- always
 pub record IsEdgeWithin (nodes : ℕ) (links : List Link) (e : EdgeValue) : Type 0 where
   pub from : e.from < nodes
   pub to : e.to < nodes
   pub differ : e.from ≢ e.to
   pub lines : All (IsLineAt links) e.lines
+  pub lined : is_always e.form ≡ false → 0 < length e.lines
 
 abbrev pub AreEdgesWithin : ℕ → List Link → List EdgeValue → Type 0
 AreEdgesWithin nodes links edges = All (IsEdgeWithin nodes links) edges
+
+-- the two ends of an edge
+abbrev pub ends_of : EdgeValue → numbered.Link
+ends_of e = record { from = e.from; to = e.to }
+
+-- the edges as links of numbered nodes
+abbrev pub edge_ends : List EdgeValue → List numbered.Link
+edge_ends edges = map ends_of edges

@@ -1,25 +1,46 @@
 -- A feature graph that is built.
-use Rattle.std.specs.Prelude.{◌≡◌, ℕ, List, [], slice_index_or}
+use Rattle.std.specs.Prelude.{◌≡◌, ℕ, List, [], length, nat_lt, slice_index_or}
+use Rattle.numbered_graph.specs.declared.direction.Direction.TheVariants.{Forward}
+use Rattle.numbered_graph.specs.Listings.{IsListing}
+use Rattle.numbered_graph.specs.Paths.{IsReached}
+use Rattle.numbered_graph.specs.Sets.{has}
+use Rattle.workspace_record.specs.Records.{Link}
 use Rattle.workspace_record.specs.Features.{FeatureValue}
 use Rattle.guppy_row_parts.specs.Warnings.{Warning}
 use Rattle.guppy_feature_demands.specs.Nodes.{base_of, nodes_of}
 use Rattle.guppy_feature_demands.specs.Warnings.{warnings_of}
 use Rattle.guppy_package_table.specs.Tables.{TableValue}
-use Rattle.guppy_feature_nodes.specs.GraphEdges.{AreEdges, EdgeValue}
+use Rattle.guppy_feature_nodes.specs.GraphEdges.{AreEdges, EdgeValue, edge_ends}
+use Rattle.guppy_feature_nodes.specs.Orders.{default_starts, firm_edges, naming_edges}
 
--- the rows that it was built of, its nodes, its edges, and what is odd
+-- the rows that it was built of, its nodes, its edges, what is odd, and the order in which the nodes are listed
 pub record FeatureGraphValue : Type 0 where
   pub rows : TableValue
   pub nodes : List FeatureValue
   pub edges : List EdgeValue
   pub warnings : List Warning
+  pub listing : List ℕ
+
+-- the nodes are listed with components together, edges between components forward, and those forward too that stand on more
+-- than dev lines, unless they lie on a cycle of such edges
+abbrev pub IsEdgeListing : List Link → List FeatureValue → List EdgeValue → List ℕ → Type 0
+IsEdgeListing links nodes edges listing = IsListing (edge_ends edges) (has (firm_edges links edges)) (λ v. nat_lt v (length nodes)) listing
 
 -- all is as the rows say
 pub record IsFeatureGraph (g : FeatureGraphValue) : Type 0 where
   pub nodes : g.nodes ≡ nodes_of g.rows.packages
   pub edges : AreEdges g.rows.packages g.rows.links g.edges
   pub warnings : g.warnings ≡ warnings_of g.rows.packages g.rows.links
+  pub listed : IsEdgeListing g.rows.links g.nodes g.edges g.listing
 
 -- the feature with a number; past the end one of no package
 abbrev pub feature_at : FeatureGraphValue → ℕ → FeatureValue
 feature_at g node = slice_index_or g.nodes node (base_of [])
+
+-- the feature is a default one: from the `default` of a package, or where it names none from the package itself, edges lead to it
+-- that stand for a feature's package and for features enabled by name
+abbrev pub IsDefaultAmong : List FeatureValue → List EdgeValue → ℕ → Type 0
+IsDefaultAmong nodes edges v = IsReached Forward (edge_ends edges) (has (naming_edges edges)) (default_starts nodes) v
+
+abbrev pub IsDefault : FeatureGraphValue → ℕ → Type 0
+IsDefault g v = IsDefaultAmong g.nodes g.edges v

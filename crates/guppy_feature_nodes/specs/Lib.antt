@@ -2,6 +2,8 @@ pub mod GraphEdges
 pub mod EdgeViews
 pub mod Lines
 pub mod LineViews
+pub mod Orders
 pub mod Graphs
+pub mod OrderViews
 pub mod Offering
 pub mod Keeping

@@ -173,7 +173,8 @@ fn declares(shown: LinkDeclarations, line: &LineRow) -> bool
     }
 }
 
-fn line_at<'a>(links: &'a [LinkRow], place: (usize, usize)) -> Option<&'a LineRow>
+/// The line at a place.
+pub(crate) fn line_at<'a>(links: &'a [LinkRow], place: (usize, usize)) -> Option<&'a LineRow>
     ensures { option_copied result ≡ line_at links.entry.now place }
 {
     let link = links.get(place.0)?;

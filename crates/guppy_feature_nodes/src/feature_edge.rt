@@ -1,7 +1,7 @@
 //! What stands behind an edge of a feature graph.
 
 ghost use Rattle.std.specs.Prelude.{◌≡◌};
-ghost use Rattle.guppy_feature_nodes.specs.GraphEdges.{ByLines, ByStrongEntries, ByWeakEntries};
+ghost use Rattle.guppy_feature_nodes.specs.GraphEdges.{ByLines, ByStrongEntries, ByWeakEntries, is_always};
 ghost use Rattle.guppy_feature_nodes.specs.EdgeViews.{form_view, lines_view, link_lines};
 
 use guppy_row_parts::SortedSet;
@@ -80,6 +80,18 @@ impl FeatureEdge {
         };
         let index = WeakIndex { node };
         FeatureEdge::NamedFeatureWithSlash(SlashForm::Weak(WeakSlashImpl { link, index }))
+    }
+
+    /// Whether the edge is crossed always, whichever lines are on.
+    pub fn is_unconditional(&self) -> bool
+        ensures answer { result ≡ is_always (form_view self.now) }
+    {
+        match self {
+            FeatureEdge::FeatureToBase
+            | FeatureEdge::NamedFeature
+            | FeatureEdge::NamedFeatureDepColon => true,
+            FeatureEdge::DependenciesSection(_) | FeatureEdge::NamedFeatureWithSlash(_) => false,
+        }
     }
 
     /// The lines behind the edge, each told by the number of its link and by its own there; none

@@ -1,12 +1,12 @@
-ghost use Rattle.std.specs.Prelude.{◌≡◌, ◌<◌, All, IfOk, length, map};
+ghost use Rattle.std.specs.Prelude.{◌≡◌, ◌↔◌, ◌<◌, All, IfOk, IsTrue, length, map};
 ghost use Rattle.guppy_row_parts.specs.WarningViews.{warning_view};
 ghost use Rattle.guppy_feature_ids.specs.IdViews.{id_view};
 ghost use Rattle.guppy_feature_demands.specs.NameViews.{name_view};
 ghost use Rattle.guppy_feature_demands.specs.Nodes.{is_node, nodes_of, number_of};
 ghost use Rattle.guppy_feature_demands.specs.Warnings.{warnings_of};
 ghost use Rattle.guppy_feature_nodes.specs.EdgeViews.{edge_view};
-ghost use Rattle.guppy_feature_nodes.specs.GraphEdges.{AreEdges, IsEdgeWithin, edge_at};
-ghost use Rattle.guppy_feature_nodes.specs.Graphs.{IsFeatureGraph, feature_at};
+ghost use Rattle.guppy_feature_nodes.specs.GraphEdges.{AreEdges, IsEdgeWithin, edge_at, edge_ends};
+ghost use Rattle.guppy_feature_nodes.specs.Graphs.{IsDefault, IsEdgeListing, IsFeatureGraph, feature_at};
 ghost use Rattle.guppy_feature_nodes.specs.LineViews.{AreEdgeLines};
 ghost use Rattle.guppy_feature_nodes.specs.Lines.{lines_shown, links_shown};
 ghost use Rattle.guppy_feature_nodes.specs.Offering.{offered};
@@ -16,12 +16,13 @@ ghost use Rattle.guppy_package_parts.specs.Lines.{IsLineAt};
 
 use crate::node_edge::{NodeEdge, node_edges};
 use crate::offers::offer_graph;
+use crate::orders::{Orders, orders_of};
 use crate::package_rows::package_rows;
 use guppy_feature_demands::{FeatureName, FeatureParts, NodeTable, feature_parts};
 use guppy_feature_edges::joined_edges;
 use guppy_feature_ids::{FeatureId, LinkDeclarations};
 use guppy_package_graph::{FeatureGraphWarning, PackageGraph, PackageMetadata};
-use numbered_graph::Direction;
+use numbered_graph::{Direction, Graph};
 use numbered_offers::OfferGraph;
 use std::alloc::{AllocError, Global};
 use std::marker::Model;
@@ -34,6 +35,7 @@ pub struct FeatureGraphData<'g> {
     nodes: NodeTable<'g>,
     edges: Vec<NodeEdge>,
     warnings: Vec<FeatureGraphWarning>,
+    orders: Orders,
     forward: OfferGraph,
     reverse: OfferGraph,
 }
@@ -91,6 +93,7 @@ impl<'g> FeatureGraphData<'g> {
             warnings,
         } = graph_parts(alloc, graph)?;
         let (count, links) = (nodes.len(), graph.link_rows());
+        let orders = orders_of(alloc, &nodes, links, &edges)?;
         let forward = offer_graph(alloc, count, links, &edges, Direction::Forward)?;
         let reverse = offer_graph(alloc, count, links, &edges, Direction::Reverse)?;
         Ok(FeatureGraphData {
@@ -98,6 +101,7 @@ impl<'g> FeatureGraphData<'g> {
             nodes,
             edges,
             warnings,
+            orders,
             forward,
             reverse,
         })
@@ -188,6 +192,30 @@ impl<'g> FeatureGraphData<'g> {
             Direction::Forward => &self.forward,
             Direction::Reverse => &self.reverse,
         }
+    }
+
+    /// The edges as links between nodes, each with its number.
+    pub fn edge_graph(&self) -> &Graph
+        ensures graph { result.now ≡ record { nodes = length self.now.nodes; links = edge_ends self.now.edges } }
+    {
+        &self.orders.graph
+    }
+
+    /// All nodes: components together, edges between components forward, and those forward too that
+    /// stand on more than dev lines, unless they lie on a cycle of such edges.
+    pub fn listing(&self) -> &[usize]
+        ensures value { result.now ≡ self.now.listing }
+        ensures listing { IsEdgeListing self.now.rows.links self.now.nodes self.now.edges result.now }
+    {
+        &self.orders.listing
+    }
+
+    /// Whether a feature is a default one: `default` of its package enables it by name, or is it, or
+    /// where there is none it is the package itself.
+    pub fn is_default(&self, node: usize) -> bool
+        ensures answer { IsTrue result ↔ IsDefault self.now node }
+    {
+        self.orders.defaults.contains(node)
     }
 
     /// The feature with a number.

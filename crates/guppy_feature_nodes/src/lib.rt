@@ -8,6 +8,7 @@ mod feature_edge;
 mod feature_graph_data;
 mod node_edge;
 mod offers;
+mod orders;
 mod package_rows;
 
 pub use crate::feature_edge::{

@@ -48,11 +48,20 @@ fn tell_graph(
     answers: &mut Answers,
 ) -> Result<(), RowFault> {
     let data = FeatureGraphData::build(alloc, graph)?;
-    answers.push("nodes", nodes_text(alloc, &data)?)?;
-    answers.push("edges", edges_text(alloc, &data)?)?;
-    answers.push("warnings", warnings_text(alloc, &data)?)?;
-    answers.push("counts", counts_text(alloc, &data)?)?;
-    tell_place(alloc, row, &data, answers)
+    tell_data(alloc, row, &data, answers)
+}
+
+fn tell_data(
+    alloc: Global,
+    row: Row<'_>,
+    data: &FeatureGraphData<'_>,
+    answers: &mut Answers,
+) -> Result<(), RowFault> {
+    answers.push("nodes", nodes_text(alloc, data)?)?;
+    answers.push("edges", edges_text(alloc, data)?)?;
+    answers.push("warnings", warnings_text(alloc, data)?)?;
+    answers.push("counts", counts_text(alloc, data)?)?;
+    tell_place(alloc, row, data, answers)
 }
 
 fn counts_text(alloc: Global, data: &FeatureGraphData<'_>) -> Result<String, AllocError> {

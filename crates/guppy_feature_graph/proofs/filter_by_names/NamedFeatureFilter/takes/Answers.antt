@@ -1,0 +1,11 @@
+use Rattle.std.proofs.Common.{◌∙◌, ℕ, List, Bor, ap, map, sym}
+use Rattle.std.specs.Str.{bytes_eq}
+use Rattle.list_facts.proofs.Quantifiers.{list_any-map}
+use Rattle.guppy_feature_graph.specs.WrappedFilters.{is_named_so}
+use Rattle.guppy_feature_graph.proofs.filter_by_names.NamedFeatureFilter.takes.Goals as goal
+
+pub returns-in-Named : goal.returns-in-Named
+returns-in-Named g c =
+    let names = c.args.self.now.names.now in
+    let text : Bor (List ℕ) → List ℕ = λ n. n.now in
+    c.has_name.ensures ∙ sym (list_any-map (λ t. bytes_eq t c.in-Named.name.now) text names) ∙ ap (is_named_so (map text names)) c.in-Named.ensures.value

@@ -1,0 +1,152 @@
+//! The features of one package, all of them or those that are in a set.
+
+ghost use Rattle.std.specs.Prelude.{◌≡◌, ◌++◌, ◌∷◌, ◌||◌, [], IfErr, IfOk, OnOk, filter, map, string_bytes, if◌then◌else◌};
+ghost use Rattle.std.specs.List.{list_any};
+ghost use Rattle.workspace_record.specs.Features.{Base, Named, Dep};
+ghost use Rattle.guppy_feature_ids.specs.LabelViews.{label_view};
+ghost use Rattle.guppy_feature_lists.specs.Labels.{labels_of};
+ghost use Rattle.guppy_feature_graph.specs.FeaturesFor.{AnswersPackage, FindsList, IsNoPackage, ListsAll, has_label};
+ghost use Rattle.guppy_feature_graph.specs.Views.{feature_graph_of};
+
+use crate::feature_graph::FeatureGraph;
+use crate::feature_set::FeatureSet;
+use guppy_feature_lists::{FeatureList, package_labels};
+use guppy_feature_nodes::{FeatureLabel, FeatureName};
+use guppy_package_graph::{Error, FeatureRow, PackageId, PackageRow};
+use std::alloc::{AllocError, Global};
+
+impl<'g> FeatureGraph<'g> {
+    /// All features of a package: itself, those that it names, and its optional dependencies.
+    pub fn all_features_for(
+        &self,
+        alloc: Global,
+        package_id: &PackageId,
+    ) -> Result<FeatureList<'g>, Error>
+        ensures all { IfOk result (ListsAll (feature_graph_of self.now).rows package_id.now) }
+        ensures refused { IfErr result (IsNoPackage (feature_graph_of self.now).rows package_id.now) }
+    {
+        match self.package_graph().metadata(package_id) {
+            Ok(package) => {
+                let labels = package_labels(alloc, package.row())?;
+                let list = FeatureList::new(alloc, package, &labels)?;
+                Ok(list)
+            }
+            Err(error) => Err(error),
+        }
+    }
+}
+
+impl<'g> FeatureSet<'g> {
+    /// The features of a package that are in the set, if there are any.
+    pub fn features_for(
+        &self,
+        alloc: Global,
+        package_id: &PackageId,
+    ) -> Result<Option<FeatureList<'g>>, Error>
+        ensures found { IfOk result (FindsList self.now package_id.now) }
+        ensures refused { IfErr result (IsNoPackage self.now.graph.rows package_id.now) }
+    {
+        match self.graph().package_graph().metadata(package_id) {
+            Ok(package) => {
+                let labels = labels_in(alloc, self, package.row())?;
+                if labels.is_empty() {
+                    return Ok(None);
+                }
+                let list = FeatureList::new(alloc, package, &labels)?;
+                Ok(Some(list))
+            }
+            Err(error) => Err(error),
+        }
+    }
+
+    /// Whether a feature of the package is in the set.
+    pub fn contains_package(&self, package_id: &PackageId) -> Result<bool, Error>
+        ensures answer { AnswersPackage self.now package_id.now result }
+    {
+        match self.graph().package_graph().metadata(package_id) {
+            Ok(package) => Ok(has_feature_of(self, package.row())),
+            Err(error) => Err(error),
+        }
+    }
+}
+
+// The labels of a package's row whose features are in the set.
+fn labels_in<'g>(
+    alloc: Global,
+    set: &FeatureSet<'g>,
+    row: &'g PackageRow,
+) -> Result<Vec<FeatureLabel<'g>>, AllocError>
+    ensures { IfOk result (λ v. map label_view v.items ≡ filter (has_label set.now row.entry.now.id) (labels_of row.entry.now)) }
+{
+    let labels = package_labels(alloc, row)?;
+    kept_labels(alloc, set, row.id.as_str(), &labels)
+}
+
+fn kept_labels<'g>(
+    alloc: Global,
+    set: &FeatureSet<'_>,
+    id: &str,
+    labels: &[FeatureLabel<'g>],
+) -> Result<Vec<FeatureLabel<'g>>, AllocError>
+    ensures { IfOk result (λ v. map label_view v.items ≡ filter (has_label set.now id.now) (map label_view labels.now)) }
+{
+    let mut kept: Vec<FeatureLabel<'g>> = Vec::new(alloc);
+    for label in labels {
+        push_if(&mut kept, *label, has_label(set, id, *label))?;
+    }
+    Ok(kept)
+}
+
+fn push_if<'g>(
+    labels: &mut Vec<FeatureLabel<'g>>,
+    label: FeatureLabel<'g>,
+    wanted: bool,
+) -> Result<(), AllocError>
+    ensures { OnOk result (labels.new.items ≡ (if wanted then labels.old.items ++ label.entry ∷ [] else labels.old.items)) }
+{
+    if wanted {
+        labels.push(label)?;
+    }
+    Ok(())
+}
+
+fn has_label(set: &FeatureSet<'_>, package_id: &str, label: FeatureLabel<'_>) -> bool
+    ensures { result ≡ has_label set.now package_id.now (label_view label.entry) }
+{
+    let name = FeatureName { package_id, label };
+    set.included().contains(set.graph().built().number_of(name))
+}
+
+fn has_feature_of(set: &FeatureSet<'_>, row: &PackageRow) -> bool
+    ensures { result ≡ (has_label set.now row.now.id Base || (list_any (λ f. has_label set.now row.now.id (Named f.name)) row.now.features || list_any (λ n. has_label set.now row.now.id (Dep n)) row.now.optional)) }
+{
+    let base = has_label(set, row.id.as_str(), FeatureLabel::Base);
+    base || has_other(set, row)
+}
+
+// Whether one of the features that a package names, or of its optional dependencies, is in the set.
+fn has_other(set: &FeatureSet<'_>, row: &PackageRow) -> bool
+    ensures { result ≡ (list_any (λ f. has_label set.now row.now.id (Named f.name)) row.now.features || list_any (λ n. has_label set.now row.now.id (Dep n)) row.now.optional) }
+{
+    let id = row.id.as_str();
+    let named = has_named(set, id, &row.features);
+    named || has_dependency(set, id, &row.optional)
+}
+
+fn has_named(set: &FeatureSet<'_>, id: &str, features: &[FeatureRow]) -> bool
+    ensures { result ≡ list_any (λ f. has_label set.now id.now (Named f.name)) features.now }
+{
+    features.iter().any(|feature| has_label(set, id, FeatureLabel::Named(feature.name.as_str())))
+}
+
+fn has_dependency(set: &FeatureSet<'_>, id: &str, names: &[String]) -> bool
+    ensures { result ≡ list_any (λ n. has_label set.now id.now (Dep n)) (map string_bytes names.now) }
+{
+    has_any(set, id, names)
+}
+
+fn has_any(set: &FeatureSet<'_>, id: &str, names: &[String]) -> bool
+    ensures { result ≡ list_any (λ name. has_label set.now id.now (Dep (string_bytes name))) names.now }
+{
+    names.iter().any(|name| has_label(set, id, FeatureLabel::OptionalDependency(name.as_str())))
+}

@@ -1,0 +1,59 @@
+ghost use Rattle.std.specs.Prelude.{◌≡◌, map};
+ghost use Rattle.std.specs.List.{list_any};
+ghost use Rattle.workspace_record.specs.Features.{feature_eq};
+ghost use Rattle.guppy_feature_ids.specs.IdViews.{id_view};
+ghost use Rattle.guppy_feature_graph.specs.WrappedFilters.{is_listed};
+
+use crate::feature_filter::FeatureFilter;
+use crate::feature_graph::FeatureGraph;
+use guppy_feature_nodes::FeatureId;
+
+/// Takes what its base takes, and each of these features.
+#[derive(Drop)]
+pub struct FeatureIdFilter<'a, B: FeatureFilter> {
+    base: B,
+    feature_ids: &'a [FeatureId<'a>],
+}
+
+/// A filter that takes what the base takes, and each of these features.
+pub fn feature_id_filter<'a, B: FeatureFilter>(
+    base: B,
+    feature_ids: &'a [FeatureId<'a>],
+) -> FeatureIdFilter<'a, B>
+    ensures base { result.base ≡ base }
+    ensures feature_ids { result.feature_ids.now ≡ feature_ids.entry.now }
+{
+    FeatureIdFilter { base, feature_ids }
+}
+
+impl<B: FeatureFilter> FeatureIdFilter<'_, B> {
+    fn takes(&self, feature_id: FeatureId<'_>) -> bool
+        ensures { result ≡ is_listed (map id_view self.now.feature_ids.now) (id_view feature_id.entry) }
+    {
+        has_id(self.feature_ids, feature_id)
+    }
+}
+
+impl<B: FeatureFilter> FeatureFilter for FeatureIdFilter<'_, B> {
+    ghost use Rattle.std.specs.Prelude.{◌≡◌, ◌||◌, Bool, map};
+    ghost use Rattle.guppy_feature_ids.specs.IdViews.{id_view};
+    ghost use Rattle.guppy_feature_graph.specs.WrappedFilters.{is_listed};
+
+    ghost state = { λ f. B.state f.base };
+
+    ghost steps = { λ f s x answer t. (taken : Bool) × B.steps f.base s x taken t
+        × (answer ≡ (taken || is_listed (map id_view f.feature_ids.now) x.1)) };
+
+    ghost can_accept = { λ f. B.can_accept f.base };
+
+    fn accept(&mut self, graph: &FeatureGraph<'_>, feature_id: FeatureId<'_>) -> bool {
+        let taken = self.base.accept(graph, feature_id);
+        taken || self.takes(feature_id)
+    }
+}
+
+fn has_id(feature_ids: &[FeatureId<'_>], feature_id: FeatureId<'_>) -> bool
+    ensures { result ≡ list_any (λ x. feature_eq (id_view x) (id_view feature_id.entry)) feature_ids.now }
+{
+    feature_ids.iter().any(|id| *id == feature_id)
+}

@@ -1,0 +1,92 @@
+//! Features of packages that a filter takes, as sets and as queries.
+
+ghost use Rattle.std.specs.Prelude.{◌≡◌, ℕ, true, Contains, IfOk, OnErr};
+ghost use Rattle.guppy_package_graph.specs.Visits.{Chain, SameSteps};
+ghost use Rattle.guppy_package_graph.specs.Workspaces.{IsMemberPlace};
+ghost use Rattle.guppy_package_table.specs.Tables.{ids_of};
+ghost use Rattle.guppy_row_parts.specs.declared.dependency_direction.DependencyDirection.TheVariants.{Forward};
+ghost use Rattle.guppy_feature_graph.specs.Judging.{AreJudged, Judged, shown_features};
+ghost use Rattle.guppy_feature_graph.specs.PackageFeatures.{IsOfPackage, IsOfSet};
+ghost use Rattle.guppy_feature_graph.specs.Queries.{IsQueryOf};
+ghost use Rattle.guppy_feature_graph.specs.Sets.{IsSetOf};
+ghost use Rattle.guppy_feature_graph.specs.Views.{feature_graph_of};
+
+use crate::feature_filter::FeatureFilter;
+use crate::feature_graph::FeatureGraph;
+use crate::feature_query::FeatureQuery;
+use crate::feature_set::FeatureSet;
+use crate::package_features::features_of_packages;
+use crate::taking::take_by_filter;
+use guppy_package_graph::{DependencyDirection, PackageSet};
+use std::alloc::{AllocError, Global};
+
+impl<'g> FeatureGraph<'g> {
+    /// A query, to what they lead to, from the features of the workspace's packages that the filter
+    /// takes. It is asked about each of these features once, after all memory was taken.
+    pub fn query_workspace(
+        &self,
+        alloc: Global,
+        filter: &mut dyn FeatureFilter,
+    ) -> Result<FeatureQuery<'g>, AllocError>
+        requires { can_accept filter.old }
+        ensures ok { IfOk result (λ q. (judged : Judged) × AreJudged (IsOfPackage (feature_graph_of self.now) (IsMemberPlace (feature_graph_of self.now).rows)) judged
+            × Chain (steps filter.old) (state filter.old) (shown_features (feature_graph_of self.now) judged) (state filter.new)
+            × IsQueryOf (feature_graph_of self.now) Forward (λ v. Contains judged (v, true)) q) }
+        ensures same { SameSteps (steps filter.old) (steps filter.new) }
+        ensures can { can_accept filter.new }
+        ensures err { OnErr result (filter.new ≡ filter.old) }
+    {
+        let members = self.package_graph().resolve_workspace(alloc)?;
+        query_by_filter(alloc, *self, &members, DependencyDirection::Forward, filter)
+    }
+}
+
+/// A query from the features of a set's packages that the filter takes.
+pub(crate) fn query_by_filter<'g>(
+    alloc: Global,
+    graph: FeatureGraph<'g>,
+    packages: &PackageSet<'_>,
+    direction: DependencyDirection,
+    filter: &mut dyn FeatureFilter,
+) -> Result<FeatureQuery<'g>, AllocError>
+    requires packages { ids_of packages.now.graph.packages ≡ ids_of (feature_graph_of graph).rows.packages }
+    requires can { can_accept filter.old }
+    ensures ok { IfOk result (λ q. (judged : Judged) × AreJudged (IsOfSet (feature_graph_of graph.entry) packages.now.included) judged
+        × Chain (steps filter.old) (state filter.old) (shown_features (feature_graph_of graph.entry) judged) (state filter.new)
+        × IsQueryOf (feature_graph_of graph.entry) direction (λ v. Contains judged (v, true)) q) }
+    ensures same { SameSteps (steps filter.old) (steps filter.new) }
+    ensures can { can_accept filter.new }
+    ensures err { OnErr result (filter.new ≡ filter.old) }
+{
+    let wanted = features_of_packages(alloc, &graph, packages)?;
+    match take_by_filter(alloc, &graph, &wanted, filter) {
+        Ok(taken) => {
+            let initials = FeatureSet::of(graph, taken.included);
+            Ok(FeatureQuery::with_starts(initials, direction, taken.starts))
+        }
+        Err(refused) => Err(refused),
+    }
+}
+
+/// The features of a set's packages that the filter takes.
+pub(crate) fn set_by_filter<'g>(
+    alloc: Global,
+    graph: FeatureGraph<'g>,
+    packages: &PackageSet<'_>,
+    filter: &mut dyn FeatureFilter,
+) -> Result<FeatureSet<'g>, AllocError>
+    requires packages { ids_of packages.now.graph.packages ≡ ids_of (feature_graph_of graph).rows.packages }
+    requires can { can_accept filter.old }
+    ensures ok { IfOk result (λ s. (judged : Judged) × AreJudged (IsOfSet (feature_graph_of graph.entry) packages.now.included) judged
+        × Chain (steps filter.old) (state filter.old) (shown_features (feature_graph_of graph.entry) judged) (state filter.new)
+        × IsSetOf (feature_graph_of graph.entry) (λ v. Contains judged (v, true)) s) }
+    ensures same { SameSteps (steps filter.old) (steps filter.new) }
+    ensures can { can_accept filter.new }
+    ensures err { OnErr result (filter.new ≡ filter.old) }
+{
+    let wanted = features_of_packages(alloc, &graph, packages)?;
+    match take_by_filter(alloc, &graph, &wanted, filter) {
+        Ok(taken) => Ok(FeatureSet::of(graph, taken.included)),
+        Err(refused) => Err(refused),
+    }
+}

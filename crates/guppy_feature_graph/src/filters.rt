@@ -1,0 +1,74 @@
+//! Parts of a set that a callback chooses.
+
+ghost use Rattle.std.specs.Prelude.{◌≡◌, ℕ, Bool, List, Option, Some, true, false, Contains, IfOk};
+ghost use Rattle.guppy_feature_graph.specs.Filters.{AreAsked};
+ghost use Rattle.guppy_feature_graph.specs.Sets.{IsSetOf};
+
+use crate::choosing::{choose, choose_some};
+use crate::feature_set::FeatureSet;
+use guppy_feature_views::FeatureMetadata;
+use guppy_package_graph::DependencyDirection;
+use std::alloc::{AllocError, Global};
+
+impl<'g> FeatureSet<'g> {
+    /// The features of the set that the callback accepts. It is asked about each once, in the order in
+    /// which the set is listed.
+    pub fn filter<F: FnMut(FeatureMetadata<'_>) -> bool>(
+        &self,
+        alloc: Global,
+        direction: DependencyDirection,
+        callback: F,
+    ) -> Result<FeatureSet<'g>, AllocError>
+    where
+        F: Drop,
+        requires { F.IsAlwaysCallable callback }
+        ensures kept { IfOk result (λ s. (asked : List (ℕ × Bool)) × (last : F) × AreAsked F.FnMut self.now direction callback asked last
+            × IsSetOf self.now.graph (λ v. Contains asked (v, true)) s) }
+    {
+        let (accepted, _) = self.partition(alloc, direction, callback)?;
+        Ok(accepted)
+    }
+
+    /// The features of the set that the callback accepts, and those that it refuses. It is asked about
+    /// each once, in the order in which the set is listed.
+    pub fn partition<F: FnMut(FeatureMetadata<'_>) -> bool>(
+        &self,
+        alloc: Global,
+        direction: DependencyDirection,
+        mut callback: F,
+    ) -> Result<(FeatureSet<'g>, FeatureSet<'g>), AllocError>
+    where
+        F: Drop,
+        requires { F.IsAlwaysCallable callback }
+        ensures parts { IfOk result (λ parts. (asked : List (ℕ × Bool)) × (last : F) × AreAsked F.FnMut self.now direction callback asked last
+            × IsSetOf self.now.graph (λ v. Contains asked (v, true)) parts.0
+            × IsSetOf self.now.graph (λ v. Contains asked (v, false)) parts.1) }
+    {
+        let (accepted, refused) = choose(alloc, self, direction, &mut callback)?;
+        let graph = *self.graph();
+        Ok((
+            FeatureSet::of(graph, accepted),
+            FeatureSet::of(graph, refused),
+        ))
+    }
+
+    /// The features for which the callback answers `Some(true)`, and those for which it answers
+    /// `Some(false)`. It is asked about each once, in the order in which the set is listed.
+    pub fn filter_partition<F: FnMut(FeatureMetadata<'_>) -> Option<bool>>(
+        &self,
+        alloc: Global,
+        direction: DependencyDirection,
+        mut callback: F,
+    ) -> Result<(FeatureSet<'g>, FeatureSet<'g>), AllocError>
+    where
+        F: Drop,
+        requires { F.IsAlwaysCallable callback }
+        ensures parts { IfOk result (λ parts. (asked : List (ℕ × Option Bool)) × (last : F) × AreAsked F.FnMut self.now direction callback asked last
+            × IsSetOf self.now.graph (λ v. Contains asked (v, Some true)) parts.0
+            × IsSetOf self.now.graph (λ v. Contains asked (v, Some false)) parts.1) }
+    {
+        let (first, second) = choose_some(alloc, self, direction, &mut callback)?;
+        let graph = *self.graph();
+        Ok((FeatureSet::of(graph, first), FeatureSet::of(graph, second)))
+    }
+}

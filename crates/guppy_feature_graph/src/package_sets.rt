@@ -1,0 +1,116 @@
+//! Packages, sets of packages and queries from packages, as features of a graph.
+
+ghost use Rattle.std.specs.Prelude.{◌≡◌, ℕ, true, Contains, IfOk, OnErr, map};
+ghost use Rattle.guppy_package_graph.specs.Finding.{IsNamed};
+ghost use Rattle.guppy_package_graph.specs.SetValues.{IsSetOf as IsSetOfPackages};
+ghost use Rattle.guppy_package_graph.specs.Views.{graph_of, place_of};
+ghost use Rattle.guppy_package_graph.specs.Visits.{Chain, SameSteps};
+ghost use Rattle.guppy_package_table.specs.Tables.{id_at, ids_of};
+ghost use Rattle.guppy_feature_ids.specs.IdViews.{id_view};
+ghost use Rattle.guppy_feature_graph.specs.Judging.{AreJudged, Judged, shown_features};
+ghost use Rattle.guppy_feature_graph.specs.PackageFeatures.{IsDefaultId, IsOfPackage, IsOfSet};
+ghost use Rattle.guppy_feature_graph.specs.Queries.{IsQueryOf};
+ghost use Rattle.guppy_feature_graph.specs.Sets.{IsSetOf};
+ghost use Rattle.guppy_feature_graph.specs.Views.{feature_graph_of};
+
+use crate::feature_filter::FeatureFilter;
+use crate::feature_graph::FeatureGraph;
+use crate::feature_query::FeatureQuery;
+use crate::feature_set::FeatureSet;
+use crate::filtered::{query_by_filter, set_by_filter};
+use crate::package_features::features_of_packages;
+use guppy_feature_nodes::FeatureId;
+use guppy_package_graph::{PackageId, PackageMetadata, PackageQuery, PackageSet};
+use std::alloc::{AllocError, Global};
+
+/// All features of a package.
+pub fn package_to_feature_set<'g>(
+    alloc: Global,
+    graph: &FeatureGraph<'g>,
+    package: &PackageMetadata<'_>,
+) -> Result<FeatureSet<'g>, AllocError>
+    requires { ids_of (graph_of «package».now).packages ≡ ids_of (feature_graph_of graph.now).rows.packages }
+    ensures features { IfOk result (IsSetOf (feature_graph_of graph.now) (IsOfPackage (feature_graph_of graph.now) (λ place. place ≡ place_of «package».now))) }
+{
+    let packages = package.to_package_set(alloc)?;
+    let features = features_of_packages(alloc, graph, &packages)?;
+    Ok(FeatureSet::of(*graph, features))
+}
+
+/// The features of a set's packages that the filter takes. It is asked about each of these features
+/// once, after all memory was taken.
+pub fn set_to_feature_set<'g>(
+    alloc: Global,
+    graph: &FeatureGraph<'g>,
+    set: &PackageSet<'_>,
+    filter: &mut dyn FeatureFilter,
+) -> Result<FeatureSet<'g>, AllocError>
+    requires packages { ids_of set.now.graph.packages ≡ ids_of (feature_graph_of graph.now).rows.packages }
+    requires can { can_accept filter.old }
+    ensures ok { IfOk result (λ s. (judged : Judged) × AreJudged (IsOfSet (feature_graph_of graph.now) set.now.included) judged
+        × Chain (steps filter.old) (state filter.old) (shown_features (feature_graph_of graph.now) judged) (state filter.new)
+        × IsSetOf (feature_graph_of graph.now) (λ v. Contains judged (v, true)) s) }
+    ensures same { SameSteps (steps filter.old) (steps filter.new) }
+    ensures can { can_accept filter.new }
+    ensures err { OnErr result (filter.new ≡ filter.old) }
+{
+    set_by_filter(alloc, *graph, set, filter)
+}
+
+/// A query from the features of the query's initials that the filter takes, in its direction. The
+/// filter is asked about each of these features once, after all memory was taken.
+pub fn query_to_feature_query<'g>(
+    alloc: Global,
+    graph: &FeatureGraph<'g>,
+    query: &PackageQuery<'_>,
+    filter: &mut dyn FeatureFilter,
+) -> Result<FeatureQuery<'g>, AllocError>
+    requires packages { ids_of query.now.graph.packages ≡ ids_of (feature_graph_of graph.now).rows.packages }
+    requires can { can_accept filter.old }
+    ensures ok { IfOk result (λ q. (judged : Judged) × AreJudged (IsOfPackage (feature_graph_of graph.now) (IsNamed query.now.graph (map (id_at query.now.graph) query.now.initials))) judged
+        × Chain (steps filter.old) (state filter.old) (shown_features (feature_graph_of graph.now) judged) (state filter.new)
+        × IsQueryOf (feature_graph_of graph.now) query.now.direction (λ v. Contains judged (v, true)) q) }
+    ensures same { SameSteps (steps filter.old) (steps filter.new) }
+    ensures can { can_accept filter.new }
+    ensures err { OnErr result (filter.new ≡ filter.old) }
+{
+    let packages = initials_of(alloc, query)?;
+    query_by_filter(alloc, *graph, &packages, query.direction(), filter)
+}
+
+// The initials of a query, as a set.
+fn initials_of<'g>(alloc: Global, query: &PackageQuery<'g>) -> Result<PackageSet<'g>, AllocError>
+    ensures { IfOk result (IsSetOfPackages query.now.graph (IsNamed query.now.graph (map (id_at query.now.graph) query.now.initials))) }
+{
+    let ids = initial_ids(alloc, query)?;
+    match query.graph().resolve_ids(alloc, &ids) {
+        Ok(packages) => Ok(packages),
+        // Each of them is the id of a package, so memory ran out.
+        Err(_) => Err(AllocError),
+    }
+}
+
+fn initial_ids<'a>(
+    alloc: Global,
+    query: &'a PackageQuery<'_>,
+) -> Result<Vec<&'a PackageId>, AllocError>
+    ensures { IfOk result (λ ids. map (λ id. id.now) ids.items ≡ map (id_at query.entry.now.graph) query.entry.now.initials) }
+{
+    let mut ids: Vec<&'a PackageId> = Vec::new(alloc);
+    let mut packages = query.initials();
+    while let Some(package) = packages.next() {
+        ids.push(package.id())?;
+    }
+    Ok(ids)
+}
+
+/// The feature that a package's manifest calls `default`, or where it names none the package itself.
+pub fn default_feature_id<'g>(package: &PackageMetadata<'g>) -> FeatureId<'g>
+    ensures id { IsDefaultId (graph_of «package».now) (place_of «package».now) (id_view result) }
+{
+    if package.has_default_feature() {
+        FeatureId::named(package.id(), "default")
+    } else {
+        FeatureId::base(package.id())
+    }
+}

@@ -1,0 +1,41 @@
+//! The packages of features.
+
+ghost use Rattle.std.specs.Prelude.{◌≡◌, ◌<◌, All, IfOk, length, map};
+ghost use Rattle.guppy_feature_nodes.specs.Graphs.{feature_at};
+ghost use Rattle.guppy_feature_graph.specs.PackageFeatures.{IsOfFeature, IsPackageSetOf};
+
+use crate::feature_set::FeatureSet;
+use guppy_feature_nodes::FeatureGraphData;
+use guppy_package_graph::{PackageId, PackageSet};
+use std::alloc::{AllocError, Global};
+
+impl<'g> FeatureSet<'g> {
+    /// The packages that have a feature in the set.
+    pub fn to_package_set(&self, alloc: Global) -> Result<PackageSet<'g>, AllocError>
+        ensures packages { IfOk result (IsPackageSetOf self.now.graph (IsOfFeature self.now)) }
+    {
+        let built = self.graph().built();
+        let nodes = self.included().members(alloc)?;
+        let ids = package_ids(alloc, built, &nodes)?;
+        match built.package_graph().resolve_ids(alloc, &ids) {
+            Ok(packages) => Ok(packages),
+            // Each of them is the id of a package, so memory ran out.
+            Err(_) => Err(AllocError),
+        }
+    }
+}
+
+fn package_ids<'g>(
+    alloc: Global,
+    built: &'g FeatureGraphData<'g>,
+    nodes: &[usize],
+) -> Result<Vec<&'g PackageId>, AllocError>
+    requires { All (λ v. v < length built.now.nodes) nodes.now }
+    ensures { IfOk result (λ ids. map (λ id. id.now) ids.items ≡ map (λ v. (feature_at built.entry.now v).package_id) nodes.now) }
+{
+    let mut ids: Vec<&'g PackageId> = Vec::with_capacity(alloc, nodes.len())?;
+    for node in nodes {
+        ids.push(built.feature_at(*node).package_id())?;
+    }
+    Ok(ids)
+}

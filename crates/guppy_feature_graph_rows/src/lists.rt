@@ -1,0 +1,183 @@
+//! The features of packages, default features, cycles, and what filters take.
+
+use crate::features::{ids_of, members_text, named_in, push_word};
+use crate::resolves::Asked;
+use guppy_feature_graph::{
+    FeatureFilter, FeatureGraph, FeatureId, StandardFeatures, default_feature_id,
+    package_to_feature_set,
+};
+use guppy_package_graph::PackageId;
+use row_program::{Answers, Row, RowFault};
+use serde_json::Value;
+use std::alloc::{AllocError, Global};
+
+pub(crate) fn tell_lists(
+    alloc: Global,
+    row: Row<'_>,
+    asked: Asked<'_, '_>,
+    answers: &mut Answers,
+) -> Result<(), RowFault> {
+    tell_package(alloc, row, asked, answers)?;
+    answers.push("defaults", defaults_text(alloc, asked)?)?;
+    answers.push("cycles", cycles_text(alloc, asked.graph)?)?;
+    answers.push("workspace", workspace_text(alloc, asked)?)?;
+    answers.push("standard", standard_text(alloc, asked)?)?;
+    let is_kept = asked.graph.verify().is_ok();
+    answers.push("verified", format!(in alloc; "{is_kept}")?)?;
+    tell_pair(alloc, row, asked.graph, answers)
+}
+
+// The features of the package under `package`.
+fn tell_package(
+    alloc: Global,
+    row: Row<'_>,
+    asked: Asked<'_, '_>,
+    answers: &mut Answers,
+) -> Result<(), RowFault> {
+    let Some(text) = row.get("package").and_then(Value::as_str) else {
+        return Ok(());
+    };
+    let id = PackageId::new(String::from_str(alloc, text)?);
+    match asked.graph.all_features_for(alloc, &id) {
+        Ok(list) => {
+            let shown = list.display_features();
+            answers.push("features", format!(in alloc; "{shown}")?)?;
+            let default = default_feature_id(list.package());
+            answers.push("default", format!(in alloc; "{default}")?)?;
+            let set = package_to_feature_set(alloc, &asked.graph, list.package())?;
+            answers.push("own", members_text(alloc, &set, asked.features)?)?;
+            answers.push("kept", kept_text(alloc, row, asked.graph, &id)?)
+        }
+        Err(error) => answers.push("features", format!(in alloc; "{error}")?),
+    }
+}
+
+// Those of them that are under `starts`.
+fn kept_text(
+    alloc: Global,
+    row: Row<'_>,
+    graph: FeatureGraph<'_>,
+    id: &PackageId,
+) -> Result<String, RowFault> {
+    let named = named_in(alloc, row, "starts")?;
+    let ids = ids_of(alloc, &named)?;
+    let Ok(set) = graph.resolve_ids(alloc, &ids) else {
+        return Err(RowFault::Key("starts"));
+    };
+    let Ok(has_package) = set.contains_package(id) else {
+        return Err(RowFault::Key("package"));
+    };
+    match set.features_for(alloc, id) {
+        Ok(Some(list)) => {
+            let shown = list.display_features();
+            Ok(format!(in alloc; "{has_package}: {shown}")?)
+        }
+        Ok(None) => Ok(format!(in alloc; "{has_package}: none")?),
+        Err(error) => Ok(format!(in alloc; "{error}")?),
+    }
+}
+
+fn defaults_text(alloc: Global, asked: Asked<'_, '_>) -> Result<String, AllocError> {
+    let mut text = String::new(alloc);
+    for id in asked.features {
+        if asked.graph.is_default_feature(*id) == Ok(true) {
+            let word = format!(in alloc; "{id}")?;
+            push_word(&mut text, word.as_str())?;
+        }
+    }
+    Ok(text)
+}
+
+fn cycles_text(alloc: Global, graph: FeatureGraph<'_>) -> Result<String, AllocError> {
+    let cycles = graph.cycles(alloc)?;
+    let mut text = String::new(alloc);
+    for cycle in cycles.all_cycles() {
+        if !text.is_empty() {
+            text.push(';')?;
+        }
+        for id in cycle {
+            let word = format!(in alloc; "{id}")?;
+            push_word(&mut text, word.as_str())?;
+        }
+    }
+    Ok(text)
+}
+
+// Takes each feature, and counts.
+#[derive(Drop)]
+struct Counter {
+    calls: usize,
+}
+
+impl FeatureFilter for Counter {
+    ghost use Rattle.std.specs.Prelude.{◌≡◌, [], ⊤};
+
+    ghost state = { λ _. [] };
+
+    ghost steps = { λ _ _ _ _ t. t ≡ [] };
+
+    ghost can_accept = { λ _. ⊤ };
+
+    fn accept(&mut self, _graph: &FeatureGraph<'_>, _feature_id: FeatureId<'_>) -> bool {
+        self.calls = self.calls.saturating_add(1);
+        true
+    }
+}
+
+// How often a filter is asked, and what is taken.
+fn workspace_text(alloc: Global, asked: Asked<'_, '_>) -> Result<String, AllocError> {
+    let mut counter = Counter { calls: 0 };
+    let query = asked.graph.query_workspace(alloc, &mut counter)?;
+    let taken = members_text(alloc, query.initials(), asked.features)?;
+    let calls = counter.calls;
+    format!(in alloc; "{calls} calls: {taken}")
+}
+
+// How many features of the workspace each standard choice takes.
+fn standard_text(alloc: Global, asked: Asked<'_, '_>) -> Result<String, AllocError> {
+    let mut text = String::new(alloc);
+    for standard in StandardFeatures::VALUES {
+        let mut filter = *standard;
+        let query = asked.graph.query_workspace(alloc, &mut filter)?;
+        let count = query.initials().len();
+        let word = format!(in alloc; "{count}")?;
+        push_word(&mut text, word.as_str())?;
+    }
+    Ok(text)
+}
+
+// How the first two features under `starts` stand to each other.
+fn tell_pair(
+    alloc: Global,
+    row: Row<'_>,
+    graph: FeatureGraph<'_>,
+    answers: &mut Answers,
+) -> Result<(), RowFault> {
+    let named = named_in(alloc, row, "starts")?;
+    let ids = ids_of(alloc, &named)?;
+    if ids.len() < 2 {
+        return Ok(());
+    }
+    answers.push("pair", pair_text(alloc, graph, ids[0], ids[1])?)
+}
+
+fn pair_text(
+    alloc: Global,
+    graph: FeatureGraph<'_>,
+    a: FeatureId<'_>,
+    b: FeatureId<'_>,
+) -> Result<String, AllocError> {
+    let cycles = graph.cycles(alloc)?;
+    match (
+        graph.depends_on(alloc, a, b),
+        graph.directly_depends_on(a, b),
+        cycles.is_cyclic(a, b),
+    ) {
+        (Ok(depends), Ok(directly), Ok(cyclic)) => {
+            format!(in alloc; "depends {depends}, directly {directly}, cyclic {cyclic}")
+        }
+        (Err(error), _, _) | (_, Err(error), _) | (_, _, Err(error)) => {
+            format!(in alloc; "{error}")
+        }
+    }
+}

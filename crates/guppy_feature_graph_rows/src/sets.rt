@@ -1,0 +1,121 @@
+//! Sets of the features under `one` and `two`: joined, listed, with their roots and links.
+
+use crate::features::{ids_of, members_text, named_in, push_word};
+use crate::packages::tell_packages;
+use crate::resolves::Asked;
+use guppy_feature_graph::{FeatureId, FeatureSet};
+use guppy_package_graph::{DependencyDirection, Error};
+use row_program::{Answers, Row, RowFault};
+use std::alloc::{AllocError, Global};
+
+pub(crate) fn tell_sets(
+    alloc: Global,
+    row: Row<'_>,
+    asked: Asked<'_, '_>,
+    answers: &mut Answers,
+) -> Result<(), RowFault> {
+    if row.get("one").is_none() {
+        return Ok(());
+    }
+    match (
+        set_in(alloc, row, asked, "one")?,
+        set_in(alloc, row, asked, "two")?,
+    ) {
+        (Ok(one), Ok(two)) => {
+            tell_joined(alloc, asked, &one, &two, answers)?;
+            tell_parts(alloc, &one, answers)?;
+            tell_packages(alloc, &one, answers)?;
+            tell_links(alloc, &one, answers)
+        }
+        (Err(error), _) | (_, Err(error)) => {
+            answers.push("unknown", format!(in alloc; "{error}")?)
+        }
+    }
+}
+
+fn set_in<'g>(
+    alloc: Global,
+    row: Row<'_>,
+    asked: Asked<'_, 'g>,
+    key: &'static str,
+) -> Result<Result<FeatureSet<'g>, Error>, RowFault> {
+    let named = named_in(alloc, row, key)?;
+    let ids = ids_of(alloc, &named)?;
+    Ok(asked.graph.resolve_ids(alloc, &ids))
+}
+
+fn tell_joined(
+    alloc: Global,
+    asked: Asked<'_, '_>,
+    one: &FeatureSet<'_>,
+    two: &FeatureSet<'_>,
+    answers: &mut Answers,
+) -> Result<(), RowFault> {
+    if !one.same_features(two) {
+        return Err(RowFault::Key("two"));
+    }
+    let features = asked.features;
+    answers.push("union", set_text(alloc, one.union(alloc, two)?, features)?)?;
+    let intersection = one.intersection(alloc, two)?;
+    answers.push("intersection", set_text(alloc, intersection, features)?)?;
+    let difference = one.difference(alloc, two)?;
+    answers.push("difference", set_text(alloc, difference, features)?)?;
+    let either = one.symmetric_difference(alloc, two)?;
+    answers.push("either", set_text(alloc, either, features)?)
+}
+
+fn set_text(
+    alloc: Global,
+    set: FeatureSet<'_>,
+    features: &[FeatureId<'_>],
+) -> Result<String, AllocError> {
+    members_text(alloc, &set, features)
+}
+
+fn tell_parts(alloc: Global, one: &FeatureSet<'_>, answers: &mut Answers) -> Result<(), RowFault> {
+    let (forward, reverse) = (DependencyDirection::Forward, DependencyDirection::Reverse);
+    answers.push("listed", listed_text(alloc, one, forward)?)?;
+    answers.push("reversed", listed_text(alloc, one, reverse)?)?;
+    let roots = one.root_ids(alloc, forward)?;
+    answers.push("roots", ids_text(alloc, &roots)?)?;
+    let ends = one.root_ids(alloc, reverse)?;
+    answers.push("ends", ids_text(alloc, &ends)?)
+}
+
+fn listed_text(
+    alloc: Global,
+    set: &FeatureSet<'_>,
+    direction: DependencyDirection,
+) -> Result<String, AllocError> {
+    let mut text = String::new(alloc);
+    for id in set.feature_ids(direction) {
+        let word = format!(in alloc; "{id}")?;
+        push_word(&mut text, word.as_str())?;
+    }
+    Ok(text)
+}
+
+fn ids_text(alloc: Global, ids: &[FeatureId<'_>]) -> Result<String, AllocError> {
+    let mut text = String::new(alloc);
+    for id in ids {
+        let word = format!(in alloc; "{id}")?;
+        push_word(&mut text, word.as_str())?;
+    }
+    Ok(text)
+}
+
+fn tell_links(alloc: Global, one: &FeatureSet<'_>, answers: &mut Answers) -> Result<(), RowFault> {
+    let mut inside = String::new(alloc);
+    for (from, to, _) in one.links(alloc)? {
+        let word = format!(in alloc; "{from}>{to}")?;
+        push_word(&mut inside, word.as_str())?;
+    }
+    answers.push("inside", inside)?;
+    let mut conditional = String::new(alloc);
+    for link in one.conditional_links(alloc)? {
+        let (from, to) = (link.from().feature_id(), link.to().feature_id());
+        let word = format!(in alloc; "{from}>{to}")?;
+        push_word(&mut conditional, word.as_str())?;
+    }
+    answers.push("conditional", conditional)
+}

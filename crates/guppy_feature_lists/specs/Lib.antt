@@ -1,0 +1,4 @@
+pub mod Labels
+pub mod ListValues
+pub mod Listing
+pub mod ListViews

@@ -1,0 +1,190 @@
+//! Edges as links between nodes, the order in which the nodes are listed, and the default features.
+
+ghost use Rattle.std.specs.Prelude.{◌≡◌, ◌↔◌, ◌<◌, ℕ, [], All, IfOk, IsTrue, length, map, nat_lt, slice_index_or};
+ghost use Rattle.std.specs.List.{list_any};
+ghost use Rattle.numbered_graph.specs.Listings.{IsListing};
+ghost use Rattle.numbered_graph.specs.Sets.{has};
+ghost use Rattle.guppy_feature_demands.specs.Nodes.{base_of};
+ghost use Rattle.guppy_feature_nodes.specs.EdgeViews.{edge_view, form_view};
+ghost use Rattle.guppy_feature_nodes.specs.GraphEdges.{AreEdgesWithin, edge_ends};
+ghost use Rattle.guppy_feature_nodes.specs.Graphs.{IsDefaultAmong};
+ghost use Rattle.guppy_feature_nodes.specs.Orders.{default_starts, firm_edges, is_firm_edge, is_firm_line, is_naming, naming_edges, starts_defaults};
+ghost use Rattle.guppy_feature_nodes.specs.OrderViews.{AreOrders};
+
+use crate::edge_lines::line_at;
+use crate::feature_edge::FeatureEdge;
+use crate::node_edge::NodeEdge;
+use guppy_feature_demands::{FeatureName, NodeTable};
+use guppy_feature_ids::FeatureLabel;
+use guppy_row_parts::LinkRow;
+use numbered_graph::{Direction, Graph, Link, NodeSet, listing, reach_over};
+use std::alloc::{AllocError, Global};
+use workspace_record::LineKind;
+
+// The feature that a package names for what is on by default.
+const DEFAULT: &str = "default";
+
+/// The graph of the edges' ends, all nodes in the order in which they are listed, and the default
+/// features.
+#[derive(Drop)]
+pub(crate) struct Orders {
+    pub graph: Graph,
+    pub listing: Vec<usize>,
+    pub defaults: NodeSet,
+}
+
+pub(crate) fn orders_of(
+    alloc: Global,
+    nodes: &NodeTable<'_>,
+    links: &[LinkRow],
+    edges: &[NodeEdge],
+) -> Result<Orders, AllocError>
+    requires { AreEdgesWithin (length nodes.now) links.now (map edge_view edges.now) }
+    ensures { IfOk result (AreOrders links.now nodes.now (map edge_view edges.now)) }
+{
+    let graph = graph_of(alloc, nodes.len(), links, edges)?;
+    let listing = listing_of(alloc, &graph, links, edges)?;
+    let defaults = defaults_of(alloc, nodes, &graph, edges)?;
+    Ok(Orders {
+        graph,
+        listing,
+        defaults,
+    })
+}
+
+fn graph_of(
+    alloc: Global,
+    nodes: usize,
+    links: &[LinkRow],
+    edges: &[NodeEdge],
+) -> Result<Graph, AllocError>
+    requires { AreEdgesWithin nodes links.now (map edge_view edges.now) }
+    ensures { IfOk result (λ g. g ≡ record { nodes = nodes; links = edge_ends (map edge_view edges.now) }) }
+{
+    let ends = ends_of(alloc, edges)?;
+    let graph = Graph::new(alloc, nodes, ends)?;
+    Ok(graph)
+}
+
+fn ends_of(alloc: Global, edges: &[NodeEdge]) -> Result<Vec<Link>, AllocError>
+    ensures { IfOk result (λ v. v.items ≡ edge_ends (map edge_view edges.now)) }
+{
+    let mut ends = Vec::with_capacity(alloc, edges.len())?;
+    for edge in edges {
+        ends.push(Link {
+            from: edge.from,
+            to: edge.to,
+        })?;
+    }
+    Ok(ends)
+}
+
+fn listing_of(
+    alloc: Global,
+    graph: &Graph,
+    links: &[LinkRow],
+    edges: &[NodeEdge],
+) -> Result<Vec<usize>, AllocError>
+    requires { length graph.now.links ≡ length edges.now }
+    ensures { IfOk result (λ xs. IsListing graph.now.links (has (firm_edges links.now (map edge_view edges.now))) (λ v. nat_lt v graph.now.nodes) xs.items) }
+{
+    let firm = firm_edges(alloc, links, edges)?;
+    let order = listing(alloc, graph, &firm)?;
+    Ok(order)
+}
+
+fn firm_edges(alloc: Global, links: &[LinkRow], edges: &[NodeEdge]) -> Result<Vec<bool>, AllocError>
+    ensures { IfOk result (λ v. v.items ≡ firm_edges links.now (map edge_view edges.now)) }
+{
+    let mut flags = Vec::with_capacity(alloc, edges.len())?;
+    for edge in edges {
+        flags.push(is_firm_edge(links, edge))?;
+    }
+    Ok(flags)
+}
+
+fn is_firm_edge(links: &[LinkRow], edge: &NodeEdge) -> bool
+    ensures { result ≡ is_firm_edge links.now (edge_view edge.now) }
+{
+    edge.edge.is_unconditional() || has_firm_line(links, edge.edge.lines())
+}
+
+fn has_firm_line(links: &[LinkRow], lines: &[(usize, usize)]) -> bool
+    ensures { result ≡ list_any (is_firm_line links.now) lines.now }
+{
+    lines.iter().any(|place| is_firm_line(links, *place))
+}
+
+fn is_firm_line(links: &[LinkRow], place: (usize, usize)) -> bool
+    ensures { result ≡ is_firm_line links.now place }
+{
+    match line_at(links, place) {
+        Some(line) => line.kind != LineKind::Dev,
+        None => false,
+    }
+}
+
+fn defaults_of(
+    alloc: Global,
+    nodes: &NodeTable<'_>,
+    graph: &Graph,
+    edges: &[NodeEdge],
+) -> Result<NodeSet, AllocError>
+    requires nodes { graph.now.nodes ≡ length nodes.now }
+    requires links { graph.now.links ≡ edge_ends (map edge_view edges.now) }
+    ensures { IfOk result (λ set. (v : ℕ) → IsTrue (has set v) ↔ IsDefaultAmong nodes.now (map edge_view edges.now) v) }
+{
+    let starts = default_starts(alloc, nodes)?;
+    let naming = naming_edges(alloc, edges)?;
+    let defaults = reach_over(alloc, graph, &starts, Direction::Forward, &naming)?;
+    Ok(defaults)
+}
+
+fn naming_edges(alloc: Global, edges: &[NodeEdge]) -> Result<Vec<bool>, AllocError>
+    ensures { IfOk result (λ v. v.items ≡ naming_edges (map edge_view edges.now)) }
+{
+    let mut flags = Vec::with_capacity(alloc, edges.len())?;
+    for edge in edges {
+        flags.push(is_naming(&edge.edge))?;
+    }
+    Ok(flags)
+}
+
+fn is_naming(edge: &FeatureEdge) -> bool
+    ensures { result ≡ is_naming (form_view edge.now) }
+{
+    match edge {
+        FeatureEdge::FeatureToBase | FeatureEdge::NamedFeature => true,
+        FeatureEdge::NamedFeatureDepColon
+        | FeatureEdge::DependenciesSection(_)
+        | FeatureEdge::NamedFeatureWithSlash(_) => false,
+    }
+}
+
+// The features from which default features are told.
+fn default_starts(alloc: Global, nodes: &NodeTable<'_>) -> Result<Vec<usize>, AllocError>
+    ensures starts { IfOk result (λ v. v.items ≡ default_starts nodes.now) }
+    ensures within { IfOk result (λ v. All (λ n. n < length nodes.now) v.items) }
+{
+    let mut starts = Vec::new(alloc);
+    for number in 0..nodes.len() {
+        if starts_defaults(nodes, number) {
+            starts.push(number)?;
+        }
+    }
+    Ok(starts)
+}
+
+fn starts_defaults(nodes: &NodeTable<'_>, number: usize) -> bool
+    requires { number < length nodes.now }
+    ensures { result ≡ starts_defaults nodes.now (slice_index_or nodes.now number (base_of [])) }
+{
+    let id = nodes.ids()[number];
+    match id.label() {
+        FeatureLabel::Base => {
+            !nodes.contains(FeatureName::named(id.package_id().repr(), DEFAULT))
+        }
+        FeatureLabel::Named(name) => name == DEFAULT,
+        FeatureLabel::OptionalDependency(_) => false,
+    }
+}
