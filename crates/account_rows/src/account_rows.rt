@@ -1,12 +1,14 @@
 use crate::question::{Question, choice_in, record_in, table_in};
 use crate::rule_texts::{conclusions_text, rules_text};
+use crate::switching::tell_switching;
 use feature_account::{FeatureChoice, Rule, WorkspaceRecord, check_account, rules};
 use row_program::{Answers, Row, RowFault, RowRunner};
 use std::alloc::Global;
 
 /// Rows of rules and accounts. A row's `files` are `record.json`, and where it has them `choice.json`
 /// and `table.json`; its `account` is a list of numbers. What comes is `rules`, a line for each rule,
-/// `verdict`, what is to be said of the account, and `concludes`, what the account's rules conclude.
+/// `verdict`, what is to be said of the account, and `concludes`, what the account's rules conclude; and
+/// what is on by the rules in the graphs of the record (`tell_switching`).
 #[derive(Drop)]
 pub(crate) struct AccountRows;
 
@@ -66,6 +68,7 @@ fn tell_rules(
     } = question;
     let rules = rules(alloc, record, choice, table)?;
     answers.push("rules", rules_text(alloc, rules.as_slice())?)?;
+    tell_switching(alloc, question, rules.as_slice(), answers)?;
     tell_conclusions(alloc, row, rules.as_slice(), answers)
 }
 

@@ -5,6 +5,7 @@
 mod account_rows;
 mod question;
 mod rule_texts;
+mod switching;
 
 use crate::account_rows::AccountRows;
 use row_program::run_rows;

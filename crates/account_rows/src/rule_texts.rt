@@ -3,7 +3,8 @@
 use feature_account::{Feature, Label, Premises, Rule};
 use std::alloc::{AllocError, Global};
 
-fn push_feature(text: &mut String, feature: &Feature) -> Result<(), AllocError> {
+/// Adds a feature: `app`, `app/full` or `app/dep:util`.
+pub(crate) fn push_feature(text: &mut String, feature: &Feature) -> Result<(), AllocError> {
     text.push_str(feature.package.as_str())?;
     match &feature.label {
         Label::Base => Ok(()),

@@ -1,7 +1,7 @@
 use crate::path_rows::push_paths;
 use package_rules::{RecordRule, first_broken_rule};
+use record_checks::{RecordError, check_record};
 use record_files::read_record;
-use record_rules::{RecordError, check_record};
 use row_program::{Answers, Row, RowFault, RowRunner, file_text};
 use std::alloc::Global;
 use workspace_record::WorkspaceRecord;
@@ -77,7 +77,9 @@ fn push_checked(
 ) -> Result<(), RowFault> {
     let text = match check_record(alloc, record) {
         Err(RecordError::Broken { rule, place }) => broken_text(alloc, rule, place)?,
-        Err(RecordError::NotYet) | Ok(()) => String::from_str(alloc, "none")?,
+        Err(RecordError::NotYet | RecordError::Filter { .. }) | Ok(()) => String::from_str(
+            alloc, "none",
+        )?,
         Err(RecordError::Memory) => return Err(RowFault::Memory),
     };
     answers.push("broken", text)

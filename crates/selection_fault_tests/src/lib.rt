@@ -7,6 +7,8 @@ mod error_texts;
 #[cfg(test)]
 mod listers;
 #[cfg(test)]
+mod orders;
+#[cfg(test)]
 mod reports;
 #[cfg(test)]
 mod sorts;

@@ -12,3 +12,8 @@ wanted_if Available h = tt
 pub wanted_in : {A B : Type 0} (asks : AskedBinaries) → (A → B) → WantedIn asks A → WantedIn asks B
 wanted_in LetThrough wider h = wider h
 wanted_in Available wider h = tt
+
+-- what is not denied of being let through is not denied of being wanted
+pub wanted_twice : {A : Type 0} (asks : AskedBinaries) → ((A → ⊥) → ⊥) → (WantedIn asks A → ⊥) → ⊥
+wanted_twice LetThrough h = h
+wanted_twice Available h = λ k. k tt

@@ -2,13 +2,14 @@
 use Rattle.std.specs.Prelude.{◌≡◌, List, Option}
 use Rattle.workspace_record.specs.Records.{Text}
 use Rattle.test_select.specs.Questions.{Question}
+use Rattle.test_select.specs.Readings.{Readings}
 use Rattle.test_select.specs.Selecting.{IsReport}
 use Rattle.test_select.specs.declared.asked_binaries.AskedBinaries.{AskedBinaries}
 
--- over the same listings a question has one report, whichever binaries are asked
+-- over the same listings, filters that are read in one way give a question one report, whichever binaries are asked
 abbrev pub ReportsAgree : Type 0
 ReportsAgree =
-    (q : Question) (asks : AskedBinaries) (listing_of : Text → Option (List Text)) (pairs others : List (Text × Text))
-    → IsReport q listing_of pairs
-    → IsReport (record q { asks = asks }) listing_of others
+    (q : Question) (r : Readings) (asks : AskedBinaries) (listing_of : Text → Option (List Text)) (pairs others : List (Text × Text))
+    → IsReport q r listing_of pairs
+    → IsReport (record q { asks = asks }) r listing_of others
     → pairs ≡ others

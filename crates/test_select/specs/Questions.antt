@@ -1,16 +1,14 @@
--- What a selection is asked, and what is on and followed there.
-use Rattle.std.specs.Prelude.{List, Contains}
-use Rattle.workspace_record.specs.Records.{Text, Link, Workspace}
+-- What a selection is asked, and what is on there.
+use Rattle.std.specs.Prelude.{List}
+use Rattle.workspace_record.specs.Records.{Text, Workspace}
 use Rattle.workspace_record.specs.Features.{FeatureValue}
 use Rattle.workspace_record.specs.Choices.{Choice}
 use Rattle.workspace_record.specs.declared.choice.PlatformTable.{PlatformTable}
 use Rattle.feature_account.specs.Closed.{IsOn}
 use Rattle.feature_account.specs.RuleList.{rule_list}
-use Rattle.feature_switching.specs.OnLines.{LinkIsOn}
 use Rattle.test_select.specs.declared.asked_binaries.AskedBinaries.{AskedBinaries}
 use Rattle.test_select.specs.declared.asked_binaries.AskedBinaries.TheVariants.{LetThrough, Available}
 use Rattle.test_select.specs.declared.scope.LinkScope.{LinkScope}
-use Rattle.test_select.specs.declared.scope.LinkScope.TheVariants.{SwitchedOn, Declared}
 
 -- the tests of which workspace, under which choice, on which platform, over which links, by which texts, and which available binaries are asked
 pub record Question : Type 0 where
@@ -26,20 +24,7 @@ abbrev pub WantedIn : AskedBinaries → Type 0 → Type 0
 WantedIn LetThrough through = through
 WantedIn Available through = Unit {0}
 
--- a link leads on in the scope: where links have to be on, it is
-abbrev pub LeadsOn : Workspace → PlatformTable → (FeatureValue → Type 0) → LinkScope → Link → Type 0
-LeadsOn w table on SwitchedOn link = LinkIsOn w table on link
-LeadsOn w table on Declared link = Unit {0}
-
--- a declared link that leads on
-abbrev pub MayFollow : Workspace → PlatformTable → (FeatureValue → Type 0) → LinkScope → Link → Type 0
-MayFollow w table on scope link = Contains w.links link × LeadsOn w table on scope link
-
 module _ (q : Question) where
   -- the feature is on
   abbrev pub IsFeatureOn : FeatureValue → Type 0
   IsFeatureOn f = IsOn (rule_list q.workspace q.choice q.table) f
-
-  -- paths follow the link
-  abbrev pub IsFollowed : Link → Type 0
-  IsFollowed link = MayFollow q.workspace q.table IsFeatureOn q.scope link

@@ -1,11 +1,11 @@
 -- What the program selects by, where its command line says nothing of it.
-use Rattle.std.specs.Prelude.{◌≡◌, Bool, true, List, [], Result}
+use Rattle.std.specs.Prelude.{◌≡◌, true, List, [], Result}
 use Rattle.workspace_record.specs.Records.{Text, Workspace}
 use Rattle.workspace_record.specs.Choices.{Choice}
 use Rattle.workspace_record.specs.declared.kinds.Standard.TheVariants as standard
 use Rattle.workspace_record.specs.declared.choice.PlatformTable.{PlatformTable}
 use Rattle.test_lister.specs.Listers.{Shown}
-use Rattle.feature_switching.specs.declared.select_error.SelectError.{SelectError}
+use Rattle.record_checks.specs.declared.select_error.SelectError.{SelectError}
 use Rattle.test_select.specs.Selecting.{Answers}
 use Rattle.test_select.specs.Selections.{Selected}
 use Rattle.test_select.specs.declared.asked_binaries.AskedBinaries.{AskedBinaries}

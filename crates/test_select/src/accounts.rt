@@ -9,7 +9,7 @@ use crate::file_source::FileSource;
 use crate::inputs::{account_in, feature_question};
 use clap::ArgMatches;
 use feature_account::{Verdict, check_account};
-use feature_switching::{account, write_account};
+use record_checks::{account, write_account};
 use std::alloc::Global;
 use std::io::{self, Write};
 

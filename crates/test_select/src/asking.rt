@@ -1,27 +1,34 @@
 //! Asking for the tests of the planned binaries, and choosing from the answers.
 
-ghost use Rattle.std.specs.Prelude.{◌≡◌, ◌<◌, ◌++◌, IfOk, OnOk, [], length, map, slice_index_or, string_bytes};
-ghost use Rattle.list_facts.specs.Ascending.{IsAscendingOf, pair_cmp};
+ghost use Rattle.std.specs.Prelude.{◌≡◌, ◌↔◌, ◌<◌, ◌∷◌, [], IfOk, IsTrue, OnOk, length, map};
 ghost use Rattle.list_facts.specs.Texts.{texts, pair_of};
 ghost use Rattle.record_rules.specs.BinaryView.{binary_view};
-ghost use Rattle.test_select.specs.Choosing.{CarriesOut, chosen_of, chosen_each, ids_of};
+ghost use Rattle.test_select.specs.AskedViews.{binary_in};
+ghost use Rattle.test_select.specs.Choosing.{AreListed, CarriesOut, IsTestOf, ids_of};
+ghost use Rattle.test_select.specs.Kept.{Adds};
+ghost use Rattle.test_select.specs.Passing.{IsPassing};
+ghost use Rattle.test_select.specs.Plans.{PassesIn};
+ghost use Rattle.test_select.specs.QuestionFilters.{Pass, question_view};
 ghost use Rattle.test_select.specs.Told.{told_by, told_of};
 
+use crate::asked_queries::AskedBinary;
+use crate::evaluation::pass;
 use crate::plan::Plan;
+use crate::question_filters::QuestionFilters;
 use crate::selection::Selection;
-use feature_switching::SelectError;
-use filter_texts::{TestFilter, any_matches};
 use list_facts::sorted_pairs;
+use nextest_filtering::{TestCaseName, TestQuery};
+use record_checks::SelectError;
 use record_rules::binaries::{TestBinary, platform_of};
 use std::alloc::{AllocError, Global};
 use test_lister::{AskError, BinaryInfo, Listing, TestLister, ask_each};
 
 pub(crate) fn carry_out(
     alloc: Global,
-    plan: &Plan<'_, '_>,
+    plan: &Plan<'_>,
     lister: &mut dyn TestLister,
 ) -> Result<Selection, SelectError>
-    ensures { CarriesOut plan.now.filters.items (map binary_view plan.now.asked.items) (shown lister.old) result (shown lister.new) }
+    ensures { CarriesOut (PassesIn (question_view plan.now.filters)) (map binary_view plan.now.asked.items) (shown lister.old) result (shown lister.new) }
 {
     let mut ids = ids(alloc, &plan.asked)?;
     let infos = infos(alloc, &plan.asked)?;
@@ -60,14 +67,14 @@ fn info_of<'a>(binary: &'a TestBinary<'_>) -> BinaryInfo<'a>
     }
 }
 
-/// The tests of which some filter is true, each under its binary's id.
+/// The tests of which the filters hold, each under its binary's id.
 fn choose(
     alloc: Global,
-    plan: &Plan<'_, '_>,
+    plan: &Plan<'_>,
     listings: &[Listing],
 ) -> Result<Vec<(String, String)>, AllocError>
     requires { length listings.now ≡ length plan.now.asked.items }
-    ensures { IfOk result (λ v. IsAscendingOf pair_cmp (chosen_each plan.now.filters.items plan.now.asked.items listings.now) (map pair_of v.items)) }
+    ensures { IfOk result (λ v. AreListed (PassesIn (question_view plan.now.filters)) plan.now.asked.items listings.now (map pair_of v.items)) }
 {
     let mut chosen = Vec::new(alloc);
     for (place, names) in listings.iter().enumerate() {
@@ -78,21 +85,66 @@ fn choose(
 
 fn push_chosen(
     alloc: Global,
-    filters: &[TestFilter<'_, '_>],
+    filters: &QuestionFilters,
     binary: &TestBinary<'_>,
     names: &[String],
     chosen: &mut Vec<(String, String)>,
 ) -> Result<(), AllocError>
-    ensures { OnOk result (map pair_of chosen.new.items ≡ map pair_of chosen.old.items ++ chosen_of filters.now (binary_view binary.now) names.now) }
+    ensures { OnOk result (Adds (IsTestOf (PassesIn (question_view filters.now)) (binary_view binary.now) names.now) (map pair_of chosen.old.items) (map pair_of chosen.new.items)) }
 {
-    let row = binary.row;
+    let asked = AskedBinary::of(alloc, binary)?;
+    push_passing(alloc, filters, &asked, binary.id.as_str(), names, chosen)
+}
+
+/// The tests with these names of which the filters hold, each under the binary's id.
+fn push_passing(
+    alloc: Global,
+    filters: &QuestionFilters,
+    asked: &AskedBinary<'_>,
+    id: &str,
+    names: &[String],
+    chosen: &mut Vec<(String, String)>,
+) -> Result<(), AllocError>
+    ensures { OnOk result (Adds (IsPassing (question_view filters.now) (binary_in asked.now) id.now (texts names.now)) (map pair_of chosen.old.items) (map pair_of chosen.new.items)) }
+{
     for name in names {
-        if any_matches(filters, row.id.as_str(), name.as_str()) {
-            let id = String::from_str(alloc, binary.id.as_str())?;
-            chosen.push((id, String::from_str(alloc, name.as_str())?))?;
-        }
+        push_if_passing(alloc, filters, asked, id, name.as_str(), chosen)?;
     }
     Ok(())
+}
+
+fn push_if_passing(
+    alloc: Global,
+    filters: &QuestionFilters,
+    asked: &AskedBinary<'_>,
+    id: &str,
+    name: &str,
+    chosen: &mut Vec<(String, String)>,
+) -> Result<(), AllocError>
+    ensures { OnOk result (Adds (IsPassing (question_view filters.now) (binary_in asked.now) id.now (name.now ∷ [])) (map pair_of chosen.old.items) (map pair_of chosen.new.items)) }
+{
+    if passes(alloc, filters, asked, name)? {
+        let id = String::from_str(alloc, id)?;
+        chosen.push((id, String::from_str(alloc, name)?))?;
+    }
+    Ok(())
+}
+
+fn passes(
+    alloc: Global,
+    filters: &QuestionFilters,
+    asked: &AskedBinary<'_>,
+    name: &str,
+) -> Result<bool, AllocError>
+    ensures { IfOk result (λ r. IsTrue r ↔ Pass (question_view filters.now) (record { binary = binary_in asked.now; name = name.now })) }
+{
+    let test_name = TestCaseName::new(String::from_str(alloc, name)?);
+    let binary_query = asked.query();
+    let test = TestQuery {
+        binary_query,
+        test_name: &test_name,
+    };
+    pass(alloc, filters, &test)
 }
 
 fn ids(alloc: Global, asked: &[TestBinary<'_>]) -> Result<Vec<String>, AllocError>

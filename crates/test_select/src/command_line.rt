@@ -15,7 +15,8 @@ pub(crate) fn command<'a>(alloc: Global) -> Result<Command<'a>, AllocError> {
         .arg_required_else_help(true)
         .subcommand(tests_command(alloc)?)?
         .subcommand(account_command(alloc)?)?
-        .subcommand(check_command(alloc)?)
+        .subcommand(check_command(alloc)?)?
+        .subcommand(order_command(alloc)?)
 }
 
 /// The names of the files that `tests` reads.
@@ -62,6 +63,15 @@ fn check_command<'a>(alloc: Global) -> Result<Command<'a>, AllocError> {
         .arg(choice_option(alloc))?
         .arg(table_option(alloc))?
         .arg(account_option(alloc))
+}
+
+fn order_command<'a>(alloc: Global) -> Result<Command<'a>, AllocError> {
+    Command::new(alloc, "order")
+        .about("Prints the packages that are on, dependencies first")
+        .after_help(ORDER_HELP)
+        .arg(record_option(alloc))?
+        .arg(choice_option(alloc))?
+        .arg(table_option(alloc))
 }
 
 fn record_option<'a>(alloc: Global) -> Arg<'a> {
@@ -159,15 +169,22 @@ pub(crate) fn filters_in<'m, 'a: 'm>(asked: &'m ArgMatches<'a>) -> &'m [&'a str]
 }
 
 const TESTS_HELP: &str = "Filters:
-  all()           every test
-  package(=NAME)  the tests of the package with this name
-  deps(=NAME)     the tests of the package with this name, and of all that it depends on by links
-                  that are on
-  test(=NAME)     the tests with this name
+  all(), none()    every test, and none
+  package(NAME)    the tests of packages with such a name
+  deps(NAME)       those of such packages, and of all that they depend on by links that are on
+  rdeps(NAME)      those of such packages, and of all that depend on them
+  binary_id(NAME)  the tests of binaries with such an id
+  binary(NAME)     the tests of binaries whose target has such a name
+  kind(NAME)       the tests of lib, proc-macro, test, bench, bin or example targets
+  platform(WORD)   the tests of binaries for the host, or for the target
+  test(NAME)       the tests with such a name
+  group(NAME)      the tests of such groups of the record
+  default()        the tests of the record's default filter
 
-A filter is one of these forms, without blanks. NAME is one or more ASCII letters, digits, `_`, `-`
-and `:`, and `package` and `deps` take names that the record has. Tests run only in binaries whose
-required features are on.
+NAME is =TEXT for the whole name, ~TEXT for a part of it, #TEXT for a glob, /TEXT/ for a pattern, or
+TEXT: a part of a test's name, a whole kind, and a glob for others. Filters are joined by `and`, `or`,
+`not` and `-`, and parentheses group them. Names of packages, binaries and groups have to match some.
+Tests run only in binaries whose required features are on, and where the default filter holds.
 
 Output: a line for each test, with the id of its binary, a space and its name. The lines ascend by
 binary and then name, and none stands there twice.
@@ -192,6 +209,13 @@ at N`, where N is the lowest rule that is left out.
 
 Exit status: 0 if the account is accepted; 1 if it or a file is refused, or the output cannot be
 written, with the reasons for the latter two on standard error; 2 for a bad command line.";
+
+const ORDER_HELP: &str =
+    "Output: a line for each package that is on, with its id, and none stands there twice. A package comes
+after all that it depends on by lines that are on, but for packages that depend on it in turn.
+
+Exit status: 0 if the order is printed; 1 if a file, the record or the choice is refused, or the
+output cannot be written, with the reasons on standard error; 2 for a bad command line.";
 
 const STATUSES: &str =
     "Exit status: 0 if all is done; 1 if it failed, with the reasons on standard error; 2 for a bad

@@ -6,7 +6,7 @@ ghost use Rattle.test_select.specs.declared.failure.Failure.TheVariants.{Refused
 
 use crate::file_source::FileFault;
 use clap::error::ErrorKind;
-use feature_switching::{SelectError, WriteAccountError};
+use record_checks::{SelectError, WriteAccountError};
 use record_files::ReadError;
 use std::alloc::{AllocError, AllocFailed};
 use std::{fmt, io};

@@ -2,8 +2,8 @@
 
 ghost use Rattle.test_select.specs.Laws.{ReportsAgree};
 
-/// Whichever available binaries are asked, the tests that are chosen from the same listings are the
-/// same, in the same order.
+/// Filters that are read in one way choose the same tests from the same listings, in the same order,
+/// whichever available binaries are asked.
 pub fn reports_agree()
     ensures agree { ReportsAgree }
 {}

@@ -4,15 +4,19 @@
 
 mod accounts;
 mod asked_binaries;
+mod asked_queries;
 mod asking;
 mod command_line;
+mod evaluation;
 mod failure;
 mod file_source;
-mod followed;
+mod filtering;
 mod inputs;
 pub mod laws;
+mod order;
 mod plan;
 mod program;
+mod question_filters;
 mod report;
 mod scope;
 mod selecting;
@@ -20,6 +24,7 @@ mod selection;
 mod unknown_platform;
 
 pub use crate::file_source::{FileFault, FileSource};
+pub use crate::order::{package_order, write_order};
 pub use crate::program::run;
 pub use crate::report::write_report;
 pub use crate::scope::LinkScope;
@@ -30,14 +35,13 @@ pub use feature_account::{
     MemberRecord, PackageInfo, PackageRecord, PlatformTable, Standard, TargetInfo, TargetKind,
     TargetRecord, Verdict, WorkspaceInfo, WorkspaceRecord, check_account,
 };
-pub use feature_switching::{
-    Account, FeaturesOn, SelectError, WriteAccountError, account, features_on, write_account,
+pub use record_checks::{
+    Account, FeaturesOn, GroupTable, ParseSingleError, RecordError, RecordRule, SelectError,
+    SourceSpan, WriteAccountError, account, check_record, features_on, write_account,
 };
-pub use filter_texts::{ParseSingleError, SourceSpan};
 pub use record_files::{
     Field, Key, ReadError, read_account, read_choice, read_listings, read_record, read_table,
 };
-pub use record_rules::{RecordError, RecordRule, check_record};
 pub use test_lister::{
     BinaryInfo, BuildPlatform, FileLister, ListFault, Listing, ListingFault, TestLister,
 };

@@ -1,74 +1,51 @@
 //! What is to be asked, and by which filters the answers are to be read.
 
-ghost use Rattle.std.specs.Prelude.{◌≡◌, ◌↔◌, ◌∷◌, [], IfOk, IsTrue, map, Contains, string_bytes};
+ghost use Rattle.std.specs.Prelude.{◌↔◌, IfOk, IsTrue, map, Contains, string_bytes};
 ghost use Rattle.list_facts.specs.Ascending.{IsAscendingOf, text_cmp};
 ghost use Rattle.record_rules.specs.Binaries.{binaries};
 ghost use Rattle.record_rules.specs.BinaryView.{binary_view};
-ghost use Rattle.test_select.specs.Kept.{HoldsThose};
-ghost use Rattle.filter_texts.specs.Compiled.{any_may_match};
-ghost use Rattle.test_select.specs.Plans.{Plans, CompilesFor, MayMatch};
-ghost use Rattle.test_select.specs.Questions.{WantedIn};
 ghost use Rattle.record_rules.specs.declared.binaries.TestBinary.{TestBinary};
+ghost use Rattle.test_select.specs.Kept.{AreThose};
+ghost use Rattle.test_select.specs.Plans.{MayMatch, Plans};
+ghost use Rattle.test_select.specs.Queries.{binary_asked};
+ghost use Rattle.test_select.specs.QuestionFilters.{MayPass, question_view};
+ghost use Rattle.test_select.specs.Questions.{WantedIn};
 
 use crate::asked_binaries::AskedBinaries;
-use crate::followed::followed_links;
+use crate::asked_queries::AskedBinary;
+use crate::evaluation::may_pass;
+use crate::filtering::filters_over;
+use crate::question_filters::QuestionFilters;
 use crate::scope::LinkScope;
+use feature_switching::FeaturesOn;
 use feature_switching::availability::is_available;
-use feature_switching::{FeaturesOn, SelectError, features_on};
-use filter_texts::{FilterRefusal, ParseSingleError, TestFilter, any_may_match, compile_filters};
+use record_checks::{SelectError, features_on};
 use record_rules::binaries::{TestBinary, binaries};
 use std::alloc::{AllocError, Global};
-use workspace_record::{FeatureChoice, LinkRecord, PlatformTable, WorkspaceRecord};
+use workspace_record::{FeatureChoice, PlatformTable, WorkspaceRecord};
 
 /// The filters, and the binaries to ask for, ascending by id.
 #[derive(Drop)]
-pub(crate) struct Plan<'r, 't> {
-    pub(crate) filters: Vec<TestFilter<'r, 't>>,
+pub(crate) struct Plan<'r> {
+    pub(crate) filters: QuestionFilters,
     pub(crate) asked: Vec<TestBinary<'r>>,
 }
 
-pub(crate) fn make_plan<'r, 't>(
+pub(crate) fn make_plan<'r>(
     alloc: Global,
     record: &'r WorkspaceRecord,
     choice: &FeatureChoice,
     table: &PlatformTable,
     scope: LinkScope,
-    texts: &[&'t str],
+    texts: &[&str],
     asks: AskedBinaries,
-) -> Result<Plan<'r, 't>, SelectError>
+) -> Result<Plan<'r>, SelectError>
     ensures { Plans (record { workspace = record.entry.now; choice = choice.now; table = table.now; scope = scope; texts = map (λ t. t.now) texts.now; asks = asks }) result }
 {
     let on = features_on(alloc, record, choice, table)?;
-    let links = followed_links(alloc, record, table, scope, &on)?;
-    let filters = filters_of(alloc, record, &links, texts)?;
+    let filters = filters_over(alloc, record, &on, table, scope, texts)?;
     let asked = sorted_binaries(let_through(alloc, record, &on, &filters, asks)?)?;
     Ok(Plan { filters, asked })
-}
-
-/// The filters of the texts. So far a text that is refused has one fault.
-fn filters_of<'r, 't>(
-    alloc: Global,
-    record: &'r WorkspaceRecord,
-    links: &[&'r LinkRecord],
-    texts: &[&'t str],
-) -> Result<Vec<TestFilter<'r, 't>>, SelectError>
-    ensures { CompilesFor record.entry.now (λ l. Contains (map (λ l. l.now) links.now) l) (map (λ t. t.now) texts.now) result }
-{
-    match compile_filters(alloc, record, links, texts) {
-        Ok(filters) => Ok(filters),
-        Err(FilterRefusal::Memory) => Err(SelectError::Memory),
-        Err(FilterRefusal::Filter(place, fault)) => {
-            Err(SelectError::Filter(place, one_fault(alloc, fault)?))
-        }
-    }
-}
-
-fn one_fault(alloc: Global, fault: ParseSingleError) -> Result<Vec<ParseSingleError>, AllocError>
-    ensures { IfOk result (λ v. v.items ≡ fault ∷ []) }
-{
-    let mut faults = Vec::new(alloc);
-    faults.push(fault)?;
-    Ok(faults)
 }
 
 /// The available binaries that are wanted, in the record's order.
@@ -76,14 +53,14 @@ fn let_through<'r>(
     alloc: Global,
     record: &'r WorkspaceRecord,
     on: &FeaturesOn,
-    filters: &[TestFilter<'_, '_>],
+    filters: &QuestionFilters,
     asks: AskedBinaries,
 ) -> Result<Vec<TestBinary<'r>>, AllocError>
-    ensures { IfOk result (λ v. HoldsThose (MayMatch asks (λ f. Contains on.now f) filters.now) (binaries record.entry.now) (map binary_view v.items)) }
+    ensures { IfOk result (λ v. AreThose (MayMatch asks (λ f. Contains on.now f) (question_view filters.now)) (binaries record.entry.now) (map binary_view v.items)) }
 {
     let mut kept: Vec<TestBinary<'r>> = Vec::new(alloc);
     for binary in binaries(alloc, record)? {
-        if may_match(on, filters, asks, &binary) {
+        if may_match(alloc, on, filters, asks, &binary)? {
             kept.push(binary)?;
         }
     }
@@ -91,25 +68,46 @@ fn let_through<'r>(
 }
 
 fn may_match(
+    alloc: Global,
     on: &FeaturesOn,
-    filters: &[TestFilter<'_, '_>],
+    filters: &QuestionFilters,
     asks: AskedBinaries,
     binary: &TestBinary<'_>,
-) -> bool
-    ensures { IsTrue result ↔ MayMatch asks (λ f. Contains on.now f) filters.now (binary_view binary.now) }
+) -> Result<bool, AllocError>
+    ensures { IfOk result (λ r. IsTrue r ↔ MayMatch asks (λ f. Contains on.now f) (question_view filters.now) (binary_view binary.now)) }
 {
     let (row, target) = (binary.row, binary.target);
-    is_available(on, row.id.as_str(), target) && is_wanted(filters, asks, row.id.as_str())
+    if !is_available(on, row.id.as_str(), target) {
+        return Ok(false);
+    }
+    is_wanted(alloc, filters, asks, binary)
 }
 
-/// Whether binaries of the package are wanted.
-fn is_wanted(filters: &[TestFilter<'_, '_>], asks: AskedBinaries, package_id: &str) -> bool
-    ensures { IsTrue result ↔ WantedIn asks (IsTrue (any_may_match filters.now package_id.now)) }
+/// Whether the binary is wanted, if it is available.
+fn is_wanted(
+    alloc: Global,
+    filters: &QuestionFilters,
+    asks: AskedBinaries,
+    binary: &TestBinary<'_>,
+) -> Result<bool, AllocError>
+    ensures { IfOk result (λ r. IsTrue r ↔ WantedIn asks (MayPass (question_view filters.now) (binary_asked (binary_view binary.now)))) }
 {
     match asks {
-        AskedBinaries::Available => true,
-        AskedBinaries::LetThrough => any_may_match(filters, package_id),
+        AskedBinaries::Available => Ok(true),
+        AskedBinaries::LetThrough => may_pass_there(alloc, filters, binary),
     }
+}
+
+/// Whether some answers about its tests let the binary through the filters.
+fn may_pass_there(
+    alloc: Global,
+    filters: &QuestionFilters,
+    binary: &TestBinary<'_>,
+) -> Result<bool, AllocError>
+    ensures { IfOk result (λ r. IsTrue r ↔ MayPass (question_view filters.now) (binary_asked (binary_view binary.now))) }
+{
+    let asked = AskedBinary::of(alloc, binary)?;
+    may_pass(alloc, filters, &asked.query())
 }
 
 fn sorted_binaries(mut all: Vec<TestBinary<'_>>) -> Result<Vec<TestBinary<'_>>, AllocError>

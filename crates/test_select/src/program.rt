@@ -8,6 +8,7 @@ use crate::command_line::{asked_binaries, command, filters_in, tests_files};
 use crate::failure::Failure;
 use crate::file_source::FileSource;
 use crate::inputs::tests_inputs;
+use crate::order::print_order;
 use crate::report::write_report;
 use crate::unknown_platform::select_on_unknown_platform;
 use clap::ArgMatches;
@@ -27,7 +28,8 @@ use test_lister::FileLister;
 ///
 /// `test_select account --record F [--choice F] [--table F]` writes the account of what is on, and
 /// `test_select check --record F [--choice F] [--table F] --account F` what is to be said of an account:
-/// a refused one has status 1 and no line on `err`.
+/// a refused one has status 1 and no line on `err`. `test_select order --record F [--choice F] [--table F]`
+/// writes the ids of the packages that are on, dependencies first.
 ///
 /// Help and the version go to `out` too. `err` gets a line for each other cause
 /// of a status other than 0; a fault of `err` changes nothing.
@@ -81,6 +83,7 @@ fn carry_out<'a, O: Write>(
         Some(("tests", asked)) => print_tests(alloc, asked, files, out),
         Some(("account", asked)) => print_account(alloc, asked, files, out),
         Some(("check", asked)) => print_verdict(alloc, asked, files, out),
+        Some(("order", asked)) => print_order(alloc, asked, files, out),
         _ => Ok(()),
     }
 }

@@ -9,13 +9,14 @@ use crate::asking::carry_out;
 use crate::plan::make_plan;
 use crate::scope::LinkScope;
 use crate::selection::Selection;
-use feature_switching::SelectError;
+use record_checks::SelectError;
 use std::alloc::Global;
 use test_lister::TestLister;
 use workspace_record::{FeatureChoice, PlatformTable, WorkspaceRecord};
 
-/// The tests that one of the texts chooses, of the test binaries that are available under the choice
-/// on the table's platform; all their tests where no text is given.
+/// The tests of which one of the texts and the record's default filter hold, of the test binaries that
+/// are available under the choice on the table's platform; where no text is given, those of which the
+/// default filter holds. A record without a default filter has that of all tests.
 ///
 /// The record is tested first, then the choice, then the texts in order, and all that before the
 /// lister is asked. It is asked once for each available binary of which some test may be chosen,

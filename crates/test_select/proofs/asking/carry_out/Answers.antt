@@ -1,11 +1,13 @@
 use Rattle.std.proofs.Common.{◌≡◌, List, Vec, String, map, ap, ◌∙◌, subst}
 use Rattle.std.specs.Global.{Global}
-use Rattle.list_facts.specs.Ascending.{IsAscendingOf, pair_cmp}
 use Rattle.list_facts.specs.Texts.{texts, pair_of}
 use Rattle.workspace_record.specs.Records.{Text}
+use Rattle.record_rules.specs.Binaries.{Binary}
 use Rattle.record_rules.specs.BinaryView.{binary_view}
 use Rattle.record_rules.specs.declared.binaries.TestBinary.{TestBinary}
-use Rattle.test_select.specs.Choosing.{ids_of, chosen_each}
+use Rattle.test_select.specs.Choosing.{AreListed, ids_of}
+use Rattle.test_select.specs.Plans.{PassesIn}
+use Rattle.test_select.specs.QuestionFilters.{question_view}
 use Rattle.test_select.proofs.ChoosingFacts.{begun_all, carried_out}
 use Rattle.std.proofs.lemmas.Result.{err_from_is_err_and}
 use Rattle.test_lister.proofs.Asking.{asked_nothing}
@@ -30,12 +32,12 @@ returns-in_err-choose-in-Ok g c =
 
 pub returns-in-Ok : goal.returns-in-Ok
 returns-in-Ok g c =
-    let filters = c.args.plan.now.filters.items in
+    let holds : Binary → Text → Type 0 = PassesIn (question_view c.args.plan.now.filters) in
     let asked = c.args.plan.now.asked.items in
     let chosen : List (Text × Text) = map pair_of c.in_ok-choose-in-Ok.field-0.items in
     let view : List TestBinary → List Text = λ bs. ids_of (map binary_view bs) in
     let told : map (λ b. b.id.now) c.deref-3.result.now ≡ view asked = ap (map (λ b. b.id.now)) c.deref-3.ensures.value ∙ c.in_ok-infos.ensures.ids ∙ ap view c.deref-2.ensures.value in
     let all : texts c.in_ok-ids.ids.items ≡ view asked = c.in_ok-ids.ensures ∙ ap view c.deref.ensures.value in
-    let ascending : IsAscendingOf pair_cmp (chosen_each filters asked c.in-Ok.listings.items) chosen =
-    subst (λ (ls : List (Vec (String Global) Global)). IsAscendingOf pair_cmp (chosen_each filters asked ls) chosen) c.deref-in-Ok.ensures.value c.in_ok-choose-in-Ok.ensures in
-    carried_out filters asked _ _ (map (λ b. b.id.now) c.deref-3.result.now) c.in-Ok.listings.items chosen (texts c.in_ok-ids.ids.items) c.new.result told c.in-Ok.ensures ascending all c.new.ensures
+    let ascending : AreListed holds asked c.in-Ok.listings.items chosen =
+    subst (λ (ls : List (Vec (String Global) Global)). AreListed holds asked ls chosen) c.deref-in-Ok.ensures.value c.in_ok-choose-in-Ok.ensures in
+    carried_out holds asked _ _ (map (λ b. b.id.now) c.deref-3.result.now) c.in-Ok.listings.items chosen (texts c.in_ok-ids.ids.items) c.new.result told c.in-Ok.ensures ascending all c.new.ensures
