@@ -37,12 +37,40 @@ pub fn rules(
     ensures { IfOk result (λ v. v.items ≡ rule_list record.now choice.now table.now) }
 {
     let index = RecordIndex::of(alloc, record)?;
+    rules_by(alloc, &index, &record.links, choice, table)
+}
+
+// The rules, where the record is found by its index.
+fn rules_by(
+    alloc: Global,
+    index: &RecordIndex<'_>,
+    links: &[LinkRecord],
+    choice: &FeatureChoice,
+    table: &PlatformTable,
+) -> Result<Vec<Rule>, AllocError>
+    requires { links.now ≡ (index.now).links }
+    ensures { IfOk result (λ v. v.items ≡ rule_list index.now choice.now table.now) }
+{
     let mut rules = Vec::new(alloc);
-    push_given(chosen_features(alloc, &index, choice)?, &mut rules)?;
-    push_packages_base_rules(alloc, index.packages(), &mut rules)?;
-    push_packages_entry_rules(alloc, &index, table, index.packages(), &mut rules)?;
-    push_links_rules(alloc, &index, table, &record.links, &mut rules)?;
+    push_rules(alloc, index, links, choice, table, &mut rules)?;
     Ok(rules)
+}
+
+fn push_rules(
+    alloc: Global,
+    index: &RecordIndex<'_>,
+    links: &[LinkRecord],
+    choice: &FeatureChoice,
+    table: &PlatformTable,
+    rules: &mut Vec<Rule>,
+) -> Result<(), AllocError>
+    requires { links.now ≡ (index.now).links }
+    ensures { OnOk result (rules.new.items ≡ rules.old.items ++ rule_list index.now choice.now table.now) }
+{
+    push_given(chosen_features(alloc, index, choice)?, rules)?;
+    push_packages_base_rules(alloc, index.packages(), rules)?;
+    push_packages_entry_rules(alloc, index, table, index.packages(), rules)?;
+    push_links_rules(alloc, index, table, links, rules)
 }
 
 fn push_given(features: Vec<Feature>, rules: &mut Vec<Rule>) -> Result<(), AllocError>
