@@ -27,11 +27,11 @@ use Rattle.nextest_filter_queries.specs.declared.groups.KnownGroups.{KnownGroups
 use Rattle.nextest_filter_evaluation.specs.Formulas.{Formula, negation, either, both, leaf, EachLeaf, Holds, SomeAnswersGive}
 use Rattle.nextest_filter_evaluation.specs.Meaning.{Gives}
 use Rattle.nextest_filtering.specs.Acceptance.{MatchesSome, ban_of}
-use Rattle.nextest_filtering.specs.Contexts.{ContextValue}
+use Rattle.nextest_filtering.specs.Contexts.{ContextValue, Leads}
 use Rattle.nextest_filtering.specs.Filters.{FilterLeaf, Named, Platform, Default, All}
 use Rattle.nextest_filtering.specs.Filters as filter
-use Rattle.nextest_filtering.specs.Meaning.{FilterLeafHolds, FilterLeafGives, IsMatched, IsReachedOf}
-use Rattle.nextest_filtering.specs.SameFilters.{AreBytes, HasByteNames, IsByteBinary, SaysTheSame}
+use Rattle.nextest_filtering.specs.Meaning.{FilterLeafHolds, FilterLeafGives, IsMatched, IsReachedOf, LeadsAlong}
+use Rattle.nextest_filtering.specs.SameFilters.{AreBytes, HasByteNames, HasSamePackages, IsByteBinary, SaysTheSame}
 use Rattle.nextest_filtering.proofs.SameFacts.{gives_same, same}
 
 -- two tests suit the same names
@@ -74,8 +74,8 @@ pub data AlikeFormula : Formula FilterLeaf → Formula FilterLeaf → Type 0 whe
   boths : (e f g h : Formula FilterLeaf) → AlikeFormula e g → AlikeFormula f h → AlikeFormula (both e f) (both g h)
   leaves : (l m : FilterLeaf) → AlikeLeaf l m → AlikeFormula (leaf l) (leaf m)
 
-module _ (P : FilterLeaf → Type 0) (alike : (l m : FilterLeaf) → AlikeLeaf l m → P l ↔ P m) where
-  holds_alike : (f g : Formula FilterLeaf) → AlikeFormula f g → Holds P f ↔ Holds P g
+module _ (P Q : FilterLeaf → Type 0) (alike : (l m : FilterLeaf) → AlikeLeaf l m → P l ↔ Q m) where
+  pub holds_alike : (f g : Formula FilterLeaf) → AlikeFormula f g → Holds P f ↔ Holds Q g
   holds_alike f g (negations a b h) = let k = holds_alike a b h in (λ n x. n (k.1 x), λ n x. n (k.0 x))
   holds_alike f g (eithers a b c d h i) =
       let j = holds_alike a c h in
@@ -87,14 +87,14 @@ module _ (P : FilterLeaf → Type 0) (alike : (l m : FilterLeaf) → AlikeLeaf l
       (λ s. (j.0 s.0, k.0 s.1), λ s. (j.1 s.0, k.1 s.1))
   holds_alike f g (leaves l m h) = alike l m h
 
-  each_alike : (f g : Formula FilterLeaf) → AlikeFormula f g → EachLeaf P f ↔ EachLeaf P g
+  each_alike : (f g : Formula FilterLeaf) → AlikeFormula f g → EachLeaf P f ↔ EachLeaf Q g
   each_alike f g (negations a b h) = each_alike a b h
   each_alike f g (eithers a b c d h i) = let j = each_alike a c h in let k = each_alike b d i in (λ s. (j.0 s.0, k.0 s.1), λ s. (j.1 s.0, k.1 s.1))
   each_alike f g (boths a b c d h i) = let j = each_alike a c h in let k = each_alike b d i in (λ s. (j.0 s.0, k.0 s.1), λ s. (j.1 s.0, k.1 s.1))
   each_alike f g (leaves l m h) = alike l m h
 
-module _ (P : FilterLeaf → Bool → Type 0) (alike : (l m : FilterLeaf) → AlikeLeaf l m → (v : Bool) → P l v ↔ P m v) where
-  gives_alike : (f g : Formula FilterLeaf) → AlikeFormula f g → (v : Bool) → SomeAnswersGive P f v ↔ SomeAnswersGive P g v
+module _ (P Q : FilterLeaf → Bool → Type 0) (alike : (l m : FilterLeaf) → AlikeLeaf l m → (v : Bool) → P l v ↔ Q m v) where
+  pub gives_alike : (f g : Formula FilterLeaf) → AlikeFormula f g → (v : Bool) → SomeAnswersGive P f v ↔ SomeAnswersGive Q g v
   gives_alike f g (negations a b h) v = gives_alike a b h (not v)
   gives_alike f g (eithers a b c d h i) v =
       let j = gives_alike a c h in
@@ -106,67 +106,67 @@ module _ (P : FilterLeaf → Bool → Type 0) (alike : (l m : FilterLeaf) → Al
       (λ s. (s.0, s.1, (j s.0).0 s.2, (k s.1).0 s.3, s.4), λ s. (s.0, s.1, (j s.0).1 s.2, (k s.1).1 s.3, s.4))
   gives_alike f g (leaves l m h) v = alike l m h v
 
-module _ (cx : ContextValue) (byte_names : HasByteNames cx) (a b : NameTest) (alike : SuitAlike a b) where
-  matched_alike : (id : Text) → IsMatched cx a id ↔ IsMatched cx b id
-  matched_alike id = (
-    λ h. record { found = h.found; listed = h.listed; suits = (alike h.found.1 (byte_names.packages h.found h.listed)).0 h.suits; is_its = h.is_its },
-    λ h. record { found = h.found; listed = h.listed; suits = (alike h.found.1 (byte_names.packages h.found h.listed)).1 h.suits; is_its = h.is_its },
-  )
+-- contexts with the same packages and paths name them alike
+module _ (cx dx : ContextValue) (one : HasSamePackages cx dx) (byte_packages : (p : Text × Text) → Contains cx.packages p → AreBytes p.1) where
+  leads_alike : (d : DependencyDirection) (start id : Text) → LeadsAlong d cx.graph start id ↔ LeadsAlong d dx.graph start id
+  leads_alike direction.Forward start id = one.leads start id
+  leads_alike direction.Reverse start id = one.leads id start
 
-  reached_alike : (d : DependencyDirection) (id : Text) → IsReachedOf cx (IsMatched cx a) d id ↔ IsReachedOf cx (IsMatched cx b) d id
-  reached_alike d id = (
-    λ h. record { found = h.found; listed = h.listed; is_its = h.is_its; start = h.start; starts_there = (matched_alike h.start).0 h.starts_there; leads = h.leads },
-    λ h. record { found = h.found; listed = h.listed; is_its = h.is_its; start = h.start; starts_there = (matched_alike h.start).1 h.starts_there; leads = h.leads },
-  )
+  module _ (a b : NameTest) (alike : SuitAlike a b) where
+    matched_alike : (id : Text) → IsMatched cx a id ↔ IsMatched dx b id
+    matched_alike id = (
+      λ h. record { found = h.found; listed = (one.packages h.found).0 h.listed; suits = (alike h.found.1 (byte_packages h.found h.listed)).0 h.suits; is_its = h.is_its },
+      λ h. let listed = (one.packages h.found).1 h.listed in record { found = h.found; listed = listed; suits = (alike h.found.1 (byte_packages h.found listed)).1 h.suits; is_its = h.is_its },
+    )
 
-  one_of_alike : (ns : List Text) → ((n : Text) → Contains ns n → AreBytes n) → SuitsOneOf a ns ↔ SuitsOneOf b ns
-  one_of_alike ns bytes = (
-    λ h. record { name = h.name; listed = h.listed; suits = (alike h.name (bytes h.name h.listed)).0 h.suits },
-    λ h. record { name = h.name; listed = h.listed; suits = (alike h.name (bytes h.name h.listed)).1 h.suits },
-  )
+    reached_alike : (d : DependencyDirection) (id : Text) → IsReachedOf cx (IsMatched cx a) d id ↔ IsReachedOf dx (IsMatched dx b) d id
+    reached_alike d id = (
+      λ h. record { found = h.found; listed = (one.packages h.found).0 h.listed; is_its = h.is_its; start = h.start; starts_there = (matched_alike h.start).0 h.starts_there; leads = (leads_alike d h.start id).0 h.leads },
+      λ h. record { found = h.found; listed = (one.packages h.found).1 h.listed; is_its = h.is_its; start = h.start; starts_there = (matched_alike h.start).1 h.starts_there; leads = (leads_alike d h.start id).1 h.leads },
+    )
 
-module _ (cx : ContextValue) (byte_names : HasByteNames cx) where
-  module _ (group : Text) (byte_group : AreBytes group) (default : Type 0) (t : asked.Test) (byte_binary : IsByteBinary t.binary) (byte_test : AreBytes t.name) where
-    abbrev leaf_holds : FilterLeaf → Type 0
-    leaf_holds = FilterLeafHolds cx (λ m. Suits m group) default t
-
-    named_holds : (p : Predicate) (a b : NameTest) (s u : SourceSpan) → SuitAlike a b → leaf_holds (Named p a s) ↔ leaf_holds (Named p b u)
-    named_holds names.Package a b s u alike = matched_alike cx byte_names a b alike t.binary.package_id
-    named_holds names.Deps a b s u alike = reached_alike cx byte_names a b alike direction.Forward t.binary.package_id
-    named_holds names.Rdeps a b s u alike = reached_alike cx byte_names a b alike direction.Reverse t.binary.package_id
+  module _ (member fellow : NameTest → Type 0) (members : (a b : NameTest) → SuitAlike a b → member a ↔ fellow b) (default fallback : Type 0) (defaults : default ↔ fallback) (t : asked.Test) (byte_binary : IsByteBinary t.binary) (byte_test : AreBytes t.name) where
+    named_holds : (p : Predicate) (a b : NameTest) (s u : SourceSpan) → SuitAlike a b → FilterLeafHolds cx member default t (Named p a s) ↔ FilterLeafHolds dx fellow fallback t (Named p b u)
+    named_holds names.Package a b s u alike = matched_alike a b alike t.binary.package_id
+    named_holds names.Deps a b s u alike = reached_alike a b alike direction.Forward t.binary.package_id
+    named_holds names.Rdeps a b s u alike = reached_alike a b alike direction.Reverse t.binary.package_id
     named_holds names.Kind a b s u alike = alike t.binary.kind byte_binary.kind
     named_holds names.Binary a b s u alike = alike t.binary.name byte_binary.name
     named_holds names.BinaryId a b s u alike = alike t.binary.id byte_binary.id
     named_holds names.Test a b s u alike = alike t.name byte_test
-    named_holds names.Group a b s u alike = alike group byte_group
+    named_holds names.Group a b s u alike = members a b alike
 
-    leaves_hold_alike : (l m : FilterLeaf) → AlikeLeaf l m → leaf_holds l ↔ leaf_holds m
+    pub leaves_hold_alike : (l m : FilterLeaf) → AlikeLeaf l m → FilterLeafHolds cx member default t l ↔ FilterLeafHolds dx fellow fallback t m
     leaves_hold_alike l m (named p a b s u alike) = named_holds p a b s u alike
     leaves_hold_alike l m (platform x s u) = same (t.binary.platform ≡ x)
-    leaves_hold_alike l m (of_default s u) = same default
+    leaves_hold_alike l m (of_default s u) = defaults
     leaves_hold_alike l m all = same (Unit {0})
     leaves_hold_alike l m none = same ⊥
 
-  module _ (default : Bool → Type 0) (b : asked.Binary) (byte_binary : IsByteBinary b) where
-    abbrev leaf_gives : FilterLeaf → Bool → Type 0
-    leaf_gives = FilterLeafGives cx default b
-
-    named_gives : (p : Predicate) (x y : NameTest) (s u : SourceSpan) → SuitAlike x y → (v : Bool) → leaf_gives (Named p x s) v ↔ leaf_gives (Named p y u) v
-    named_gives names.Package x y s u alike v = gives_same _ _ (matched_alike cx byte_names x y alike b.package_id) v
-    named_gives names.Deps x y s u alike v = gives_same _ _ (reached_alike cx byte_names x y alike direction.Forward b.package_id) v
-    named_gives names.Rdeps x y s u alike v = gives_same _ _ (reached_alike cx byte_names x y alike direction.Reverse b.package_id) v
+  module _ (default fallback : Bool → Type 0) (defaults : (v : Bool) → default v ↔ fallback v) (b : asked.Binary) (byte_binary : IsByteBinary b) where
+    named_gives : (p : Predicate) (x y : NameTest) (s u : SourceSpan) → SuitAlike x y → (v : Bool) → FilterLeafGives cx default b (Named p x s) v ↔ FilterLeafGives dx fallback b (Named p y u) v
+    named_gives names.Package x y s u alike v = gives_same _ _ (matched_alike x y alike b.package_id) v
+    named_gives names.Deps x y s u alike v = gives_same _ _ (reached_alike x y alike direction.Forward b.package_id) v
+    named_gives names.Rdeps x y s u alike v = gives_same _ _ (reached_alike x y alike direction.Reverse b.package_id) v
     named_gives names.Kind x y s u alike v = gives_same _ _ (alike b.kind byte_binary.kind) v
     named_gives names.Binary x y s u alike v = gives_same _ _ (alike b.name byte_binary.name) v
     named_gives names.BinaryId x y s u alike v = gives_same _ _ (alike b.id byte_binary.id) v
     named_gives names.Test x y s u alike v = same (Unit {0})
     named_gives names.Group x y s u alike v = same (Unit {0})
 
-    leaves_give_alike : (l m : FilterLeaf) → AlikeLeaf l m → (v : Bool) → leaf_gives l v ↔ leaf_gives m v
+    pub leaves_give_alike : (l m : FilterLeaf) → AlikeLeaf l m → (v : Bool) → FilterLeafGives cx default b l v ↔ FilterLeafGives dx fallback b m v
     leaves_give_alike l m (named p x y s u alike) v = named_gives p x y s u alike v
     leaves_give_alike l m (platform x s u) v = same (Gives (b.platform ≡ x) v)
-    leaves_give_alike l m (of_default s u) v = same (default v)
+    leaves_give_alike l m (of_default s u) v = defaults v
     leaves_give_alike l m all v = same (Gives (Unit {0}) v)
     leaves_give_alike l m none v = same (Gives ⊥ v)
+
+module _ (cx : ContextValue) (byte_names : HasByteNames cx) where
+  one_of_alike : (a b : NameTest) → SuitAlike a b → (ns : List Text) → ((n : Text) → Contains ns n → AreBytes n) → SuitsOneOf a ns ↔ SuitsOneOf b ns
+  one_of_alike a b alike ns bytes = (
+    λ h. record { name = h.name; listed = h.listed; suits = (alike h.name (bytes h.name h.listed)).0 h.suits },
+    λ h. record { name = h.name; listed = h.listed; suits = (alike h.name (bytes h.name h.listed)).1 h.suits },
+  )
 
   module _ (groups : KnownGroups) (byte_groups : (n : Text) → Contains (known_groups groups) n → AreBytes n) where
     package_names : (n : Text) → Contains (map (λ p. p.1) cx.packages) n → AreBytes n
@@ -179,14 +179,14 @@ module _ (cx : ContextValue) (byte_names : HasByteNames cx) where
     binary_ids n inside = let (b, listed, is) = Contains-map_cases (λ (x : Text × Text). x.0) cx.binaries n inside in subst AreBytes is (byte_names.binary_ids b listed)
 
     named_match : (p : Predicate) (x y : NameTest) (s u : SourceSpan) → SuitAlike x y → MatchesSome cx groups (Named p x s) ↔ MatchesSome cx groups (Named p y u)
-    named_match names.Package x y s u alike = one_of_alike cx byte_names x y alike _ package_names
-    named_match names.Deps x y s u alike = one_of_alike cx byte_names x y alike _ package_names
-    named_match names.Rdeps x y s u alike = one_of_alike cx byte_names x y alike _ package_names
+    named_match names.Package x y s u alike = one_of_alike x y alike _ package_names
+    named_match names.Deps x y s u alike = one_of_alike x y alike _ package_names
+    named_match names.Rdeps x y s u alike = one_of_alike x y alike _ package_names
     named_match names.Kind x y s u alike = same (Unit {0})
-    named_match names.Binary x y s u alike = one_of_alike cx byte_names x y alike _ binary_names
-    named_match names.BinaryId x y s u alike = one_of_alike cx byte_names x y alike _ binary_ids
+    named_match names.Binary x y s u alike = one_of_alike x y alike _ binary_names
+    named_match names.BinaryId x y s u alike = one_of_alike x y alike _ binary_ids
     named_match names.Test x y s u alike = same (Unit {0})
-    named_match names.Group x y s u alike = one_of_alike cx byte_names x y alike _ byte_groups
+    named_match names.Group x y s u alike = one_of_alike x y alike _ byte_groups
 
     leaves_match_alike : (l m : FilterLeaf) → AlikeLeaf l m → MatchesSome cx groups l ↔ MatchesSome cx groups m
     leaves_match_alike l m (named p x y s u alike) = named_match p x y s u alike
@@ -248,10 +248,14 @@ leaves_banned_alike k l m none = same _
 both_alike : (A B C D : Type 0) → A ↔ B → C ↔ D → (A × C) ↔ (B × D)
 both_alike A B C D h k = (λ s. (h.0 s.0, k.0 s.1), λ s. (h.1 s.0, k.1 s.1))
 
+-- a context has the packages and paths that it has
+its_own : (cx : ContextValue) → HasSamePackages cx cx
+its_own cx = record { packages = λ p. same (Contains cx.packages p); leads = λ a b. same (Leads cx.graph a b) }
+
 -- filters that differ in their spans, and in patterns that suit alike, say the same
 pub alike_say_the_same : (f g : Formula FilterLeaf) → AlikeFormula f g → SaysTheSame f g
 alike_say_the_same f g h = record {
-  accepted = λ cx groups k byte_names byte_groups. each_alike _ (λ l m alike. both_alike _ _ _ _ (leaves_banned_alike k l m alike) (leaves_match_alike cx byte_names groups byte_groups l m alike)) f g h;
-  holds = λ cx group default t byte_names byte_group byte_binary byte_test. holds_alike _ (leaves_hold_alike cx byte_names group byte_group (IsTrue default) t byte_binary byte_test) f g h;
-  gives = λ cx default b v byte_names byte_binary. gives_alike _ (leaves_give_alike cx byte_names (λ x. IsTrue (default x)) b byte_binary) f g h v;
+  accepted = λ cx groups k byte_names byte_groups. each_alike _ _ (λ l m alike. both_alike _ _ _ _ (leaves_banned_alike k l m alike) (leaves_match_alike cx byte_names groups byte_groups l m alike)) f g h;
+  holds = λ cx group default t byte_names byte_group byte_binary byte_test. holds_alike _ _ (leaves_hold_alike cx cx (its_own cx) byte_names.packages (λ m. Suits m group) (λ m. Suits m group) (λ a b alike. alike group byte_group) (IsTrue default) (IsTrue default) (same (IsTrue default)) t byte_binary byte_test) f g h;
+  gives = λ cx default b v byte_names byte_binary. gives_alike _ _ (leaves_give_alike cx cx (its_own cx) byte_names.packages (λ x. IsTrue (default x)) (λ x. IsTrue (default x)) (λ x. same (IsTrue (default x))) b byte_binary) f g h v;
 }

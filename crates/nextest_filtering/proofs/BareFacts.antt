@@ -1,5 +1,6 @@
 -- Trees that are one but for their spans are filters that say the same.
 use Rattle.std.proofs.Common.{◌≡◌, refl, ap, sym, ◌∙◌, subst}
+use Rattle.workspace_record.specs.Records.{Text}
 use Rattle.nextest_filter_matchers.specs.Matchers.{matcher_of}
 use Rattle.nextest_filter_matchers.specs.declared.name_matcher.NameMatcher.{NameMatcher}
 use Rattle.nextest_filter_matchers.specs.declared.source_span.SourceSpan.{SourceSpan}
@@ -12,8 +13,10 @@ use Rattle.nextest_filter_leaves.specs.Leaves.{leaf_of}
 use Rattle.nextest_filter_leaves.specs.declared.parsed_leaf.ParsedLeaf.{ParsedLeaf}
 use Rattle.nextest_filter_leaves.specs.declared.parsed_leaf.ParsedLeaf.TheVariants as code
 use Rattle.nextest_filter_syntax.specs.AsWritten.{IsExprAsWritten}
+use Rattle.nextest_filter_syntax.specs.Grammar.{ReadsWhole}
 use Rattle.nextest_filter_syntax.specs.Trees.{tree_of}
 use Rattle.nextest_filter_syntax.specs.declared.parsed_expr.ParsedExpr.{ParsedExpr, Not', Union', Intersection', Difference', Parens', Set}
+use Rattle.nextest_filter_syntax.proofs.GrammarFacts.{texts_read_as_one}
 use Rattle.nextest_filter_printing.specs.Laws.{bare, bare_leaf}
 use Rattle.nextest_filter_queries.specs.NameTests.{name_test}
 use Rattle.nextest_filtering.specs.Filters.{FilterLeaf, Named, Platform, Default, All, filter_leaf, filter_of}
@@ -148,3 +151,7 @@ bare_alike (Set l) (Intersection' b r z s w) e g h = absurd cc
 bare_alike (Set l) (Difference' b r z s w) e g h = absurd cc
 bare_alike (Set l) (Parens' r z) e g h = absurd cc
 bare_alike (Set l) (Set m) e g h = leaves_alike _ _ (parsed_leaves_alike l m (cc) g h)
+
+-- filters that are read in one text are alike
+pub read_alike : (text : Text) (f g : ParsedExpr SourceSpan) → ReadsWhole text (tree_of f) → ReadsWhole text (tree_of g) → IsExprAsWritten f → IsExprAsWritten g → AlikeFormula (filter_of f) (filter_of g)
+read_alike text f g r s = bare_alike f g (ap bare (texts_read_as_one text (tree_of f) (tree_of g) r s))

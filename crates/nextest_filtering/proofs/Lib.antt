@@ -6,3 +6,4 @@ pub mod ParseFacts
 pub mod SameFacts
 pub mod AlikeFacts
 pub mod BareFacts
+pub mod ByteFacts

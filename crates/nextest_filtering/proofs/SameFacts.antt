@@ -15,6 +15,9 @@ use Rattle.nextest_filtering.specs.Compiling.{IsCompiled, IsCompiledLeaf}
 pub same : (P : Type 0) → P ↔ P
 same P = (λ p. p, λ p. p)
 
+pub turned : {P Q : Type 0} → P ↔ Q → Q ↔ P
+turned h = (h.1, h.0)
+
 pub gives_same : (P Q : Type 0) → P ↔ Q → (v : Bool) → Gives P v ↔ Gives Q v
 gives_same P Q h true = h
 gives_same P Q h false = (λ n q. n (h.1 q), λ n p. n (h.0 p))

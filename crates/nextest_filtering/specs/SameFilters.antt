@@ -8,7 +8,7 @@ use Rattle.nextest_filter_queries.specs.Queries as asked
 use Rattle.nextest_filter_queries.specs.declared.groups.KnownGroups.{KnownGroups}
 use Rattle.nextest_filter_evaluation.specs.Formulas.{Formula, Holds, SomeAnswersGive}
 use Rattle.nextest_filtering.specs.Acceptance.{IsAccepted}
-use Rattle.nextest_filtering.specs.Contexts.{ContextValue}
+use Rattle.nextest_filtering.specs.Contexts.{ContextValue, Leads}
 use Rattle.nextest_filtering.specs.Filters.{FilterLeaf}
 use Rattle.nextest_filtering.specs.Meaning.{FilterLeafHolds, FilterLeafGives}
 
@@ -27,6 +27,11 @@ pub record IsByteBinary (b : asked.Binary) : Type 0 where
   pub id : AreBytes b.id
   pub name : AreBytes b.name
   pub kind : AreBytes b.kind
+
+-- two contexts have the same packages, and paths lead from the same to the same
+pub record HasSamePackages (cx dx : ContextValue) : Type 0 where
+  pub packages : (p : Text × Text) → Contains cx.packages p ↔ Contains dx.packages p
+  pub leads : (a b : Text) → Leads cx.graph a b ↔ Leads dx.graph a b
 
 -- two filters are accepted alike, hold of the same tests, and may take the same values; of each test it is said in which group it is, and whether the default filter holds
 pub record SaysTheSame (f g : Formula FilterLeaf) : Type 0 where

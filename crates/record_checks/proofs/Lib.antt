@@ -4,3 +4,5 @@ pub mod BanFacts
 pub mod FilterFacts
 pub mod GroupFacts
 pub mod MeaningFacts
+pub mod OneRecordFacts
+pub mod OneReadingFacts

@@ -9,3 +9,4 @@ pub mod PlanFacts
 pub mod SelectingFacts
 pub mod SomeFacts
 pub mod WantedFacts
+pub mod ReadingFacts

@@ -1,9 +1,15 @@
 //! Laws of selections.
 
-ghost use Rattle.test_select.specs.Laws.{ReportsAgree};
+ghost use Rattle.test_select.specs.Laws.{ReadingsSayTheSame, ReportsAgree};
 
-/// Filters that are read in one way choose the same tests from the same listings, in the same order,
-/// whichever available binaries are asked.
+/// The filters of a question choose the same tests and ask the same binaries in whichever way they are
+/// read: what `select` and `select_plain` are proved to answer is one answer.
+pub fn readings_say_the_same()
+    ensures same { ReadingsSayTheSame }
+{}
+
+/// A question has one report over the same listings, in the same order, whichever available binaries
+/// are asked.
 pub fn reports_agree()
     ensures agree { ReportsAgree }
 {}
