@@ -55,21 +55,24 @@ fn tell_joined(
         return Err(RowFault::Key("two"));
     }
     let features = asked.features;
-    answers.push("union", set_text(alloc, one.union(alloc, two)?, features)?)?;
+    tell_set(alloc, "union", one.union(alloc, two)?, features, answers)?;
     let intersection = one.intersection(alloc, two)?;
-    answers.push("intersection", set_text(alloc, intersection, features)?)?;
+    tell_set(alloc, "intersection", intersection, features, answers)?;
     let difference = one.difference(alloc, two)?;
-    answers.push("difference", set_text(alloc, difference, features)?)?;
+    tell_set(alloc, "difference", difference, features, answers)?;
     let either = one.symmetric_difference(alloc, two)?;
-    answers.push("either", set_text(alloc, either, features)?)
+    tell_set(alloc, "either", either, features, answers)
 }
 
-fn set_text(
+fn tell_set(
     alloc: Global,
+    key: &'static str,
     set: FeatureSet<'_>,
     features: &[FeatureId<'_>],
-) -> Result<String, AllocError> {
-    members_text(alloc, &set, features)
+    answers: &mut Answers,
+) -> Result<(), RowFault> {
+    let text = members_text(alloc, &set, features)?;
+    answers.push(key, text)
 }
 
 fn tell_parts(alloc: Global, one: &FeatureSet<'_>, answers: &mut Answers) -> Result<(), RowFault> {

@@ -33,18 +33,31 @@ fn tell_whole_sets(
     graph: &PackageGraph,
     answers: &mut Answers,
 ) -> Result<(), RowFault> {
-    let all = graph.resolve_all(alloc)?;
-    answers.push(
-        "all",
-        listed_text(alloc, all.packages(DependencyDirection::Forward))?,
-    )?;
-    let members = graph.resolve_workspace(alloc)?;
-    answers.push("members", set_text(alloc, &members)?)?;
-    let none = graph.resolve_none(alloc)?;
-    let (all_count, none_count) = (all.len(), none.len());
-    let (is_all_empty, is_none_empty) = (all.is_empty(), none.is_empty());
+    tell_all(alloc, graph.resolve_all(alloc)?, answers)?;
+    tell_set(alloc, "members", graph.resolve_workspace(alloc)?, answers)?;
+    let (all_count, is_all_empty) = size_of(graph.resolve_all(alloc)?);
+    let (none_count, is_none_empty) = size_of(graph.resolve_none(alloc)?);
     let sizes = format!(in alloc; "{all_count} {is_all_empty}, {none_count} {is_none_empty}")?;
     answers.push("sizes", sizes)
+}
+
+fn tell_all(alloc: Global, all: PackageSet<'_>, answers: &mut Answers) -> Result<(), RowFault> {
+    let listed = listed_text(alloc, all.packages(DependencyDirection::Forward))?;
+    answers.push("all", listed)
+}
+
+fn tell_set(
+    alloc: Global,
+    name: &'static str,
+    set: PackageSet<'_>,
+    answers: &mut Answers,
+) -> Result<(), RowFault> {
+    let text = set_text(alloc, &set)?;
+    answers.push(name, text)
+}
+
+fn size_of(set: PackageSet<'_>) -> (usize, bool) {
+    (set.len(), set.is_empty())
 }
 
 fn set_in<'g>(
@@ -98,12 +111,11 @@ fn tell_both(
     if !set.same_packages(other) {
         return answers.push("union", String::from_str(alloc, "two graphs")?);
     }
-    let union = set.union(alloc, other)?;
-    answers.push("union", set_text(alloc, &union)?)?;
+    tell_set(alloc, "union", set.union(alloc, other)?, answers)?;
     let intersection = set.intersection(alloc, other)?;
-    answers.push("intersection", set_text(alloc, &intersection)?)?;
+    tell_set(alloc, "intersection", intersection, answers)?;
     let difference = set.difference(alloc, other)?;
-    answers.push("difference", set_text(alloc, &difference)?)?;
+    tell_set(alloc, "difference", difference, answers)?;
     let symmetric = set.symmetric_difference(alloc, other)?;
-    answers.push("symmetric_difference", set_text(alloc, &symmetric)?)
+    tell_set(alloc, "symmetric_difference", symmetric, answers)
 }
