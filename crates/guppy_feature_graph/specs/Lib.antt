@@ -12,6 +12,8 @@ pub mod Resolves
 pub mod Closures
 pub mod Depending
 pub mod CycleValues
+pub mod RootOrder
+pub mod RootPlaces
 pub mod SetParts
 pub mod PackageFeatures
 pub mod Judging

@@ -1,5 +1,5 @@
 -- The roots of a set of features, and the edges inside it.
-use Rattle.std.specs.Prelude.{◌≡◌, ◌↔◌, ℕ, ◌<◌, Bool, not, List, AllPairs, Contains, IsTrue, filter, length, map}
+use Rattle.std.specs.Prelude.{◌↔◌, ℕ, Bool, not, List, Contains, IsTrue, filter, length}
 use Rattle.std.specs.Borrow.{Bor}
 use Rattle.numbered_graph.specs.Listings.{numbers_below}
 use Rattle.numbered_graph.specs.Roots.{IsRoot, is_inside}
@@ -15,11 +15,12 @@ use Rattle.guppy_feature_nodes.specs.GraphEdges.{EdgeForm, EdgeValue, edge_at, e
 use Rattle.guppy_feature_nodes.specs.Graphs.{FeatureGraphValue, feature_at}
 use Rattle.guppy_feature_nodes.specs.declared.feature_edge.FeatureEdge.{FeatureEdge}
 use Rattle.guppy_feature_views.specs.Links.{LinkValue}
+use Rattle.guppy_feature_graph.specs.RootOrder.{Ascend}
 use Rattle.guppy_feature_graph.specs.Sets.{SetValue}
 
--- the numbers, ascending, of the features of the set whose component no edge inside it enters from another one
+-- the numbers of the features of the set whose component no edge inside it enters from another one, in the order of roots
 pub record AreRoots (s : SetValue) (direction : DependencyDirection) (nodes : List ℕ) : Type 0 where
-  pub ascending : AllPairs (λ u v. u < v) nodes
+  pub ascending : Ascend s.graph nodes
   pub each : (v : ℕ) → Contains nodes v ↔ (IsTrue (has s.included v) × IsRoot (direction_of direction) (edge_ends s.graph.edges) s.included v)
 
 -- the edges whose ends are both in the set, by their numbers

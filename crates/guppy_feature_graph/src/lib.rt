@@ -29,6 +29,7 @@ mod packages_of;
 mod queries;
 mod resolves;
 mod resolving;
+mod root_order;
 mod set_parts;
 mod standard_features;
 mod taking;

@@ -12,6 +12,7 @@ ghost use Rattle.guppy_feature_graph.specs.Views.{feature_graph_of};
 use crate::direction::direction_of;
 use crate::feature_query::FeatureQuery;
 use crate::feature_set::FeatureSet;
+use crate::root_order::in_root_order;
 use guppy_feature_nodes::{FeatureEdge, FeatureGraphData, FeatureId, LinkDeclarations};
 use guppy_feature_views::{ConditionalLink, FeatureMetadata};
 use guppy_package_graph::DependencyDirection;
@@ -33,7 +34,7 @@ impl<'g> FeatureSet<'g> {
     }
 
     /// The features whose component no edge inside the set enters from another component, or in
-    /// Reverse leaves to another.
+    /// Reverse leaves to another: package by package in the order of the record, the labels ascending.
     pub fn root_features(
         &self,
         alloc: Global,
@@ -46,7 +47,7 @@ impl<'g> FeatureSet<'g> {
         features_at(alloc, self.graph().built(), &nodes)
     }
 
-    /// The ids of those features.
+    /// The ids of those features, in that order.
     pub fn root_ids(
         &self,
         alloc: Global,
@@ -90,7 +91,7 @@ fn same_nodes(alloc: Global, set: &NodeSet) -> Result<NodeSet, AllocError>
     Ok(same)
 }
 
-// The numbers of the roots of a set.
+// The numbers of the roots of a set, in the order of roots.
 fn roots(
     alloc: Global,
     set: &FeatureSet<'_>,
@@ -99,8 +100,10 @@ fn roots(
     ensures roots { IfOk result (λ nodes. AreRoots set.now direction nodes.items) }
     ensures within { IfOk result (λ nodes. All (λ v. v < length set.now.graph.nodes) nodes.items) }
 {
-    let graph = set.graph().built().edge_graph();
-    let nodes = root_nodes(alloc, graph, set.included(), direction_of(direction))?;
+    let built = set.graph().built();
+    let graph = built.edge_graph();
+    let found = root_nodes(alloc, graph, set.included(), direction_of(direction))?;
+    let nodes = in_root_order(alloc, built, &found)?;
     Ok(nodes)
 }
 

@@ -42,7 +42,7 @@ same_is (code.OptionalDependency p) code.Base = refl
 same_is (code.OptionalDependency p) (code.Named q) = refl
 same_is (code.OptionalDependency p) (code.OptionalDependency q) = refl
 
-order_is : (x y : FeatureLabel) → label_order x y ≡ label_cmp (label_view x) (label_view y)
+pub order_is : (x y : FeatureLabel) → label_order x y ≡ label_cmp (label_view x) (label_view y)
 order_is code.Base code.Base = refl
 order_is code.Base (code.Named q) = refl
 order_is code.Base (code.OptionalDependency q) = refl
