@@ -2,7 +2,7 @@
 use Rattle.std.proofs.Common.{◌≡◌, ◌≢◌, ℕ, ◌+◌, ◌<◌, Bool, true, false, cond, not, ◌&&◌, List, [], ◌∷◌, ◌++◌, Contains, length, get_or, take, map, filter, nat_eq, refl, sym, subst, ap, ◌∙◌, append_assoc, true≢false, arith, All, AllPairs, IsPermutation, IsSorted, Ordering, Less, Equal, Greater}
 use Rattle.std.specs.Cmp.{IsEquivalence, IsTotalOrder, both_tied, nat_cmp_total, on_total, then_total, unsigned_Decides, unsigned_ties}
 use Rattle.std.specs.Cmp.Lexicographic.{texts_ties}
-use Rattle.std.specs.List.{AllByRecursion, IsDistinct, flat_map, position_or_len}
+use Rattle.std.specs.List.{flat_map, position_or_len}
 use Rattle.std.specs.Ordering.{is_eq, is_lt, nat_cmp, on, ordering_reverse, ordering_then, then_cmp}
 use Rattle.std.specs.Str.{bytes_eq}
 use Rattle.std.proofs.lemmas.Bool.Decides.{nat_tests}
@@ -20,6 +20,7 @@ use Rattle.workspace_record.specs.Records.{FeatureEntry, Package, Text}
 use Rattle.guppy_package_table.specs.Tables.{ids_of, place_among}
 use Rattle.guppy_package_table.proofs.Places.{ends_before}
 use Rattle.guppy_feature_demands.specs.Nodes.{base_of, dep_of, features_of, first_of_each, named_of, nodes_of, number_of}
+use Rattle.guppy_feature_nodes.proofs.DistinctFacts.{nodes_differ}
 use Rattle.guppy_feature_nodes.proofs.NodeFacts.{node_package}
 use Rattle.guppy_feature_nodes.specs.Graphs.{FeatureGraphValue, feature_at}
 use Rattle.guppy_feature_lists.proofs.LabelFacts.{order_is}
@@ -96,39 +97,6 @@ module _ {T : Type 0} {E : T → T → Bool} (laws : IsEquivalence E) where
   firsts_kept x y (k ∷ ks) =
       let left = filter (λ z. not (E k z)) (first_of_each E ks) in
       same_behind (E x k) (E y k) (position_or_len (E x) left) (position_or_len (E y) left) (position_or_len (E x) ks) (position_or_len (E y) ks) (λ e f. kept (E x) (E y) (λ z. not (E k z)) (first_of_each E ks) (λ z left. (apart k x z e left, apart k y z f left)) ∙ firsts_kept x y ks)
-
-  still : (P : T → Type 0) (f : T → Bool) (xs : List T) → AllByRecursion P xs → AllByRecursion P (filter f xs)
-  still P f [] h = h
-  still P f (x ∷ xs) h = by (f x) (still P f xs h.1)
-    where
-      by : (b : Bool) → AllByRecursion P (filter f xs) → AllByRecursion P (cond b (x ∷ filter f xs) (filter f xs))
-      by true more = (h.0, more)
-      by false more = more
-
-  others : (k : T) (xs : List T) → AllByRecursion (λ y. E k y ≡ false) (filter (λ y. not (E k y)) xs)
-  others k [] = tt
-  others k (x ∷ xs) = by (E k x) refl (others k xs)
-    where
-      left : List T
-      left = filter (λ y. not (E k y)) xs
-
-      by : (b : Bool) → E k x ≡ b → AllByRecursion (λ y. E k y ≡ false) left → AllByRecursion (λ y. E k y ≡ false) (cond (not b) (x ∷ left) left)
-      by true e more = more
-      by false e more = (e, more)
-
-  still_distinct : (f : T → Bool) (xs : List T) → IsDistinct E xs → IsDistinct E (filter f xs)
-  unfolding IsDistinct
-  still_distinct f [] h = h
-  still_distinct f (x ∷ xs) h = by (f x) (still_distinct f xs h.1)
-    where
-      by : (b : Bool) → IsDistinct E (filter f xs) → IsDistinct E (cond b (x ∷ filter f xs) (filter f xs))
-      by true more = (still (λ y. E x y ≡ false) f xs h.0, more)
-      by false more = more
-
-  firsts_distinct : (xs : List T) → IsDistinct E (first_of_each E xs)
-  unfolding IsDistinct
-  firsts_distinct [] = tt
-  firsts_distinct (x ∷ xs) = (others x (first_of_each E xs), still_distinct (λ y. not (E x y)) (first_of_each E xs) (firsts_distinct xs))
 
 and_true : (s : Bool) → (s && true) ≡ s
 and_true true = refl
@@ -245,8 +213,7 @@ module _ (g : FeatureGraphValue) (are : g.nodes ≡ nodes_of g.rows.packages) wh
       λ i. record { package_id = id i; label = label i }
 
   differ : (u v : ℕ) → u < v → v < length g.nodes → feature_at g u ≢ feature_at g v
-  differ u v before lt =
-      AllPairs-from_IsDistinct features_decide g.nodes (subst (IsDistinct feature_eq) (sym are) (firsts_distinct (equivalence features_decide) (flat_map features_of g.rows.packages))) u v (base_of []) before lt
+  differ u v before lt = subst (AllPairs (λ x y. x ≢ y)) (sym are) (nodes_differ g.rows.packages) u v (base_of []) before lt
 
   bases : (u v : ℕ) → nat_cmp (package_place g u) (package_place g v) ≡ nat_cmp (place_at g u).base (place_at g v).base
   bases u v =

@@ -1,5 +1,5 @@
 -- Edges lead from one node to another, by lines of the rows.
-use Rattle.std.proofs.Common.{◌≡◌, ◌≢◌, ℕ, ◌<◌, length, Bool, true, false, ◌&&◌, ◌==◌, not, nat_lt, List, [], ◌∷◌, All, Any, Contains, Option, Some, None, map, filter, IsTrue, refl, sym, subst, ap, ◌∙◌, ⊎_elim, arith}
+use Rattle.std.proofs.Common.{◌≡◌, ◌≢◌, ℕ, ◌<◌, length, Bool, true, false, ◌&&◌, ◌==◌, not, nat_lt, List, [], ◌∷◌, All, Contains, Option, Some, None, map, filter, IsTrue, refl, sym, subst, ap, ◌∙◌, ⊎_elim, arith}
 use Rattle.std.specs.List.{cons_option, filter_map}
 use Rattle.std.specs.Option.{is_some}
 use Rattle.std.proofs.lemmas.Bool.Decides.{nat_tests}
@@ -11,9 +11,9 @@ use Rattle.workspace_record.specs.Equality.{equivalence}
 use Rattle.workspace_record.specs.Records.{Package, Link}
 use Rattle.workspace_record.specs.Features.{FeatureValue}
 use Rattle.guppy_package_parts.specs.Lines.{IsLineAt}
-use Rattle.guppy_feature_demands.specs.Demands.{FormValue, FeatureToBase, NamedFeature, NamedFeatureDepColon, StrongSlash, WeakSlash, DependenciesSection, DemandValue, NumberedValue, demands_of, is_between_nodes, kept_demands, with_numbers}
+use Rattle.guppy_feature_demands.specs.Demands.{FormValue, FeatureToBase, NamedFeature, NamedFeatureDepColon, StrongSlash, WeakSlash, DependenciesSection, NumberedValue, demands_of, is_between_nodes, kept_demands, with_numbers}
 use Rattle.guppy_feature_demands.specs.Nodes.{first_of_each, nodes_of}
-use Rattle.guppy_feature_edges.specs.Joining.{AreJoined, HasLines, JoinedValue, heads_of, is_dropped, join_key, key_eq, lines_joined, place_eq, same_edge}
+use Rattle.guppy_feature_edges.specs.Joining.{AreJoined, HasLines, JoinedValue, is_dropped, join_key, key_eq, place_eq, same_edge}
 use Rattle.guppy_feature_edges.specs.KeyViews.{keys_decide}
 use Rattle.guppy_feature_nodes.specs.GraphEdges.{AreEdges, AreEdgesWithin, EdgeValue, IsEdgeWithin, edge_form, edge_lines, edge_value, is_always}
 use Rattle.guppy_feature_nodes.proofs.LineFacts.{by_lines, demands_lined}
@@ -43,13 +43,13 @@ filter_map-has f [] x y h is = absurd (Contains-none x h)
 filter_map-has f (z ∷ xs) x y h is =
     ⊎_elim (λ e. subst (λ o. Contains (cons_option o (filter_map f xs)) y) (sym (ap f e ∙ is)) (Contains-first y (filter_map f xs))) (λ r. given_more (f z) (filter_map f xs) y (filter_map-has f xs x y r is)) (Contains-cons_cases z xs x h)
 
-below : (a b : ℕ) → nat_lt a b ≡ true → a < b
+pub below : (a b : ℕ) → nat_lt a b ≡ true → a < b
 below a b h = grind (arith, nat_tests, h)
 
 other : (a b : ℕ) → not (a == b) ≡ true → a ≢ b
 other a b h e = grind (arith, nat_tests, h, e)
 
-both : (s t : Bool) → (s && t) ≡ true → (s ≡ true) × (t ≡ true)
+pub both : (s t : Bool) → (s && t) ≡ true → (s ≡ true) × (t ≡ true)
 both true true h = (refl, refl)
 both true false h = absurd (false≢true h)
 both false t h = absurd (false≢true h)
@@ -61,7 +61,7 @@ module _ (packages : List Package) (links : List Link) where
   abbrev kept : List NumberedValue
   kept = kept_demands nodes (demands_of packages links)
 
-  kept_between : (d : NumberedValue) → Contains kept d → is_between_nodes (length nodes) d ≡ true
+  pub kept_between : (d : NumberedValue) → Contains kept d → is_between_nodes (length nodes) d ≡ true
   kept_between d h = (Contains-filter_cases (is_between_nodes (length nodes)) (map (with_numbers nodes) (demands_of packages links)) d h).1
 
   kept_lined : (d : NumberedValue) → Contains kept d → (x : ℕ × ℕ) → d.line ≡ Some x → IsLineAt links x
@@ -75,7 +75,7 @@ module _ (packages : List Package) (links : List Link) where
       subst (λ (l : Option (ℕ × ℕ)). IsTrue (is_some l)) (ap (λ (e : NumberedValue). e.line) found.2) ((demands_lined links packages found.0 found.1).1 (ap (λ (e : NumberedValue). by_lines e.form) found.2 ∙ by))
 
   module _ (joined : List JoinedValue) (joins : AreJoined kept joined) (e : JoinedValue) (within : Contains joined e) where
-    head_kept : Contains kept e.head
+    pub head_kept : Contains kept e.head
     head_kept =
         let heads = subst (λ hs. Contains hs e.head) joins.heads (Contains-map (λ (j : JoinedValue). j.head) joined e within) in
         first_of_each-among same_edge kept e.head (Contains-filter_cases (λ d. not (is_dropped kept d)) (first_of_each same_edge kept) e.head heads).0

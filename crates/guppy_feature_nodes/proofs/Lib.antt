@@ -5,3 +5,5 @@ pub mod OfferFacts
 pub mod NodeFacts
 pub mod GraphFacts
 pub mod OrderFacts
+pub mod DistinctFacts
+pub mod DefaultFacts

@@ -1,8 +1,7 @@
 -- A feature graph that is built.
-use Rattle.std.specs.Prelude.{◌≡◌, ℕ, List, [], length, nat_lt, slice_index_or}
-use Rattle.numbered_graph.specs.declared.direction.Direction.TheVariants.{Forward}
+use Rattle.std.specs.Prelude.{◌≡◌, ◌<◌, ℕ, List, [], length, nat_lt, slice_index_or}
 use Rattle.numbered_graph.specs.Listings.{IsListing}
-use Rattle.numbered_graph.specs.Paths.{IsReached}
+use Rattle.numbered_graph.specs.Paths.{Reaches}
 use Rattle.numbered_graph.specs.Sets.{has}
 use Rattle.workspace_record.specs.Records.{Link}
 use Rattle.workspace_record.specs.Features.{FeatureValue}
@@ -11,7 +10,7 @@ use Rattle.guppy_feature_demands.specs.Nodes.{base_of, nodes_of}
 use Rattle.guppy_feature_demands.specs.Warnings.{warnings_of}
 use Rattle.guppy_package_table.specs.Tables.{TableValue}
 use Rattle.guppy_feature_nodes.specs.GraphEdges.{AreEdges, EdgeValue, edge_ends}
-use Rattle.guppy_feature_nodes.specs.Orders.{default_starts, firm_edges, naming_edges}
+use Rattle.guppy_feature_nodes.specs.Orders.{default_number, firm_edges, naming_edges}
 
 -- the rows that it was built of, its nodes, its edges, what is odd, and the order in which the nodes are listed
 pub record FeatureGraphValue : Type 0 where
@@ -37,10 +36,8 @@ pub record IsFeatureGraph (g : FeatureGraphValue) : Type 0 where
 abbrev pub feature_at : FeatureGraphValue → ℕ → FeatureValue
 feature_at g node = slice_index_or g.nodes node (base_of [])
 
--- the feature is a default one: from the `default` of a package, or where it names none from the package itself, edges lead to it
--- that stand for a feature's package and for features enabled by name
-abbrev pub IsDefaultAmong : List FeatureValue → List EdgeValue → ℕ → Type 0
-IsDefaultAmong nodes edges v = IsReached Forward (edge_ends edges) (has (naming_edges edges)) (default_starts nodes) v
-
-abbrev pub IsDefault : FeatureGraphValue → ℕ → Type 0
-IsDefault g v = IsDefaultAmong g.nodes g.edges v
+-- the feature is a default one: from the `default` of its own package, or where that names none from the package itself, edges
+-- lead to it that stand for a feature's package and for features enabled by name
+pub record IsDefault (g : FeatureGraphValue) (v : ℕ) : Type 0 where
+  pub within : v < length g.nodes
+  pub leads : Reaches (edge_ends g.edges) (has (naming_edges g.edges)) (default_number g.nodes (feature_at g v).package_id) v

@@ -4,7 +4,8 @@ use Rattle.numbered_graph.specs.Sets.{has}
 use Rattle.workspace_record.specs.Records.{Link}
 use Rattle.workspace_record.specs.Features.{FeatureValue}
 use Rattle.guppy_feature_nodes.specs.GraphEdges.{EdgeValue, edge_ends}
-use Rattle.guppy_feature_nodes.specs.Graphs.{IsDefaultAmong, IsEdgeListing}
+use Rattle.guppy_feature_nodes.specs.Graphs.{IsEdgeListing}
+use Rattle.guppy_feature_nodes.specs.Orders.{IsDefaultAmong}
 use Rattle.guppy_feature_nodes.specs.declared.orders.Orders.{Orders}
 
 -- the graph of the edges' ends, the listing of its nodes, and the set of the default features

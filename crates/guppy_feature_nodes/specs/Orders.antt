@@ -1,15 +1,18 @@
 -- The order in which the features of a graph are listed, and the features that are default ones.
-use Rattle.std.specs.Prelude.{◌≡◌, ℕ, Bool, true, false, not, ◌||◌, List, [], codes, filter, length, map, slice_index_or}
+use Rattle.std.specs.Prelude.{ℕ, Bool, true, false, not, ◌||◌, List, [], codes, filter, length, map, slice_index_or, if◌then◌else◌}
 use Rattle.std.specs.List.{list_any}
 use Rattle.std.specs.Option.{option_map_or}
 use Rattle.std.specs.Str.{bytes_eq}
+use Rattle.numbered_graph.specs.declared.direction.Direction.TheVariants.{Forward}
 use Rattle.numbered_graph.specs.Listings.{numbers_below}
+use Rattle.numbered_graph.specs.Paths.{IsReached}
+use Rattle.numbered_graph.specs.Sets.{has}
 use Rattle.workspace_record.specs.Records.{Text, Link}
 use Rattle.workspace_record.specs.Features.{LabelValue, Base, Named, Dep, FeatureValue}
 use Rattle.workspace_record.specs.declared.kinds.LineKind.TheVariants as kind
 use Rattle.guppy_package_parts.specs.Lines.{is_kind, line_at}
-use Rattle.guppy_feature_demands.specs.Nodes.{base_of, is_node, named_of}
-use Rattle.guppy_feature_nodes.specs.GraphEdges.{EdgeForm, ToBase, ToFeature, ToDependency, ByStrongEntries, ByWeakEntries, ByLines, EdgeValue, is_always}
+use Rattle.guppy_feature_demands.specs.Nodes.{base_of, is_node, named_of, number_of}
+use Rattle.guppy_feature_nodes.specs.GraphEdges.{EdgeForm, ToBase, ToFeature, ToDependency, ByStrongEntries, ByWeakEntries, ByLines, EdgeValue, edge_ends, is_always}
 
 -- the line at the place is normal or build
 abbrev pub is_firm_line : List Link → ℕ × ℕ → Bool
@@ -52,3 +55,12 @@ starts_defaults nodes f = starts_by nodes f.package_id f.label
 -- the nodes from which default features are told, one of each package
 abbrev pub default_starts : List FeatureValue → List ℕ
 default_starts nodes = filter (λ v. starts_defaults nodes (slice_index_or nodes v (base_of []))) (numbers_below (length nodes))
+
+-- from one of those nodes, edges along which default features are told lead to the node
+abbrev pub IsDefaultAmong : List FeatureValue → List EdgeValue → ℕ → Type 0
+IsDefaultAmong nodes edges v = IsReached Forward (edge_ends edges) (has (naming_edges edges)) (default_starts nodes) v
+
+-- the number of a package's `default`, or where it names none of the package itself
+abbrev pub default_number : List FeatureValue → Text → ℕ
+default_number nodes id =
+    if is_node nodes (named_of id default_name) then number_of nodes (named_of id default_name) else number_of nodes (base_of id)

@@ -7,8 +7,7 @@ ghost use Rattle.numbered_graph.specs.Sets.{has};
 ghost use Rattle.guppy_feature_demands.specs.Nodes.{base_of};
 ghost use Rattle.guppy_feature_nodes.specs.EdgeViews.{edge_view, form_view};
 ghost use Rattle.guppy_feature_nodes.specs.GraphEdges.{AreEdgesWithin, edge_ends};
-ghost use Rattle.guppy_feature_nodes.specs.Graphs.{IsDefaultAmong};
-ghost use Rattle.guppy_feature_nodes.specs.Orders.{default_starts, firm_edges, is_firm_edge, is_firm_line, is_naming, naming_edges, starts_defaults};
+ghost use Rattle.guppy_feature_nodes.specs.Orders.{IsDefaultAmong, default_starts, firm_edges, is_firm_edge, is_firm_line, is_naming, naming_edges, starts_defaults};
 ghost use Rattle.guppy_feature_nodes.specs.OrderViews.{AreOrders};
 
 use crate::edge_lines::line_at;
