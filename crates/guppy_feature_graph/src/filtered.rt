@@ -23,17 +23,18 @@ use std::alloc::{AllocError, Global};
 impl<'g> FeatureGraph<'g> {
     /// A query, to what they lead to, from the features of the workspace's packages that the filter
     /// takes. It is asked about each of these features once, after all memory was taken.
-    pub fn query_workspace(
+    pub fn query_workspace<F: FeatureFilter>(
         &self,
         alloc: Global,
-        filter: &mut dyn FeatureFilter,
+        filter: &mut F,
     ) -> Result<FeatureQuery<'g>, AllocError>
-        requires { can_accept filter.old }
+        requires { F.can_accept filter.old }
         ensures ok { IfOk result (λ q. (judged : Judged) × AreJudged (IsOfPackage (feature_graph_of self.now) (IsMemberPlace (feature_graph_of self.now).rows)) judged
-            × Chain (steps filter.old) (state filter.old) (shown_features (feature_graph_of self.now) judged) (state filter.new)
+            × Chain (F.steps filter.old) (F.state filter.old)
+            (shown_features (feature_graph_of self.now) judged) (F.state filter.new)
             × IsQueryOf (feature_graph_of self.now) Forward (λ v. Contains judged (v, true)) q) }
-        ensures same { SameSteps (steps filter.old) (steps filter.new) }
-        ensures can { can_accept filter.new }
+        ensures same { SameSteps (F.steps filter.old) (F.steps filter.new) }
+        ensures can { F.can_accept filter.new }
         ensures err { OnErr result (filter.new ≡ filter.old) }
     {
         let members = self.package_graph().resolve_workspace(alloc)?;
@@ -42,20 +43,21 @@ impl<'g> FeatureGraph<'g> {
 }
 
 /// A query from the features of a set's packages that the filter takes.
-pub(crate) fn query_by_filter<'g>(
+pub(crate) fn query_by_filter<'g, F: FeatureFilter>(
     alloc: Global,
     graph: FeatureGraph<'g>,
     packages: &PackageSet<'_>,
     direction: DependencyDirection,
-    filter: &mut dyn FeatureFilter,
+    filter: &mut F,
 ) -> Result<FeatureQuery<'g>, AllocError>
     requires packages { ids_of packages.now.graph.packages ≡ ids_of (feature_graph_of graph).rows.packages }
-    requires can { can_accept filter.old }
+    requires can { F.can_accept filter.old }
     ensures ok { IfOk result (λ q. (judged : Judged) × AreJudged (IsOfSet (feature_graph_of graph.entry) packages.now.included) judged
-        × Chain (steps filter.old) (state filter.old) (shown_features (feature_graph_of graph.entry) judged) (state filter.new)
+        × Chain (F.steps filter.old) (F.state filter.old)
+        (shown_features (feature_graph_of graph.entry) judged) (F.state filter.new)
         × IsQueryOf (feature_graph_of graph.entry) direction (λ v. Contains judged (v, true)) q) }
-    ensures same { SameSteps (steps filter.old) (steps filter.new) }
-    ensures can { can_accept filter.new }
+    ensures same { SameSteps (F.steps filter.old) (F.steps filter.new) }
+    ensures can { F.can_accept filter.new }
     ensures err { OnErr result (filter.new ≡ filter.old) }
 {
     let wanted = features_of_packages(alloc, &graph, packages)?;
@@ -69,19 +71,20 @@ pub(crate) fn query_by_filter<'g>(
 }
 
 /// The features of a set's packages that the filter takes.
-pub(crate) fn set_by_filter<'g>(
+pub(crate) fn set_by_filter<'g, F: FeatureFilter>(
     alloc: Global,
     graph: FeatureGraph<'g>,
     packages: &PackageSet<'_>,
-    filter: &mut dyn FeatureFilter,
+    filter: &mut F,
 ) -> Result<FeatureSet<'g>, AllocError>
     requires packages { ids_of packages.now.graph.packages ≡ ids_of (feature_graph_of graph).rows.packages }
-    requires can { can_accept filter.old }
+    requires can { F.can_accept filter.old }
     ensures ok { IfOk result (λ s. (judged : Judged) × AreJudged (IsOfSet (feature_graph_of graph.entry) packages.now.included) judged
-        × Chain (steps filter.old) (state filter.old) (shown_features (feature_graph_of graph.entry) judged) (state filter.new)
+        × Chain (F.steps filter.old) (F.state filter.old)
+        (shown_features (feature_graph_of graph.entry) judged) (F.state filter.new)
         × IsSetOf (feature_graph_of graph.entry) (λ v. Contains judged (v, true)) s) }
-    ensures same { SameSteps (steps filter.old) (steps filter.new) }
-    ensures can { can_accept filter.new }
+    ensures same { SameSteps (F.steps filter.old) (F.steps filter.new) }
+    ensures can { F.can_accept filter.new }
     ensures err { OnErr result (filter.new ≡ filter.old) }
 {
     let wanted = features_of_packages(alloc, &graph, packages)?;

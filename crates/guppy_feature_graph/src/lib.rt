@@ -7,6 +7,7 @@ mod choosing;
 mod cycles;
 mod depending;
 mod direction;
+mod dyn_filters;
 mod feature_filter;
 mod feature_filter_fn;
 mod feature_graph;

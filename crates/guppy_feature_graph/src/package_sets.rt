@@ -39,19 +39,20 @@ pub fn package_to_feature_set<'g>(
 
 /// The features of a set's packages that the filter takes. It is asked about each of these features
 /// once, after all memory was taken.
-pub fn set_to_feature_set<'g>(
+pub fn set_to_feature_set<'g, F: FeatureFilter>(
     alloc: Global,
     graph: &FeatureGraph<'g>,
     set: &PackageSet<'_>,
-    filter: &mut dyn FeatureFilter,
+    filter: &mut F,
 ) -> Result<FeatureSet<'g>, AllocError>
     requires packages { ids_of set.now.graph.packages ≡ ids_of (feature_graph_of graph.now).rows.packages }
-    requires can { can_accept filter.old }
+    requires can { F.can_accept filter.old }
     ensures ok { IfOk result (λ s. (judged : Judged) × AreJudged (IsOfSet (feature_graph_of graph.now) set.now.included) judged
-        × Chain (steps filter.old) (state filter.old) (shown_features (feature_graph_of graph.now) judged) (state filter.new)
+        × Chain (F.steps filter.old) (F.state filter.old)
+        (shown_features (feature_graph_of graph.now) judged) (F.state filter.new)
         × IsSetOf (feature_graph_of graph.now) (λ v. Contains judged (v, true)) s) }
-    ensures same { SameSteps (steps filter.old) (steps filter.new) }
-    ensures can { can_accept filter.new }
+    ensures same { SameSteps (F.steps filter.old) (F.steps filter.new) }
+    ensures can { F.can_accept filter.new }
     ensures err { OnErr result (filter.new ≡ filter.old) }
 {
     set_by_filter(alloc, *graph, set, filter)
@@ -59,19 +60,20 @@ pub fn set_to_feature_set<'g>(
 
 /// A query from the features of the query's initials that the filter takes, in its direction. The
 /// filter is asked about each of these features once, after all memory was taken.
-pub fn query_to_feature_query<'g>(
+pub fn query_to_feature_query<'g, F: FeatureFilter>(
     alloc: Global,
     graph: &FeatureGraph<'g>,
     query: &PackageQuery<'_>,
-    filter: &mut dyn FeatureFilter,
+    filter: &mut F,
 ) -> Result<FeatureQuery<'g>, AllocError>
     requires packages { ids_of query.now.graph.packages ≡ ids_of (feature_graph_of graph.now).rows.packages }
-    requires can { can_accept filter.old }
+    requires can { F.can_accept filter.old }
     ensures ok { IfOk result (λ q. (judged : Judged) × AreJudged (IsOfPackage (feature_graph_of graph.now) (IsNamed query.now.graph (map (id_at query.now.graph) query.now.initials))) judged
-        × Chain (steps filter.old) (state filter.old) (shown_features (feature_graph_of graph.now) judged) (state filter.new)
+        × Chain (F.steps filter.old) (F.state filter.old)
+        (shown_features (feature_graph_of graph.now) judged) (F.state filter.new)
         × IsQueryOf (feature_graph_of graph.now) query.now.direction (λ v. Contains judged (v, true)) q) }
-    ensures same { SameSteps (steps filter.old) (steps filter.new) }
-    ensures can { can_accept filter.new }
+    ensures same { SameSteps (F.steps filter.old) (F.steps filter.new) }
+    ensures can { F.can_accept filter.new }
     ensures err { OnErr result (filter.new ≡ filter.old) }
 {
     let packages = initials_of(alloc, query)?;

@@ -22,21 +22,22 @@ pub(crate) struct Taken {
 }
 
 /// The features of a set that a filter takes. All memory is taken before it is asked.
-pub(crate) fn take_by_filter(
+pub(crate) fn take_by_filter<F: FeatureFilter>(
     alloc: Global,
     graph: &FeatureGraph<'_>,
     wanted: &NodeSet,
-    filter: &mut dyn FeatureFilter,
+    filter: &mut F,
 ) -> Result<Taken, AllocError>
     requires sized { length wanted.now ≡ length (feature_graph_of graph.now).nodes }
-    requires can { can_accept filter.old }
+    requires can { F.can_accept filter.old }
     ensures sized { IfOk result (λ t. length t.included ≡ length (feature_graph_of graph.now).nodes) }
     ensures starts { IfOk result (λ t. AreStarts (length (feature_graph_of graph.now).nodes) t.included t.starts.items) }
     ensures ok { IfOk result (λ t. (judged : Judged) × AreJudged (λ v. IsTrue (has wanted.now v)) judged
-        × Chain (steps filter.old) (state filter.old) (shown_features (feature_graph_of graph.now) judged) (state filter.new)
+        × Chain (F.steps filter.old) (F.state filter.old)
+        (shown_features (feature_graph_of graph.now) judged) (F.state filter.new)
         × ((v : ℕ) → IsTrue (has t.included v) ↔ Contains judged (v, true))) }
-    ensures same { SameSteps (steps filter.old) (steps filter.new) }
-    ensures can { can_accept filter.new }
+    ensures same { SameSteps (F.steps filter.old) (F.steps filter.new) }
+    ensures can { F.can_accept filter.new }
     ensures err { OnErr result (filter.new ≡ filter.old) }
 {
     let nodes = wanted.members(alloc)?;
@@ -50,12 +51,12 @@ pub(crate) fn take_by_filter(
     Ok(Taken { included, starts })
 }
 
-fn ask_filter(filter: &mut dyn FeatureFilter, graph: &FeatureGraph<'_>, node: usize) -> bool
+fn ask_filter<F: FeatureFilter>(filter: &mut F, graph: &FeatureGraph<'_>, node: usize) -> bool
     requires within { node < length (feature_graph_of graph.now).nodes }
-    requires can { can_accept filter.old }
-    ensures step { steps filter.old (state filter.old) (feature_graph_of graph.now, feature_at (feature_graph_of graph.now) node) result (state filter.new) }
-    ensures same { SameSteps (steps filter.old) (steps filter.new) }
-    ensures can { can_accept filter.new }
+    requires can { F.can_accept filter.old }
+    ensures step { F.steps filter.old (F.state filter.old) (feature_graph_of graph.now, feature_at (feature_graph_of graph.now) node) result (F.state filter.new) }
+    ensures same { SameSteps (F.steps filter.old) (F.steps filter.new) }
+    ensures can { F.can_accept filter.new }
 {
     filter.accept(graph, graph.built().feature_at(node))
 }

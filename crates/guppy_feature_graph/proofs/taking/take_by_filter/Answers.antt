@@ -1,4 +1,4 @@
-use Rattle.std.proofs.Common.{◌≡◌, ◌∙◌, ◌↔◌, ◌<◌, ◌≤◌, ℕ, List, All, AllPairs, Contains, IsTrue, ap, cond, false, get_or, true, ◌+◌, length, rules, subst, sym, take, arith}
+use Rattle.std.proofs.Common.{◌≡◌, ◌∙◌, ◌↔◌, ◌<◌, ℕ, All, AllPairs, Contains, IsTrue, ap, false, get_or, true, ◌+◌, length, subst, sym, take, arith}
 use Rattle.std.proofs.lemmas.List.{length-replicate, take_all, take_more}
 use Rattle.numbered_graph.specs.Sets.{has}
 use Rattle.guppy_package_graph.proofs.ChoiceFacts.{none_has}
@@ -10,7 +10,7 @@ use Rattle.guppy_feature_graph.proofs.taking.take_by_filter.Goals as goal
 pub loop-node-init : goal.loop-node-init
 loop-node-init g c =
     let none = c.in_ok-included.ensures.members in
-    let before = goal.FeatureFilter-dyn g c.args.filter.now in
+    let f = g.F.FeatureFilter in
     let empty = c.in_ok-starts.ensures.items in
     let capacity = c.in_ok-starts.ensures.capacity in
     let count = c.len.ensures in
@@ -18,7 +18,7 @@ loop-node-init g c =
     let none_yet = ap length empty in
     record {
       taking = taking_none c.in_ok-included.included c.in_ok-starts.starts.items (λ v h. none_has c.feature_count.result v (subst (λ s. has s v ≡ true) none h)) empty (ap length none ∙ length-replicate c.feature_count.result false ∙ c.feature_count.ensures.count);
-      same = SameSteps-refl (before.steps c.args.filter.now.1);
+      same = SameSteps-refl (f.steps c.args.filter.now);
       can = c.requires.can;
       room = omega (arith, capacity, count, sized);
       behind = omega (arith, none_yet);
@@ -26,9 +26,7 @@ loop-node-init g c =
 
 pub loop-node-preserved : goal.loop-node-preserved
 loop-node-preserved g c =
-    let before = goal.FeatureFilter-dyn g c.args.filter.now in
-    let here = goal.FeatureFilter-dyn g c.loop-node.filter.now in
-    let after = goal.FeatureFilter-dyn g (c.loop-node.filter.now.0, c.ask_filter-accepted.new.filter) in
+    let f = g.F.FeatureFilter in
     let was = c.loop-node.invariant in
     let items = c.deref-node-items.result.now in
     let i = c.loop-node.node-index in
@@ -39,7 +37,7 @@ loop-node-preserved g c =
     let room = was.room in
     let behind = was.behind in
     record {
-      taking = taking_more v b (take i items) (take (i + 1) items) (here.state c.loop-node.filter.now.1) (after.state c.ask_filter-accepted.new.filter) c.loop-node.included c.put_if.new.set c.loop-node.starts.items c.push_within.new.numbers.items (take_more items i 0 c.loop-node-test.true) was.taking step c.put_if.ensures.sized c.put_if.ensures.members c.push_within.ensures.items;
+      taking = taking_more v b (take i items) (take (i + 1) items) (f.state c.loop-node.filter) (f.state c.ask_filter-accepted.new.filter) c.loop-node.included c.put_if.new.set c.loop-node.starts.items c.push_within.new.numbers.items (take_more items i 0 c.loop-node-test.true) was.taking step c.put_if.ensures.sized c.put_if.ensures.members c.push_within.ensures.items;
       same = SameSteps-trans was.same c.ask_filter-accepted.ensures.same;
       can = c.ask_filter-accepted.ensures.can;
       room = omega (arith, room, capacity);

@@ -6,12 +6,11 @@ use Rattle.guppy_feature_graph.proofs.taking.take_by_filter.Given as goal
 
 abbrev pub invariant-loop-node : goal.invariant-loop-node
 invariant-loop-node g l =
-    let before = goal.FeatureFilter-dyn g l.fn.filter.now in
-    let after = goal.FeatureFilter-dyn g l.filter.now in
+    let f = g.F.FeatureFilter in
     record {
-      taking : IsTaking (before.steps l.fn.filter.now.1) (feature_graph_of l.graph) (before.state l.fn.filter.now.1) (take l.node-index l.node-items) (after.state l.filter.now.1) l.included l.starts.items;
-      same : SameSteps (before.steps l.fn.filter.now.1) (after.steps l.filter.now.1);
-      can : after.can_accept l.filter.now.1;
+      taking : IsTaking (f.steps l.fn.filter) (feature_graph_of l.graph) (f.state l.fn.filter) (take l.node-index l.node-items) (f.state l.filter) l.included l.starts.items;
+      same : SameSteps (f.steps l.fn.filter) (f.steps l.filter);
+      can : f.can_accept l.filter;
       room : length l.node-items ≤ vec_capacity l.starts;
       behind : length l.starts.items ≤ l.node-index;
     }
