@@ -1,6 +1,6 @@
 //! Lists of features that are given up.
 
-use crate::graphs::{WEAK, graph_of, id_of};
+use crate::graphs::{Question, answer_to, id_of};
 use guppy_feature_graph::{FeatureGraph, FeatureGraphData, FeatureList};
 use std::alloc::Global;
 use std::test::Fail;
@@ -17,23 +17,29 @@ fn counts_of(list: FeatureList<'_>, other: FeatureList<'_>) -> (usize, usize) {
     (count, other.into_labels().len())
 }
 
-fn counts_in(alloc: Global, data: &FeatureGraphData<'_>) -> Result<(usize, usize), Fail> {
-    let app = id_of(alloc, "app")?;
-    let graph = FeatureGraph::of(data);
-    let list = graph.all_features_for(alloc, &app)?;
-    let other = graph.all_features_for(alloc, &app)?;
-    Ok(counts_of(list, other))
-}
+// Asks for both counts of the features of app.
+#[derive(Drop)]
+struct GivenUp;
 
-fn counts(alloc: Global) -> Result<(usize, usize), Fail> {
-    let packages = graph_of(alloc, WEAK)?;
-    let data = FeatureGraphData::build(alloc, &packages)?;
-    counts_in(alloc, &data)
+impl Question for GivenUp {
+    ghost use Rattle.std.specs.Prelude.{⊤};
+
+    type Answer = (usize, usize);
+
+    ghost can_ask = { λ _. ⊤ };
+
+    fn ask(&mut self, alloc: Global, data: &FeatureGraphData<'_>) -> Result<(usize, usize), Fail> {
+        let app = id_of(alloc, "app")?;
+        let graph = FeatureGraph::of(data);
+        let list = graph.all_features_for(alloc, &app)?;
+        let other = graph.all_features_for(alloc, &app)?;
+        Ok(counts_of(list, other))
+    }
 }
 
 #[test]
 fn given_up_from_the_end(rt: HostRuntime) -> Result<(), Fail> {
-    let counts = counts(rt.alloc())?;
+    let counts = answer_to(rt.alloc(), &mut GivenUp)?;
     assert_eq!(rt; counts, (13, 3));
     Ok(())
 }

@@ -1,11 +1,11 @@
-use crate::graphs::{WEAK, graph_of, id_of};
+use crate::graphs::{Question, answer_to, id_of};
 use crate::visitors::{Follows, FollowsOptional};
 use guppy_feature_graph::{
     ConditionalLink, FeatureGraph, FeatureGraphData, FeatureId, FeatureLinkContext,
     FeatureLinkVisitor, FeatureQuery, LinkDeclarations,
 };
 use guppy_package_graph::{DependencyDirection, Error, PackageId};
-use std::alloc::Global;
+use std::alloc::{AllocError, Global};
 use std::test::Fail;
 
 // From the feature `weak` of app, and from its dependency foo.
@@ -22,13 +22,7 @@ fn query_of<'g>(
 }
 
 // How many features the visitor includes.
-fn included_by(alloc: Global, visitor: &mut dyn FeatureLinkVisitor) -> Result<usize, Fail> {
-    let packages = graph_of(alloc, WEAK)?;
-    let data = FeatureGraphData::build(alloc, &packages)?;
-    included_in(alloc, &data, visitor)
-}
-
-fn included_in(
+fn included_by(
     alloc: Global,
     data: &FeatureGraphData<'_>,
     visitor: &mut dyn FeatureLinkVisitor,
@@ -39,10 +33,34 @@ fn included_in(
     Ok(included.len())
 }
 
+impl Question for Follows {
+    ghost use Rattle.std.specs.Prelude.{⊤};
+
+    type Answer = usize;
+
+    ghost can_ask = { λ _. ⊤ };
+
+    fn ask(&mut self, alloc: Global, data: &FeatureGraphData<'_>) -> Result<usize, Fail> {
+        included_by(alloc, data, self)
+    }
+}
+
+impl Question for Box<dyn FeatureLinkVisitor + Drop> {
+    ghost use Rattle.std.specs.Prelude.{⊤};
+
+    type Answer = usize;
+
+    ghost can_ask = { λ _. ⊤ };
+
+    fn ask(&mut self, alloc: Global, data: &FeatureGraphData<'_>) -> Result<usize, Fail> {
+        included_by(alloc, data, &mut **self)
+    }
+}
+
 #[test]
 fn refuses_all(rt: HostRuntime) -> Result<(), Fail> {
     let mut visitor = Follows { left: 0, shown: 0 };
-    let included = included_by(rt.alloc(), &mut visitor)?;
+    let included = answer_to(rt.alloc(), &mut visitor)?;
     assert_eq!(rt; included, 3);
     assert_eq!(rt; visitor.shown, 4);
     Ok(())
@@ -51,7 +69,7 @@ fn refuses_all(rt: HostRuntime) -> Result<(), Fail> {
 #[test]
 fn accepts_all(rt: HostRuntime) -> Result<(), Fail> {
     let mut visitor = Follows { left: 4, shown: 0 };
-    let included = included_by(rt.alloc(), &mut visitor)?;
+    let included = answer_to(rt.alloc(), &mut visitor)?;
     assert_eq!(rt; included, 5);
     assert_eq!(rt; visitor.left, 0);
     Ok(())
@@ -60,21 +78,38 @@ fn accepts_all(rt: HostRuntime) -> Result<(), Fail> {
 #[test]
 fn boxed_visitor(rt: HostRuntime) -> Result<(), Fail> {
     let mut visitor: Box<dyn FeatureLinkVisitor + Drop> = Box::new(rt.alloc(), FollowsOptional)?;
-    let included = included_by(rt.alloc(), &mut *visitor)?;
+    let included = answer_to(rt.alloc(), &mut visitor)?;
     assert_eq!(rt; included, 5);
     Ok(())
 }
 
-// What a closure is shown, of halves alone.
-fn halves_shown(alloc: Global) -> Result<Vec<LinkDeclarations>, Fail> {
-    let packages = graph_of(alloc, WEAK)?;
-    let data = FeatureGraphData::build(alloc, &packages)?;
-    halves_in(alloc, &data)
+// Asks what a closure is shown, of halves alone.
+#[derive(Drop)]
+struct Halves;
+
+impl Question for Halves {
+    ghost use Rattle.std.specs.Prelude.{⊤};
+
+    type Answer = Vec<LinkDeclarations>;
+
+    ghost can_ask = { λ _. ⊤ };
+
+    fn ask(
+        &mut self,
+        alloc: Global,
+        data: &FeatureGraphData<'_>,
+    ) -> Result<Vec<LinkDeclarations>, Fail> {
+        let app = id_of(alloc, "app")?;
+        let query = query_of(alloc, FeatureGraph::of(data), &app)?;
+        let shown = halves_shown(alloc, query)?;
+        Ok(shown)
+    }
 }
 
-fn halves_in(alloc: Global, data: &FeatureGraphData<'_>) -> Result<Vec<LinkDeclarations>, Fail> {
-    let app = id_of(alloc, "app")?;
-    let query = query_of(alloc, FeatureGraph::of(data), &app)?;
+fn halves_shown(
+    alloc: Global,
+    query: FeatureQuery<'_>,
+) -> Result<Vec<LinkDeclarations>, AllocError> {
     let mut shown = Vec::new(alloc);
     query.resolve_with_fn(
         alloc,
@@ -88,7 +123,7 @@ fn halves_in(alloc: Global, data: &FeatureGraphData<'_>) -> Result<Vec<LinkDecla
 
 #[test]
 fn closure_shown_the_required_half_first(rt: HostRuntime) -> Result<(), Fail> {
-    let shown = halves_shown(rt.alloc())?;
+    let shown = answer_to(rt.alloc(), &mut Halves)?;
     let wanted = [LinkDeclarations::Required, LinkDeclarations::Optional];
     assert!(rt; shown.iter().copied().eq(wanted.iter().copied()));
     Ok(())

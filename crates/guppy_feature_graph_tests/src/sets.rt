@@ -1,6 +1,6 @@
 //! Sets that closures divide, and what is said of unknown features.
 
-use crate::graphs::{WEAK, graph_of, id_of};
+use crate::graphs::{Question, answer_to, id_of};
 use guppy_feature_graph::{FeatureGraph, FeatureGraphData, FeatureId, FeatureMetadata, FeatureSet};
 use guppy_package_graph::{DependencyDirection, Error};
 use std::alloc::{AllocError, Global};
@@ -29,40 +29,56 @@ fn counts_of(alloc: Global, all: &FeatureSet<'_>) -> Result<[usize; 4], AllocErr
     Ok([named.len(), others.len(), first.len(), second.len()])
 }
 
-fn counts(alloc: Global) -> Result<[usize; 4], Fail> {
-    let packages = graph_of(alloc, WEAK)?;
-    let data = FeatureGraphData::build(alloc, &packages)?;
-    counts_in(alloc, &data)
-}
+// Asks for the counts of all features.
+#[derive(Drop)]
+struct Divided;
 
-fn counts_in(alloc: Global, data: &FeatureGraphData<'_>) -> Result<[usize; 4], Fail> {
-    let all = FeatureGraph::of(data).resolve_all(alloc)?;
-    let counts = counts_of(alloc, &all)?;
-    Ok(counts)
+impl Question for Divided {
+    ghost use Rattle.std.specs.Prelude.{⊤};
+
+    type Answer = [usize; 4];
+
+    ghost can_ask = { λ _. ⊤ };
+
+    fn ask(&mut self, alloc: Global, data: &FeatureGraphData<'_>) -> Result<[usize; 4], Fail> {
+        let all = FeatureGraph::of(data).resolve_all(alloc)?;
+        let counts = counts_of(alloc, &all)?;
+        Ok(counts)
+    }
 }
 
 #[test]
 fn divided_by_closures(rt: HostRuntime) -> Result<(), Fail> {
-    let counts = counts(rt.alloc())?;
+    let counts = answer_to(rt.alloc(), &mut Divided)?;
     assert_eq!(rt; counts, [2, 3, 2, 1]);
     Ok(())
 }
 
-fn unknown_in(alloc: Global, data: &FeatureGraphData<'_>) -> Result<Result<bool, Error>, Fail> {
-    let foo = id_of(alloc, "foo")?;
-    let none = FeatureGraph::of(data).resolve_none(alloc)?;
-    Ok(none.contains(FeatureId::named(&foo, "nope")))
-}
+// Asks a set for a feature that the graph does not have.
+#[derive(Drop)]
+struct Unknown;
 
-fn unknown(alloc: Global) -> Result<Result<bool, Error>, Fail> {
-    let packages = graph_of(alloc, WEAK)?;
-    let data = FeatureGraphData::build(alloc, &packages)?;
-    unknown_in(alloc, &data)
+impl Question for Unknown {
+    ghost use Rattle.std.specs.Prelude.{⊤};
+
+    type Answer = Result<bool, Error>;
+
+    ghost can_ask = { λ _. ⊤ };
+
+    fn ask(
+        &mut self,
+        alloc: Global,
+        data: &FeatureGraphData<'_>,
+    ) -> Result<Result<bool, Error>, Fail> {
+        let foo = id_of(alloc, "foo")?;
+        let none = FeatureGraph::of(data).resolve_none(alloc)?;
+        Ok(none.contains(FeatureId::named(&foo, "nope")))
+    }
 }
 
 #[test]
 fn unknown_feature_is_told(rt: HostRuntime) -> Result<(), Fail> {
-    let found = unknown(rt.alloc())?;
+    let found = answer_to(rt.alloc(), &mut Unknown)?;
     assert!(rt; found == Err(Error::UnknownFeatureId));
     Ok(())
 }
