@@ -30,7 +30,17 @@ fn included_by(
     visitor: &mut dyn PackageLinkVisitor,
 ) -> Result<usize, Fail> {
     let graph = graph_of(alloc, TRIANGLE)?;
-    let query = query_of(alloc, &graph, start, direction)?;
+    included_in(alloc, &graph, start, direction, visitor)
+}
+
+fn included_in(
+    alloc: Global,
+    graph: &PackageGraph,
+    start: &str,
+    direction: DependencyDirection,
+    visitor: &mut dyn PackageLinkVisitor,
+) -> Result<usize, Fail> {
+    let query = query_of(alloc, graph, start, direction)?;
     let included = query.resolve_with(alloc, visitor)?;
     Ok(included.len())
 }
@@ -83,7 +93,11 @@ fn boxed_visitor(rt: HostRuntime) -> Result<(), Fail> {
 // The numbers of the links that a closure is shown from a package on.
 fn shown_from(alloc: Global, start: &str) -> Result<Vec<usize>, Fail> {
     let graph = graph_of(alloc, TRIANGLE)?;
-    let query = query_of(alloc, &graph, start, DependencyDirection::Forward)?;
+    shown_in(alloc, &graph, start)
+}
+
+fn shown_in(alloc: Global, graph: &PackageGraph, start: &str) -> Result<Vec<usize>, Fail> {
+    let query = query_of(alloc, graph, start, DependencyDirection::Forward)?;
     let mut shown = Vec::new(alloc);
     query.resolve_with_fn(
         alloc,
@@ -117,7 +131,11 @@ fn counted<L: Ledger>(
 
 fn counted_from(alloc: Global, start: &str) -> Result<usize, Fail> {
     let graph = graph_of(alloc, TRIANGLE)?;
-    let query = query_of(alloc, &graph, start, DependencyDirection::Forward)?;
+    counted_in(alloc, &graph, start)
+}
+
+fn counted_in(alloc: Global, graph: &PackageGraph, start: &str) -> Result<usize, Fail> {
+    let query = query_of(alloc, graph, start, DependencyDirection::Forward)?;
     let count = counted::<Brand>(alloc, query, Blank::new(1))?;
     Ok(count)
 }

@@ -19,20 +19,28 @@ fn union_size(
     Ok(Some(union.len()))
 }
 
+// The same of the graphs of two records.
+fn union_of(alloc: Global, one: &str, other: &str) -> Result<Option<usize>, Fail> {
+    let graph = graph_of(alloc, one)?;
+    union_with(alloc, &graph, other)
+}
+
+fn union_with(alloc: Global, graph: &PackageGraph, other: &str) -> Result<Option<usize>, Fail> {
+    let other = graph_of(alloc, other)?;
+    let size = union_size(alloc, graph, &other)?;
+    Ok(size)
+}
+
 #[test]
 fn sets_of_two_graphs(rt: HostRuntime) -> Result<(), Fail> {
-    let graph = graph_of(rt.alloc(), TRIANGLE)?;
-    let turned = graph_of(rt.alloc(), TURNED)?;
-    let size = union_size(rt.alloc(), &graph, &turned)?;
+    let size = union_of(rt.alloc(), TRIANGLE, TURNED)?;
     assert_eq!(rt; size, Some(3));
     Ok(())
 }
 
 #[test]
 fn sets_of_other_packages(rt: HostRuntime) -> Result<(), Fail> {
-    let graph = graph_of(rt.alloc(), TRIANGLE)?;
-    let fewer = graph_of(rt.alloc(), FEWER)?;
-    let size = union_size(rt.alloc(), &graph, &fewer)?;
+    let size = union_of(rt.alloc(), TRIANGLE, FEWER)?;
     assert_eq!(rt; size, None);
     Ok(())
 }

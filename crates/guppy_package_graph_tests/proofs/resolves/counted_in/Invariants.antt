@@ -1,4 +1,4 @@
-use Rattle.guppy_package_graph_tests.proofs.resolves.counted_from.Given as goal
+use Rattle.guppy_package_graph_tests.proofs.resolves.counted_in.Given as goal
 
 -- the ledger of the blank
 abbrev pub ghosts-counted : goal.ghosts-counted
