@@ -24,11 +24,29 @@ pub(crate) fn tell_switching(
     answers: &mut Answers,
 ) -> Result<(), RowFault> {
     let on = features_of(alloc, rules)?;
-    answers.push("on", features_text(alloc, &on)?)?;
+    tell_on(alloc, question, rules, &on, answers)
+}
+
+fn tell_on(
+    alloc: Global,
+    question: Question<'_>,
+    rules: &[Rule],
+    on: &FeaturesOn,
+    answers: &mut Answers,
+) -> Result<(), RowFault> {
+    answers.push("on", features_text(alloc, on)?)?;
     match graph_of(alloc, question.record) {
-        Ok(graph) => tell_graph(alloc, &graph, question.table, rules, &on, answers),
-        Err(error) => answers.push("refused", format!(in alloc; "{error}")?),
+        Ok(graph) => tell_graph(alloc, &graph, question.table, rules, on, answers),
+        Err(error) => tell_refused(alloc, &error, answers),
     }
+}
+
+fn tell_refused(
+    alloc: Global,
+    error: &PackageGraphError,
+    answers: &mut Answers,
+) -> Result<(), RowFault> {
+    answers.push("refused", format!(in alloc; "{error}")?)
 }
 
 fn graph_of(alloc: Global, record: &WorkspaceRecord) -> Result<PackageGraph, PackageGraphError> {
@@ -51,6 +69,17 @@ fn tell_graph(
 ) -> Result<(), RowFault> {
     answers.push("switched", switched_text(alloc, graph, table, on)?)?;
     answers.push("order", ordered_text(alloc, graph, table, on)?)?;
+    tell_features(alloc, graph, table, rules, on, answers)
+}
+
+fn tell_features(
+    alloc: Global,
+    graph: &PackageGraph,
+    table: &PlatformTable,
+    rules: &[Rule],
+    on: &FeaturesOn,
+    answers: &mut Answers,
+) -> Result<(), RowFault> {
     let data = FeatureGraphData::build(alloc, graph)?;
     tell_resolved(alloc, &data, table, rules, on, answers)
 }
