@@ -1,7 +1,7 @@
 //! Features named by rows, as `package/name`, `package/dep:name` or `package/[base]`.
 
 use guppy_feature_graph::{FeatureId, FeatureLabel, FeatureSet};
-use guppy_package_graph::PackageId;
+use guppy_package_graph::{Error, PackageId};
 use row_program::{Row, RowFault};
 use serde_json::Value;
 use std::alloc::{AllocError, Global};
@@ -77,6 +77,11 @@ pub(crate) fn members_text(
         }
     }
     Ok(text)
+}
+
+/// What an error says.
+pub(crate) fn error_text(alloc: Global, error: &Error) -> Result<String, AllocError> {
+    format!(in alloc; "{error}")
 }
 
 /// Adds a word, with a space before each but the first.

@@ -3,7 +3,7 @@ use crate::lists::tell_lists;
 use crate::resolves::{Asked, tell_resolves};
 use crate::sets::tell_sets;
 use guppy_feature_graph::{FeatureGraph, FeatureGraphData, FeatureMetadata};
-use guppy_package_graph::PackageGraph;
+use guppy_package_graph::{PackageGraph, PackageGraphError};
 use record_files::read_record;
 use row_program::{Answers, Row, RowFault, RowRunner};
 use std::alloc::{AllocError, Global};
@@ -39,9 +39,17 @@ impl RowRunner for GraphRows {
         let (packages, links, workspace) = (record.packages, record.links, record.workspace);
         match PackageGraph::from_records(alloc, packages, links, workspace) {
             Ok(graph) => tell_graph(alloc, row, &graph, answers),
-            Err(error) => answers.push("refused", format!(in alloc; "{error}")?),
+            Err(error) => tell_refused(alloc, &error, answers),
         }
     }
+}
+
+fn tell_refused(
+    alloc: Global,
+    error: &PackageGraphError,
+    answers: &mut Answers,
+) -> Result<(), RowFault> {
+    answers.push("refused", format!(in alloc; "{error}")?)
 }
 
 fn record_of(alloc: Global, row: Row<'_>) -> Result<WorkspaceRecord, RowFault> {

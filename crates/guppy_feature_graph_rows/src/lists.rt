@@ -1,10 +1,10 @@
 //! The features of packages, default features, cycles, and what filters take.
 
-use crate::features::{ids_of, members_text, named_in, push_word};
+use crate::features::{error_text, ids_of, members_text, named_in, push_word};
 use crate::resolves::Asked;
 use guppy_feature_graph::{
-    FeatureFilter, FeatureGraph, FeatureId, StandardFeatures, default_feature_id,
-    package_to_feature_set,
+    FeatureFilter, FeatureGraph, FeatureId, FeatureList, FeatureSet, StandardFeatures,
+    default_feature_id, package_to_feature_set,
 };
 use guppy_package_graph::PackageId;
 use row_program::{Answers, Row, RowFault};
@@ -38,17 +38,53 @@ fn tell_package(
         return Ok(());
     };
     let id = PackageId::new(String::from_str(alloc, text)?);
-    match asked.graph.all_features_for(alloc, &id) {
-        Ok(list) => {
-            let shown = list.display_features();
-            answers.push("features", format!(in alloc; "{shown}")?)?;
-            let default = default_feature_id(list.package());
-            answers.push("default", format!(in alloc; "{default}")?)?;
-            let set = package_to_feature_set(alloc, &asked.graph, list.package())?;
-            answers.push("own", members_text(alloc, &set, asked.features)?)?;
-            answers.push("kept", kept_text(alloc, row, asked.graph, &id)?)
+    tell_features_of(alloc, row, asked, &id, answers)
+}
+
+fn tell_features_of(
+    alloc: Global,
+    row: Row<'_>,
+    asked: Asked<'_, '_>,
+    id: &PackageId,
+    answers: &mut Answers,
+) -> Result<(), RowFault> {
+    match asked.graph.all_features_for(alloc, id) {
+        Ok(list) => tell_list(alloc, row, asked, &list, answers),
+        Err(error) => answers.push("features", error_text(alloc, &error)?),
+    }
+}
+
+fn tell_list(
+    alloc: Global,
+    row: Row<'_>,
+    asked: Asked<'_, '_>,
+    list: &FeatureList<'_>,
+    answers: &mut Answers,
+) -> Result<(), RowFault> {
+    answers.push("features", shown_text(alloc, list)?)?;
+    answers.push("default", default_text(alloc, list)?)?;
+    let id = list.package().id();
+    answers.push("own", own_text(alloc, asked, id)?)?;
+    answers.push("kept", kept_text(alloc, row, asked.graph, id)?)
+}
+
+fn shown_text(alloc: Global, list: &FeatureList<'_>) -> Result<String, AllocError> {
+    let shown = list.display_features();
+    format!(in alloc; "{shown}")
+}
+
+fn default_text(alloc: Global, list: &FeatureList<'_>) -> Result<String, AllocError> {
+    let default = default_feature_id(list.package());
+    format!(in alloc; "{default}")
+}
+
+fn own_text(alloc: Global, asked: Asked<'_, '_>, id: &PackageId) -> Result<String, AllocError> {
+    match asked.graph.package_graph().metadata(id) {
+        Ok(package) => {
+            let set = package_to_feature_set(alloc, &asked.graph, &package)?;
+            members_text(alloc, &set, asked.features)
         }
-        Err(error) => answers.push("features", format!(in alloc; "{error}")?),
+        Err(error) => error_text(alloc, &error),
     }
 }
 
@@ -61,19 +97,25 @@ fn kept_text(
 ) -> Result<String, RowFault> {
     let named = named_in(alloc, row, "starts")?;
     let ids = ids_of(alloc, &named)?;
-    let Ok(set) = graph.resolve_ids(alloc, &ids) else {
-        return Err(RowFault::Key("starts"));
-    };
+    match graph.resolve_ids(alloc, &ids) {
+        Ok(set) => kept_in(alloc, &set, id),
+        Err(_) => Err(RowFault::Key("starts")),
+    }
+}
+
+fn kept_in(alloc: Global, set: &FeatureSet<'_>, id: &PackageId) -> Result<String, RowFault> {
     let Ok(has_package) = set.contains_package(id) else {
         return Err(RowFault::Key("package"));
     };
+    let kept = kept_list(alloc, set, id)?;
+    Ok(format!(in alloc; "{has_package}: {kept}")?)
+}
+
+fn kept_list(alloc: Global, set: &FeatureSet<'_>, id: &PackageId) -> Result<String, AllocError> {
     match set.features_for(alloc, id) {
-        Ok(Some(list)) => {
-            let shown = list.display_features();
-            Ok(format!(in alloc; "{has_package}: {shown}")?)
-        }
-        Ok(None) => Ok(format!(in alloc; "{has_package}: none")?),
-        Err(error) => Ok(format!(in alloc; "{error}")?),
+        Ok(Some(list)) => shown_text(alloc, &list),
+        Ok(None) => String::from_str(alloc, "none"),
+        Err(error) => error_text(alloc, &error),
     }
 }
 

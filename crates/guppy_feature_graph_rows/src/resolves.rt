@@ -1,7 +1,7 @@
 //! What is reached from the features under `starts`, alone or by the links that a visitor accepts.
 
 use crate::chooser::{Chooser, Rule};
-use crate::features::{ids_of, members_text, named_in};
+use crate::features::{error_text, ids_of, members_text, named_in};
 use guppy_feature_graph::{
     ConditionalLink, FeatureGraph, FeatureId, FeatureLinkContext, FeatureQuery,
 };
@@ -25,17 +25,39 @@ pub(crate) fn tell_resolves(
 ) -> Result<(), RowFault> {
     let named = named_in(alloc, row, "starts")?;
     let starts = ids_of(alloc, &named)?;
-    match query_of(alloc, row, asked.graph, &starts) {
+    tell_from(alloc, row, asked, &starts, answers)
+}
+
+fn tell_from(
+    alloc: Global,
+    row: Row<'_>,
+    asked: Asked<'_, '_>,
+    starts: &[FeatureId<'_>],
+    answers: &mut Answers,
+) -> Result<(), RowFault> {
+    match query_of(alloc, row, asked.graph, starts) {
         Ok(query) => tell_reach(alloc, asked, query, answers)?,
-        Err(error) => return answers.push("refused", format!(in alloc; "{error}")?),
+        Err(error) => return answers.push("refused", error_text(alloc, &error)?),
     }
-    let Some(rule) = rule_in(row)? else {
-        return Ok(());
-    };
-    if let Ok(query) = query_of(alloc, row, asked.graph, &starts) {
+    match rule_in(row)? {
+        Some(rule) => tell_rule(alloc, row, asked, starts, rule, answers),
+        None => Ok(()),
+    }
+}
+
+/// What is reached by the rule, once by a visitor and once by a closure.
+fn tell_rule(
+    alloc: Global,
+    row: Row<'_>,
+    asked: Asked<'_, '_>,
+    starts: &[FeatureId<'_>],
+    rule: Rule,
+    answers: &mut Answers,
+) -> Result<(), RowFault> {
+    if let Ok(query) = query_of(alloc, row, asked.graph, starts) {
         tell_visitor(alloc, asked, query, rule, answers)?;
     }
-    match query_of(alloc, row, asked.graph, &starts) {
+    match query_of(alloc, row, asked.graph, starts) {
         Ok(query) => tell_closure(alloc, asked, query, rule, answers),
         Err(_) => Err(RowFault::Memory),
     }

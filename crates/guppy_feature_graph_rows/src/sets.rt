@@ -1,6 +1,6 @@
 //! Sets of the features under `one` and `two`: joined, listed, with their roots and links.
 
-use crate::features::{ids_of, members_text, named_in, push_word};
+use crate::features::{error_text, ids_of, members_text, named_in, push_word};
 use crate::packages::tell_packages;
 use crate::resolves::Asked;
 use guppy_feature_graph::{FeatureId, FeatureSet};
@@ -21,16 +21,22 @@ pub(crate) fn tell_sets(
         set_in(alloc, row, asked, "one")?,
         set_in(alloc, row, asked, "two")?,
     ) {
-        (Ok(one), Ok(two)) => {
-            tell_joined(alloc, asked, &one, &two, answers)?;
-            tell_parts(alloc, &one, answers)?;
-            tell_packages(alloc, &one, answers)?;
-            tell_links(alloc, &one, answers)
-        }
-        (Err(error), _) | (_, Err(error)) => {
-            answers.push("unknown", format!(in alloc; "{error}")?)
-        }
+        (Ok(one), Ok(two)) => tell_both(alloc, asked, &one, &two, answers),
+        (Err(error), _) | (_, Err(error)) => answers.push("unknown", error_text(alloc, &error)?),
     }
+}
+
+fn tell_both(
+    alloc: Global,
+    asked: Asked<'_, '_>,
+    one: &FeatureSet<'_>,
+    two: &FeatureSet<'_>,
+    answers: &mut Answers,
+) -> Result<(), RowFault> {
+    tell_joined(alloc, asked, one, two, answers)?;
+    tell_parts(alloc, one, answers)?;
+    tell_packages(alloc, one, answers)?;
+    tell_links(alloc, one, answers)
 }
 
 fn set_in<'g>(
@@ -79,10 +85,17 @@ fn tell_parts(alloc: Global, one: &FeatureSet<'_>, answers: &mut Answers) -> Res
     let (forward, reverse) = (DependencyDirection::Forward, DependencyDirection::Reverse);
     answers.push("listed", listed_text(alloc, one, forward)?)?;
     answers.push("reversed", listed_text(alloc, one, reverse)?)?;
-    let roots = one.root_ids(alloc, forward)?;
-    answers.push("roots", ids_text(alloc, &roots)?)?;
-    let ends = one.root_ids(alloc, reverse)?;
-    answers.push("ends", ids_text(alloc, &ends)?)
+    answers.push("roots", roots_text(alloc, one, forward)?)?;
+    answers.push("ends", roots_text(alloc, one, reverse)?)
+}
+
+fn roots_text(
+    alloc: Global,
+    set: &FeatureSet<'_>,
+    direction: DependencyDirection,
+) -> Result<String, AllocError> {
+    let roots = set.root_ids(alloc, direction)?;
+    ids_text(alloc, &roots)
 }
 
 fn listed_text(
@@ -108,17 +121,25 @@ fn ids_text(alloc: Global, ids: &[FeatureId<'_>]) -> Result<String, AllocError> 
 }
 
 fn tell_links(alloc: Global, one: &FeatureSet<'_>, answers: &mut Answers) -> Result<(), RowFault> {
-    let mut inside = String::new(alloc);
+    answers.push("inside", inside_text(alloc, one)?)?;
+    answers.push("conditional", conditional_text(alloc, one)?)
+}
+
+fn inside_text(alloc: Global, one: &FeatureSet<'_>) -> Result<String, AllocError> {
+    let mut text = String::new(alloc);
     for (from, to, _) in one.links(alloc)? {
         let word = format!(in alloc; "{from}>{to}")?;
-        push_word(&mut inside, word.as_str())?;
+        push_word(&mut text, word.as_str())?;
     }
-    answers.push("inside", inside)?;
-    let mut conditional = String::new(alloc);
+    Ok(text)
+}
+
+fn conditional_text(alloc: Global, one: &FeatureSet<'_>) -> Result<String, AllocError> {
+    let mut text = String::new(alloc);
     for link in one.conditional_links(alloc)? {
         let (from, to) = (link.from().feature_id(), link.to().feature_id());
         let word = format!(in alloc; "{from}>{to}")?;
-        push_word(&mut conditional, word.as_str())?;
+        push_word(&mut text, word.as_str())?;
     }
-    answers.push("conditional", conditional)
+    Ok(text)
 }
