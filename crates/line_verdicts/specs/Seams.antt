@@ -1,6 +1,6 @@
--- How the edges of a feature graph, with a verdict on lines, and the rules of its record close the same sets. This is
--- stated here, and no call promises it yet.
-use Rattle.std.specs.Prelude.{◌≡◌, ◌↔◌, Bool, true, false, ◌||◌, List, [], ◌++◌, All, AllPairs, Contains, IsTrue, ◌≢◌}
+-- How the edges of a feature graph, with a verdict on lines, close the same sets as what the rows demand, which a law promises,
+-- and as the rules of its record, which is stated here, and no call promises it yet.
+use Rattle.std.specs.Prelude.{ℕ, ◌≡◌, ◌↔◌, Bool, true, false, ◌||◌, List, [], ◌++◌, All, AllPairs, Contains, IsTrue, ◌≢◌}
 use Rattle.std.specs.List.{flat_map}
 use Rattle.numbered_graph.specs.declared.direction.Direction.TheVariants.{Forward}
 use Rattle.numbered_offers.specs.declared.offer.Offer.{Offer}
@@ -14,9 +14,12 @@ use Rattle.feature_account.specs.RuleList.{base_rules, entry_rules, link_rules}
 use Rattle.feature_account.specs.declared.rule.Premises.{Premises}
 use Rattle.feature_account.specs.declared.rule.Premises.TheVariants.{None, One, Two}
 use Rattle.feature_account.specs.declared.rule.Rule.{Rule}
+use Rattle.guppy_feature_demands.specs.Demands.{demands_of, kept_demands}
+use Rattle.guppy_feature_demands.specs.Nodes.{nodes_of}
 use Rattle.guppy_feature_nodes.specs.Graphs.{FeatureGraphValue, IsFeatureGraph, feature_at}
 use Rattle.guppy_feature_nodes.specs.Offering.{offers_of}
 use Rattle.guppy_feature_graph.specs.Links.{link_of}
+use Rattle.line_verdicts.specs.Demands.{AreDemandsClosed}
 use Rattle.line_verdicts.specs.Verdicts.{HasCountingLine}
 
 -- the rules that hold under each choice
@@ -51,6 +54,16 @@ pub record IsGraphOf (w : Workspace) (g : FeatureGraphValue) : Type 0 where
   pub links : g.rows.links ≡ w.links
   pub workspace : g.rows.workspace ≡ w.workspace
   pub built : IsFeatureGraph g
+
+-- a set of nodes is closed under the edges that lead always and the offers behind which a line counts exactly where it is closed
+-- under what the rows demand
+abbrev pub EdgesCloseAsDemandsDo : Type 0
+EdgesCloseAsDemandsDo =
+    (table : PlatformTable) (g : FeatureGraphValue) (accepts : Offer → Bool) (s : ℕ → Bool)
+    → IsFeatureGraph g
+    → All HasDistinctFeatures g.rows.packages
+    → ((o : Offer) → IsTrue (accepts o) ↔ HasCountingLine table (link_of g o))
+    → AreEdgesClosed Forward (offers_of Forward g) [] accepts (λ v. s v ≡ true) ↔ AreDemandsClosed table g (kept_demands (nodes_of g.rows.packages) (demands_of g.rows.packages g.rows.links)) (nodes_of g.rows.packages) (λ v. s v ≡ true)
 
 -- a set of features is closed under the edges that lead always and the offers behind which a line counts exactly where it is
 -- closed under the rules that hold under each choice

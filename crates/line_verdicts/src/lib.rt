@@ -1,6 +1,7 @@
 //! A visitor of feature graphs that follows a link where a line behind it counts on one platform.
 #![tactic(auto)]
 
+pub mod laws;
 mod line_verdict;
 mod table_platform;
 
