@@ -41,7 +41,7 @@ lined_gives (WeakSlash name) h w k = absurd cc
 lined_gives DependenciesSection h w k = ⊎_elim (λ e. e) (λ r. absurd (Contains-none w r)) (Contains-cons_cases (0, []) [] w k)
 
 -- the lines behind such an edge are those of the demands
-lined_lines : (form : FormValue) → is_lined form ≡ true → (lines : List (ℕ × ℕ)) → edge_lines form lines ≡ lines
+pub lined_lines : (form : FormValue) → is_lined form ≡ true → (lines : List (ℕ × ℕ)) → edge_lines form lines ≡ lines
 lined_lines FeatureToBase h lines = absurd cc
 lined_lines NamedFeature h lines = absurd cc
 lined_lines NamedFeatureDepColon h lines = absurd cc

@@ -30,7 +30,7 @@ use Rattle.guppy_feature_nodes.proofs.EdgeFacts.{below}
 use Rattle.guppy_feature_graph.specs.Links.{declarations_of, link_of}
 use Rattle.line_verdicts.specs.Demands.{AreDemandsClosed, CountsAt, Waits, is_firm, is_lined}
 use Rattle.line_verdicts.specs.Verdicts.{HasCountingLine}
-use Rattle.line_verdicts.proofs.AlongFacts.{crossed}
+use Rattle.line_verdicts.proofs.AlongFacts.{crossed, lined_lines}
 use Rattle.line_verdicts.proofs.JoinFacts.{head_demanded, line_from}
 use Rattle.line_verdicts.proofs.LinedFacts.{lined_joins}
 use Rattle.line_verdicts.proofs.NumberFacts.{as_many, forward, offered_as, offered_at, near_is, far_is}
@@ -46,7 +46,7 @@ sort_cases (StrongSlash name) = inr (inl refl)
 sort_cases (WeakSlash name) = inr (inr (name, refl))
 sort_cases DependenciesSection = inr (inl refl)
 
--- no lines stand behind what leads always, and those that are joined behind what leads by lines
+-- no lines stand behind what leads always
 firm_lines : (form : FormValue) → is_firm form ≡ true → (lines : List (ℕ × ℕ)) → edge_lines form lines ≡ []
 firm_lines FeatureToBase h lines = refl
 firm_lines NamedFeature h lines = refl
@@ -54,14 +54,6 @@ firm_lines NamedFeatureDepColon h lines = refl
 firm_lines (StrongSlash name) h lines = absurd cc
 firm_lines (WeakSlash name) h lines = absurd cc
 firm_lines DependenciesSection h lines = absurd cc
-
-lines_of_lined : (form : FormValue) → is_lined form ≡ true → (lines : List (ℕ × ℕ)) → edge_lines form lines ≡ lines
-lines_of_lined FeatureToBase h lines = absurd cc
-lines_of_lined NamedFeature h lines = absurd cc
-lines_of_lined NamedFeatureDepColon h lines = absurd cc
-lines_of_lined (StrongSlash name) h lines = refl
-lines_of_lined (WeakSlash name) h lines = absurd cc
-lines_of_lined DependenciesSection h lines = refl
 
 module _ (table : PlatformTable) (g : FeatureGraphValue) (ds : List NumberedValue) (joined : List JoinedValue) (joins : AreJoined ds joined) (nodes : List FeatureValue) (values : g.edges ≡ map (edge_value nodes) joined) where
   -- an edge with a number is joined
@@ -88,7 +80,7 @@ module _ (table : PlatformTable) (g : FeatureGraphValue) (ds : List NumberedValu
     -- along an edge that leads by lines, by one that counts
     lined_edge : (e : JoinedValue) → Contains joined e → is_lined e.head.form ≡ true → (x : ℕ × ℕ) → Contains (edge_lines e.head.form e.lines) x → CountsAt table g e.head.from x → holds e.head.from → holds e.head.to
     lined_edge e listed lined x behind c here =
-        let (d, demanded, same, is) = line_from ds joined joins e listed x (subst (λ ls. Contains ls x) (lines_of_lined e.head.form lined e.lines) behind) in
+        let (d, demanded, same, is) = line_from ds joined joins e listed x (subst (λ ls. Contains ls x) (lined_lines e.head.form lined e.lines) behind) in
         let from : e.head.from ≡ d.from = ap (λ (q : Key). q.0.0) same in
         let leads = lined_joins d.form e.head.form (sym (ap (λ (q : Key). q.1) same)) lined in
         subst holds (sym (ap (λ (q : Key). q.0.1) same)) (closed.lined d demanded leads x is (subst (λ n. CountsAt table g n x) from c) (subst holds from here))

@@ -27,7 +27,7 @@ firm_stays (WeakSlash name) h = absurd cc
 firm_stays DependenciesSection h = absurd cc
 
 -- a sort is that of what leads always
-abbrev firm_sort : ℕ → Bool
+abbrev pub firm_sort : ℕ → Bool
 firm_sort zero = true
 firm_sort (suc n) = false
 

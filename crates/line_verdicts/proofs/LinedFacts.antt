@@ -4,6 +4,7 @@ use Rattle.workspace_record.specs.Records.{Text}
 use Rattle.guppy_feature_demands.specs.Demands.{FormValue, FeatureToBase, NamedFeature, NamedFeatureDepColon, StrongSlash, WeakSlash, DependenciesSection}
 use Rattle.guppy_feature_edges.specs.Joining.{join_sort, weight}
 use Rattle.line_verdicts.specs.Demands.{is_firm, is_lined}
+use Rattle.line_verdicts.proofs.FreeFacts.{firm_sort}
 
 -- a sort is that of such a demand
 abbrev lined_sort : ℕ → Bool
@@ -24,11 +25,7 @@ pub lined_joins : (a b : FormValue) → join_sort a ≡ join_sort b → is_lined
 lined_joins a b e h = sym (lined_by_sort a) ∙ ap (λ (q : ℕ × Text). lined_sort q.0) e ∙ lined_by_sort b ∙ h
 
 -- a weight of the first sort is that of what leads always
-abbrev firm_weight : ℕ → Bool
-firm_weight zero = true
-firm_weight (suc n) = false
-
-firm_by_weight : (form : FormValue) → firm_weight (weight form).0 ≡ is_firm form
+firm_by_weight : (form : FormValue) → firm_sort (weight form).0 ≡ is_firm form
 firm_by_weight FeatureToBase = refl
 firm_by_weight NamedFeature = refl
 firm_by_weight NamedFeatureDepColon = refl
@@ -37,4 +34,4 @@ firm_by_weight (WeakSlash name) = refl
 firm_by_weight DependenciesSection = refl
 
 pub weighs_firm : (form : FormValue) → weight form ≡ (0, []) → is_firm form ≡ true
-weighs_firm form e = sym (firm_by_weight form) ∙ ap (λ (q : ℕ × Text). firm_weight q.0) e
+weighs_firm form e = sym (firm_by_weight form) ∙ ap (λ (q : ℕ × Text). firm_sort q.0) e
