@@ -52,9 +52,15 @@ impl Hash for LinkName<'_> {
 }
 
 /// The links of each name.
-#[derive(Drop)]
 pub(crate) struct LinkNames<'g> {
     groups: IndexMap<LinkName<'g>, Vec<LinkAt<'g>>>,
+}
+
+// Written out, so that a function that lets one go takes one step.
+impl Drop for LinkNames<'_> {
+    fn drop(self) {
+        let LinkNames { groups: _ } = self;
+    }
 }
 
 impl<'g> LinkNames<'g> {

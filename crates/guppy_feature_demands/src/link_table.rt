@@ -11,10 +11,16 @@ use std::alloc::{AllocError, Global};
 use std::marker::Model;
 
 /// Links with their numbers.
-#[derive(Drop)]
 pub(crate) struct LinkTable<'g> {
     all: Vec<LinkAt<'g>>,
     names: LinkNames<'g>,
+}
+
+// Written out, so that a function that lets one go takes one step.
+impl Drop for LinkTable<'_> {
+    fn drop(self) {
+        let LinkTable { all: _, names: _ } = self;
+    }
 }
 
 impl<'g> Model for LinkTable<'g> {

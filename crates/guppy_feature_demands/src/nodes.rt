@@ -17,9 +17,15 @@ use std::alloc::{AllocError, Global};
 use std::marker::Model;
 
 /// Features, each with its number: its place in the list.
-#[derive(Drop)]
 pub struct NodeTable<'g> {
     ids: IndexSet<FeatureId<'g>>,
+}
+
+// Written out, so that a function that lets one go takes one step.
+impl Drop for NodeTable<'_> {
+    fn drop(self) {
+        let NodeTable { ids: _ } = self;
+    }
 }
 
 impl<'g> Model for NodeTable<'g> {

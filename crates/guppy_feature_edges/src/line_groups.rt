@@ -11,10 +11,19 @@ use std::alloc::{AllocError, Global};
 use std::marker::Model;
 
 /// Demands, with the lines of those that join in one edge at hand.
-#[derive(Drop)]
 pub(crate) struct LineGroups<'a, 'g> {
     demands: &'a [NumberedDemand<'g>],
     lines: LineMap<'g>,
+}
+
+// Written out, so that a function that lets one go takes one step.
+impl Drop for LineGroups<'_, '_> {
+    fn drop(self) {
+        let LineGroups {
+            demands: _,
+            lines: _,
+        } = self;
+    }
 }
 
 impl<'a, 'g> Model for LineGroups<'a, 'g> {

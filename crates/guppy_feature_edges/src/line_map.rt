@@ -14,9 +14,15 @@ use indexmap::IndexMap;
 use std::alloc::{AllocError, Global};
 
 /// The lines of the demands that join so, each told by the number of its link and by its own there.
-#[derive(Drop)]
 pub(crate) struct LineMap<'g> {
     pub map: IndexMap<EdgeKey<'g>, Vec<(usize, usize)>>,
+}
+
+// Written out, so that a function that lets one go takes one step.
+impl Drop for LineMap<'_> {
+    fn drop(self) {
+        let LineMap { map: _ } = self;
+    }
 }
 
 pub(crate) fn line_map<'g>(

@@ -13,20 +13,43 @@ use std::alloc::{AllocError, Global};
 use workspace_record::LineKind;
 
 /// All lines behind an edge, the required ones, and the optional ones.
-#[derive(Debug, Drop)]
+#[derive(Debug)]
 pub(crate) struct EdgeLines {
     pub unsplit: LinesShown,
     pub required: LinesShown,
     pub optional: LinesShown,
 }
 
+// Written out, so that a function that lets one go takes one step.
+impl Drop for EdgeLines {
+    fn drop(self) {
+        let EdgeLines {
+            unsplit: _,
+            required: _,
+            optional: _,
+        } = self;
+    }
+}
+
 /// The links of lines, each once, and the lines of each kind, in the order of the record.
-#[derive(Debug, Drop)]
+#[derive(Debug)]
 pub(crate) struct LinesShown {
     pub links: IndexSet<usize>,
     pub normal: Vec<(usize, usize)>,
     pub build: Vec<(usize, usize)>,
     pub dev: Vec<(usize, usize)>,
+}
+
+// Written out, so that a function that lets one go takes one step.
+impl Drop for LinesShown {
+    fn drop(self) {
+        let LinesShown {
+            links: _,
+            normal: _,
+            build: _,
+            dev: _,
+        } = self;
+    }
 }
 
 impl EdgeLines {

@@ -29,7 +29,6 @@ use std::marker::Model;
 use workspace_record::LineKind;
 
 /// The features of a package graph's packages, numbered from 0, and the edges between them.
-#[derive(Drop)]
 pub struct FeatureGraphData<'g> {
     graph: &'g PackageGraph,
     nodes: NodeTable<'g>,
@@ -38,6 +37,21 @@ pub struct FeatureGraphData<'g> {
     orders: Orders,
     forward: OfferGraph,
     reverse: OfferGraph,
+}
+
+// Written out, so that a function that lets one go takes one step.
+impl Drop for FeatureGraphData<'_> {
+    fn drop(self) {
+        let FeatureGraphData {
+            graph: _,
+            nodes: _,
+            edges: _,
+            warnings: _,
+            orders: _,
+            forward: _,
+            reverse: _,
+        } = self;
+    }
 }
 
 // What is made of the rows.

@@ -25,11 +25,21 @@ const DEFAULT: &str = "default";
 
 /// The graph of the edges' ends, all nodes in the order in which they are listed, and the default
 /// features.
-#[derive(Drop)]
 pub(crate) struct Orders {
     pub graph: Graph,
     pub listing: Vec<usize>,
     pub defaults: NodeSet,
+}
+
+// Written out, so that a function that lets one go takes one step.
+impl Drop for Orders {
+    fn drop(self) {
+        let Orders {
+            graph: _,
+            listing: _,
+            defaults: _,
+        } = self;
+    }
 }
 
 pub(crate) fn orders_of(

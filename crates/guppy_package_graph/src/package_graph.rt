@@ -24,10 +24,19 @@ use std::marker::Model;
 
 /// The packages of a workspace and the links between them: the rows of a record that keeps the rules
 /// on packages, links and members.
-#[derive(Drop)]
 pub struct PackageGraph {
     table: PackageTable,
     members: MemberOrders,
+}
+
+// Written out, so that a function that lets one go takes one step.
+impl Drop for PackageGraph {
+    fn drop(self) {
+        let PackageGraph {
+            table: _,
+            members: _,
+        } = self;
+    }
 }
 
 impl Model for PackageGraph {

@@ -19,7 +19,6 @@ use std::alloc::{AllocError, Global};
 
 /// Packages by id, what was read in the rows, the graph of the places of packages with its listing,
 /// and the places of members.
-#[derive(Drop)]
 pub struct Indices {
     pub ids: IndexSet<PackageId>,
     pub versions: Vec<Version>,
@@ -28,6 +27,21 @@ pub struct Indices {
     pub graph: Graph,
     pub listing: Vec<usize>,
     pub members: Members,
+}
+
+// Written out, so that a function that lets one go takes one step.
+impl Drop for Indices {
+    fn drop(self) {
+        let Indices {
+            ids: _,
+            versions: _,
+            requirements: _,
+            rust_names: _,
+            graph: _,
+            listing: _,
+            members: _,
+        } = self;
+    }
 }
 
 pub fn indices_of(

@@ -24,12 +24,23 @@ use std::alloc::{AllocError, Global};
 use std::marker::Model;
 
 /// The rows of a package graph: packages and links are told by their places in the lists.
-#[derive(Drop)]
 pub struct PackageTable {
     packages: Vec<PackageRow>,
     links: Vec<LinkRow>,
     workspace: WorkspaceRow,
     indices: Indices,
+}
+
+// Written out, so that a function that lets one go takes one step.
+impl Drop for PackageTable {
+    fn drop(self) {
+        let PackageTable {
+            packages: _,
+            links: _,
+            workspace: _,
+            indices: _,
+        } = self;
+    }
 }
 
 impl Model for PackageTable {

@@ -13,12 +13,21 @@ use std::alloc::{AllocError, Global};
 use std::cmp::Ordering;
 
 /// The places of the members in both orders.
-#[derive(Drop)]
 pub struct MemberOrders {
     /// Ascending by the components of their paths.
     pub by_path: Vec<usize>,
     /// Ascending by the names of their packages.
     pub by_name: Vec<usize>,
+}
+
+// Written out, so that a function that lets one go takes one step.
+impl Drop for MemberOrders {
+    fn drop(self) {
+        let MemberOrders {
+            by_path: _,
+            by_name: _,
+        } = self;
+    }
 }
 
 /// The members of a table in both orders.

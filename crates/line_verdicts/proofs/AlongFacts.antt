@@ -23,7 +23,7 @@ use Rattle.guppy_feature_nodes.specs.Graphs.{FeatureGraphValue, feature_at}
 use Rattle.guppy_feature_nodes.specs.Lines.{declares}
 use Rattle.guppy_feature_nodes.specs.Offering.{sort_of}
 use Rattle.guppy_feature_graph.specs.Links.{declarations_of, link_of}
-use Rattle.line_verdicts.specs.Demands.{CountsAt, is_lined}
+use Rattle.demand_rules.specs.Demands.{CountsAt, is_lined}
 use Rattle.line_verdicts.specs.Verdicts.{HasCountingLine}
 use Rattle.line_verdicts.proofs.FreeFacts.{along_firm}
 use Rattle.line_verdicts.proofs.JoinFacts.{GivesWay, JoinsIn, joins_or_gives_way, line_behind}

@@ -28,7 +28,7 @@ use Rattle.guppy_feature_ids.specs.Kinds.{has_optional, has_required}
 use Rattle.guppy_feature_nodes.specs.Offering.{sort_of, weak_sort}
 use Rattle.guppy_feature_nodes.proofs.EdgeFacts.{below}
 use Rattle.guppy_feature_graph.specs.Links.{declarations_of, link_of}
-use Rattle.line_verdicts.specs.Demands.{AreDemandsClosed, CountsAt, Waits, is_firm, is_lined}
+use Rattle.demand_rules.specs.Demands.{AreDemandsClosed, CountsAt, Waits, is_firm, is_lined}
 use Rattle.line_verdicts.specs.Verdicts.{HasCountingLine}
 use Rattle.line_verdicts.proofs.AlongFacts.{crossed, lined_lines}
 use Rattle.line_verdicts.proofs.JoinFacts.{head_demanded, line_from}

@@ -13,7 +13,7 @@ use Rattle.guppy_feature_edges.specs.Joining.{AreJoined, JoinedValue, Key, gives
 use Rattle.guppy_feature_nodes.specs.GraphEdges.{EdgeValue, edge_form, edge_value}
 use Rattle.guppy_feature_nodes.specs.Graphs.{FeatureGraphValue}
 use Rattle.guppy_feature_nodes.specs.Offering.{sort_of}
-use Rattle.line_verdicts.specs.Demands.{is_firm}
+use Rattle.demand_rules.specs.Demands.{is_firm}
 use Rattle.line_verdicts.proofs.JoinFacts.{GivesWay, JoinsIn, joins_or_gives_way}
 use Rattle.line_verdicts.proofs.NumberFacts.{as_many, forward, offered_as, offered_at, near_is, far_is, number_of_edge}
 

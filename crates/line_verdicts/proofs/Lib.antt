@@ -1,17 +1,11 @@
 pub mod InForce
 pub mod Counting
-pub mod EntryFacts
-pub mod RecordFacts
 pub mod JoinFacts
 pub mod NumberFacts
 pub mod FreeFacts
 pub mod PlaceFacts
 pub mod LinedFacts
-pub mod NodeFacts
-pub mod DemandFacts
-pub mod MadeFacts
 pub mod AlongFacts
 pub mod WeakFacts
-pub mod KeptFacts
 pub mod StrongFacts
 pub mod EdgeFacts

@@ -3,7 +3,7 @@ use Rattle.std.proofs.Common.{◌≡◌, ℕ, zero, suc, Bool, true, false, [], 
 use Rattle.workspace_record.specs.Records.{Text}
 use Rattle.guppy_feature_demands.specs.Demands.{FormValue, FeatureToBase, NamedFeature, NamedFeatureDepColon, StrongSlash, WeakSlash, DependenciesSection}
 use Rattle.guppy_feature_edges.specs.Joining.{join_sort, weight}
-use Rattle.line_verdicts.specs.Demands.{is_firm, is_lined}
+use Rattle.demand_rules.specs.Demands.{is_firm, is_lined}
 use Rattle.line_verdicts.proofs.FreeFacts.{firm_sort}
 
 -- a sort is that of such a demand

@@ -7,10 +7,10 @@ use Rattle.feature_account.specs.IsEntry.{IsEntry}
 use Rattle.feature_account.specs.IsRule.{HasEntry}
 use Rattle.guppy_feature_demands.specs.Demands.{DemandValue, StrongSlash, WeakSlash, NumberedValue, demands_of, kept_demands, leads_by}
 use Rattle.guppy_feature_demands.specs.Nodes.{named_of, nodes_of}
-use Rattle.line_verdicts.specs.Seams.{HasDistinctFeatures}
-use Rattle.line_verdicts.proofs.DemandFacts.{IsDemand, IsPlaced, demand_cases, to_base, to_own, to_dependency, strong_dependency, strong_name, strong_line, weak_line, by_line}
-use Rattle.line_verdicts.proofs.KeptFacts.{kept, kept_cases, same_number}
-use Rattle.line_verdicts.proofs.MadeFacts.{is_demanded}
+use Rattle.demand_rules.specs.RecordGraphs.{HasDistinctFeatures}
+use Rattle.demand_rules.proofs.DemandFacts.{IsDemand, IsPlaced, demand_cases, to_base, to_own, to_dependency, strong_dependency, strong_name, strong_line, weak_line, by_line}
+use Rattle.demand_rules.proofs.KeptFacts.{kept, kept_cases, same_number}
+use Rattle.demand_rules.proofs.MadeFacts.{is_demanded}
 use Rattle.line_verdicts.proofs.WeakFacts.{StrongToo}
 
 module _ (packages : List Package) (links : List Link) where

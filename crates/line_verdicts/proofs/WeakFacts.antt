@@ -22,7 +22,7 @@ use Rattle.guppy_feature_nodes.specs.Graphs.{FeatureGraphValue}
 use Rattle.guppy_feature_nodes.specs.Lines.{declares, declares_at, is_declared}
 use Rattle.guppy_feature_nodes.specs.Offering.{sort_of, weak_sort}
 use Rattle.guppy_feature_graph.specs.Links.{link_of}
-use Rattle.line_verdicts.specs.Demands.{CountsAt, Waits}
+use Rattle.demand_rules.specs.Demands.{CountsAt, Waits}
 use Rattle.line_verdicts.specs.Verdicts.{HasCountingLine}
 use Rattle.line_verdicts.proofs.AlongFacts.{along_lined, along_offer, crossed}
 use Rattle.line_verdicts.proofs.FreeFacts.{along_firm}

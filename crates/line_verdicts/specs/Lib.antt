@@ -1,3 +1,2 @@
-pub mod Verdicts
-pub mod Demands
 pub mod Seams
+pub mod Verdicts

@@ -63,8 +63,13 @@ pub fn parse_with_faults(
 {
     let mut faults = FaultList::new(alloc);
     let (tree, end) = tree_from(alloc, text, 256, 2, 0, &mut faults)?;
-    expect_end(text, end, &mut faults)?;
-    Ok((tree, faults.list))
+    match expect_end(text, end, &mut faults) {
+        Ok(()) => Ok((tree, faults.list)),
+        Err(refused) => {
+            drop(tree);
+            Err(refused)
+        }
+    }
 }
 
 impl ParsedExpr<SourceSpan> {

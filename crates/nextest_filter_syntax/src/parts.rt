@@ -57,6 +57,23 @@ pub(crate) fn in_parens(
     }
 }
 
+/// Two expressions, each in memory of its own.
+fn both_boxed(
+    alloc: Global,
+    left: ParsedExpr,
+    right: ParsedExpr,
+) -> Result<(Box<ParsedExpr>, Box<ParsedExpr>), AllocError>
+    ensures { IfOk result (λ r. (r.0.value ≡ left) × (r.1.value ≡ right)) }
+{
+    match Box::new(alloc, left) {
+        Ok(left) => Ok((left, Box::new(alloc, right)?)),
+        Err(refused) => {
+            drop(right);
+            Err(AllocError::from(refused))
+        }
+    }
+}
+
 /// Two expressions, joined by the operator between them.
 fn joined_by(
     alloc: Global,
@@ -67,8 +84,7 @@ fn joined_by(
     ensures value { IfOk result (λ x. tree_of x ≡ joined_of op (tree_of left) (tree_of right)) }
     ensures as_written { IsExprAsWritten left → IsExprAsWritten right → IfOk result IsExprAsWritten }
 {
-    let left = Box::new(alloc, left)?;
-    let right = Box::new(alloc, right)?;
+    let (left, right) = both_boxed(alloc, left, right)?;
     match op {
         Operator::Or(op) => Ok(ParsedExpr::Union(op, left, right)),
         Operator::And(op) => Ok(ParsedExpr::Intersection(op, left, right)),
@@ -89,15 +105,14 @@ pub(crate) fn joined(
     ensures value { IfOk result (λ r. part_of r ≡ joined_part found (part_of left) (part_of right)) }
     ensures as_written { IfSome left IsExprAsWritten → IfSome right IsExprAsWritten → IfOk result (λ r. IfSome r IsExprAsWritten) }
 {
-    let Found::Right(op, _) = found else {
+    let Some((left, right)) = left.zip(right) else {
         return Ok(None);
     };
-    let Some(left) = left else {
-        return Ok(None);
-    };
-    let Some(right) = right else {
-        return Ok(None);
-    };
-    let expr = joined_by(alloc, op, left, right)?;
-    Ok(Some(expr))
+    match found {
+        Found::Right(op, _) => Ok(Some(joined_by(alloc, op, left, right)?)),
+        _ => {
+            drop((left, right));
+            Ok(None)
+        }
+    }
 }

@@ -133,9 +133,13 @@ fn closed_parens(
 {
     let span = SourceSpan { offset: at, len: 0 };
     let fault = ParseSingleError::ExpectedCloseParenthesis(span);
-    let after = expect_byte(text, at, b')', fault, faults)?;
-    let tree = in_parens(alloc, tree)?;
-    Ok((tree, after))
+    match expect_byte(text, at, b')', fault, faults) {
+        Ok(after) => Ok((in_parens(alloc, tree)?, after)),
+        Err(refused) => {
+            drop(tree);
+            Err(refused)
+        }
+    }
 }
 
 /// A part of a filter of a level from a place on, `None` where it is spoiled, and the place after it.

@@ -46,10 +46,20 @@ impl Model for NamedBinary {
 }
 
 /// The packages of a context, and their binaries.
-#[derive(Debug, Drop)]
+#[derive(Debug)]
 pub(crate) struct ContextNames {
     pub(crate) packages: Vec<NamedPackage>,
     pub(crate) binaries: Vec<NamedBinary>,
+}
+
+// Written out, so that a function that lets one go takes one step.
+impl Drop for ContextNames {
+    fn drop(self) {
+        let ContextNames {
+            packages: _,
+            binaries: _,
+        } = self;
+    }
 }
 
 impl ContextNames {

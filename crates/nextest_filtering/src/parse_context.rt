@@ -14,10 +14,16 @@ use std::marker::Model;
 
 /// The packages whose names filters are matched against, their binaries, and the graph whose links
 /// `deps` and `rdeps` follow.
-#[derive(Drop)]
 pub struct ParseContext<'g> {
     graph: &'g PackageGraph,
     names: ContextNames,
+}
+
+// Written out, so that a function that lets one go takes one step.
+impl Drop for ParseContext<'_> {
+    fn drop(self) {
+        let ParseContext { graph: _, names: _ } = self;
+    }
 }
 
 impl<'g> Model for ParseContext<'g> {

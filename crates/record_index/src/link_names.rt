@@ -56,9 +56,15 @@ pub struct LentLink<'a> {
 }
 
 /// The links of each name.
-#[derive(Drop)]
 pub(crate) struct LinkNames<'a> {
     groups: IndexMap<LinkName<'a>, Vec<LentLink<'a>>>,
+}
+
+// Written out, so that a function that lets one go takes one step.
+impl Drop for LinkNames<'_> {
+    fn drop(self) {
+        let LinkNames { groups: _ } = self;
+    }
 }
 
 impl<'a> LinkNames<'a> {

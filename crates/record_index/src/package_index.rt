@@ -10,11 +10,21 @@ use std::marker::Model;
 use workspace_record::PackageRecord;
 
 /// A package of a record.
-#[derive(Drop)]
 pub struct PackageIndex<'a> {
     row: &'a PackageRecord,
     features: IndexSet<&'a str>,
     optional: IndexSet<&'a str>,
+}
+
+// Written out, so that a function that lets one go takes one step.
+impl Drop for PackageIndex<'_> {
+    fn drop(self) {
+        let PackageIndex {
+            row: _,
+            features: _,
+            optional: _,
+        } = self;
+    }
 }
 
 impl<'a> Model for PackageIndex<'a> {

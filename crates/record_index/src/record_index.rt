@@ -15,12 +15,23 @@ use std::marker::Model;
 use workspace_record::WorkspaceRecord;
 
 /// A record, whose packages, members and links are found by a map. In contracts it is the record.
-#[derive(Drop)]
 pub struct RecordIndex<'a> {
     record: &'a WorkspaceRecord,
     packages: IndexMap<&'a str, PackageIndex<'a>>,
     members: IndexSet<&'a str>,
     links: LinkNames<'a>,
+}
+
+// Written out, so that a function that lets one go takes one step.
+impl Drop for RecordIndex<'_> {
+    fn drop(self) {
+        let RecordIndex {
+            record: _,
+            packages: _,
+            members: _,
+            links: _,
+        } = self;
+    }
 }
 
 impl<'a> Model for RecordIndex<'a> {

@@ -1,12 +1,1 @@
-pub mod ChoosingFacts
-pub mod FilteringFacts
-pub mod KeptFacts
-pub mod KnownFacts
-pub mod MayFacts
 pub mod OrderFacts
-pub mod PassFacts
-pub mod PlanFacts
-pub mod SelectingFacts
-pub mod SomeFacts
-pub mod WantedFacts
-pub mod ReadingFacts

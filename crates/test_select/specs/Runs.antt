@@ -6,10 +6,10 @@ use Rattle.workspace_record.specs.declared.kinds.Standard.TheVariants as standar
 use Rattle.workspace_record.specs.declared.choice.PlatformTable.{PlatformTable}
 use Rattle.test_lister.specs.Listers.{Shown}
 use Rattle.record_checks.specs.declared.select_error.SelectError.{SelectError}
-use Rattle.test_select.specs.Selecting.{Answers}
-use Rattle.test_select.specs.Selections.{Selected}
-use Rattle.test_select.specs.declared.asked_binaries.AskedBinaries.{AskedBinaries}
-use Rattle.test_select.specs.declared.scope.LinkScope.TheVariants as scope
+use Rattle.selection_making.specs.Selecting.{Answers}
+use Rattle.selection_making.specs.Selections.{Selected}
+use Rattle.selection_making.specs.declared.asked_binaries.AskedBinaries.{AskedBinaries}
+use Rattle.question_filters.specs.declared.scope.LinkScope.TheVariants as scope
 
 -- nothing is known of the platform, and what is unknown counts
 pub record KnowsNothing (table : PlatformTable) : Type 0 where

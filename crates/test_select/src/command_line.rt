@@ -1,7 +1,7 @@
 //! The command line, as `clap` reads it.
 
-use crate::asked_binaries::AskedBinaries;
 use clap::{Arg, ArgAction, ArgMatches, Command};
+use selection_making::AskedBinaries;
 use std::alloc::{AllocError, Global};
 
 /// The program's command, with a subcommand for each thing that it does.

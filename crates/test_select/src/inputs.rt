@@ -11,15 +11,25 @@ use crate::unknown_platform::nothing_known;
 use record_files::{ReadError, read_account, read_choice, read_listings, read_record, read_table};
 use std::alloc::Global;
 use std::collections::BTreeMap;
-use test_lister::Listing;
+use test_lister::{FileLister, Listing};
 use workspace_record::{FeatureChoice, PlatformTable, Standard, WorkspaceRecord};
 
 /// What the command `tests` works on.
-#[derive(Drop)]
 pub(crate) struct TestsInputs {
     pub(crate) record: WorkspaceRecord,
     pub(crate) choice: FeatureChoice,
-    pub(crate) listings: BTreeMap<String, Listing>,
+    pub(crate) lister: FileLister,
+}
+
+// Written out, so that a function that lets one go takes one step.
+impl Drop for TestsInputs {
+    fn drop(self) {
+        let TestsInputs {
+            record: _,
+            choice: _,
+            lister: _,
+        } = self;
+    }
 }
 
 /// Reads and decodes the record, then the choice, then the listings. The first file that fails ends
@@ -33,20 +43,30 @@ pub(crate) fn tests_inputs<'a>(
 {
     let record = record_in(alloc, names.record, files)?;
     let choice = choice_in(alloc, names.choice, files)?;
-    let listings = listings_in(alloc, names.listings, files)?;
+    let lister = FileLister::new(alloc, listings_in(alloc, names.listings, files)?);
     Ok(TestsInputs {
         record,
         choice,
-        listings,
+        lister,
     })
 }
 
 /// What is asked on features.
-#[derive(Drop)]
 pub(crate) struct FeatureQuestion {
     pub(crate) record: WorkspaceRecord,
     pub(crate) choice: FeatureChoice,
     pub(crate) table: PlatformTable,
+}
+
+// Written out, so that a function that lets one go takes one step.
+impl Drop for FeatureQuestion {
+    fn drop(self) {
+        let FeatureQuestion {
+            record: _,
+            choice: _,
+            table: _,
+        } = self;
+    }
 }
 
 /// Reads and decodes the record, then the choice, then the table. The first file that fails ends the

@@ -3,38 +3,23 @@
 #![tactic(auto)]
 
 mod accounts;
-mod asked_binaries;
-mod asked_queries;
-mod asking;
 mod command_line;
-mod evaluation;
 mod failure;
 mod file_source;
-mod filtering;
 mod inputs;
-pub mod laws;
 mod order;
-mod plan;
 mod program;
-mod question_filters;
-mod report;
-mod scope;
-mod selecting;
-mod selection;
 mod unknown_platform;
 
 pub use crate::file_source::{FileFault, FileSource};
 pub use crate::order::{package_order, write_order};
 pub use crate::program::run;
-pub use crate::report::write_report;
-pub use crate::scope::LinkScope;
-pub use crate::selecting::{select, select_plain};
-pub use crate::selection::Selection;
 pub use feature_account::{
     Feature, FeatureChoice, FeatureRecord, GroupRecord, Label, LineKind, LineRecord, LinkRecord,
     MemberRecord, PackageInfo, PackageRecord, PlatformTable, Standard, TargetInfo, TargetKind,
     TargetRecord, Verdict, WorkspaceInfo, WorkspaceRecord, check_account,
 };
+pub use question_filters::LinkScope;
 pub use record_checks::{
     Account, FeaturesOn, GroupTable, ParseSingleError, RecordError, RecordRule, SelectError,
     SourceSpan, WriteAccountError, account, check_record, features_on, write_account,
@@ -42,6 +27,7 @@ pub use record_checks::{
 pub use record_files::{
     Field, Key, ReadError, read_account, read_choice, read_listings, read_record, read_table,
 };
+pub use selection_making::{Selection, laws, select, select_plain, write_report};
 pub use test_lister::{
     BinaryInfo, BuildPlatform, FileLister, ListFault, Listing, ListingFault, TestLister,
 };

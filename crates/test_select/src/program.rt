@@ -9,13 +9,12 @@ use crate::failure::Failure;
 use crate::file_source::FileSource;
 use crate::inputs::tests_inputs;
 use crate::order::print_order;
-use crate::report::write_report;
 use crate::unknown_platform::select_on_unknown_platform;
 use clap::ArgMatches;
+use selection_making::write_report;
 use std::alloc::Global;
 use std::convert::AsStr;
 use std::io::Write;
-use test_lister::FileLister;
 
 /// Runs the program on a command line, whose first word is the program's name, and answers the
 /// status that it ends with: 0 if all was done, 1 if something was refused or failed, and 2 for a
@@ -96,8 +95,7 @@ fn print_tests<'a, O: Write>(
 ) -> Result<(), Failure<'a>>
     ensures { IfErr result (λ f. status_of f ≡ 1) }
 {
-    let inputs = tests_inputs(alloc, tests_files(asked), files)?;
-    let mut lister = FileLister::new(alloc, inputs.listings);
+    let mut inputs = tests_inputs(alloc, tests_files(asked), files)?;
     let (record, choice) = (&inputs.record, &inputs.choice);
     let selection = select_on_unknown_platform(
         alloc,
@@ -105,7 +103,7 @@ fn print_tests<'a, O: Write>(
         choice,
         filters_in(asked),
         asked_binaries(asked),
-        &mut lister,
+        &mut inputs.lister,
     )?;
     write_report(&selection, out)?;
     Ok(())

@@ -3,12 +3,10 @@
 ghost use Rattle.std.specs.Prelude.{map};
 ghost use Rattle.test_select.specs.Runs.{KnowsNothing, AnswersOnUnknownPlatform};
 
-use crate::asked_binaries::AskedBinaries;
-use crate::scope::LinkScope;
-use crate::selecting::{select, select_plain};
-use crate::selection::Selection;
 use indexmap::IndexMap;
+use question_filters::LinkScope;
 use record_checks::SelectError;
+use selection_making::{AskedBinaries, Selection, select, select_plain};
 use std::alloc::Global;
 use test_lister::TestLister;
 use workspace_record::{FeatureChoice, PlatformTable, WorkspaceRecord};

@@ -5,11 +5,11 @@ use Rattle.nextest_filter_syntax.proofs.OperatorFacts.{whole_ends}
 use Rattle.nextest_filter_syntax.proofs.StepFacts.{all_faults, built_whole, spoiled_grows, whole_exact, whole_tree}
 use Rattle.nextest_filter_syntax.proofs.parsing.parse_with_faults.Goals as goal
 
-pub returns-clause-exact : goal.returns-clause-exact
-returns-clause-exact c =
+pub returns-in-Ok-clause-exact : goal.returns-in-Ok-clause-exact
+returns-in-Ok-clause-exact c =
     let text = c.args.text.now in
     let tree = c.in_ok-tree.ensures in
-    let ends = c.in_ok-expect_end.ensures in
+    let ends = c.in-Ok.ensures in
     let faults = c.expect_end.new.faults.list.items in
     whole_exact text c.in_ok-tree.tree c.expect_end.new.faults.list.len (others faults) (refusals faults) (all_faults faults ∙ sym c.expect_end.new.faults.list.ok.0) (spoiled_grows c.in_ok-tree.tree _ _ tree.spoiled ends.grows) (built_whole c.in_ok-tree.tree _ _ _ (ap refusals c.new-faults.ensures) ends.refusals tree.refusals) (λ clean.
     let w = tree.read (omega (arith, clean, ends.others)) in
@@ -17,11 +17,11 @@ returns-clause-exact c =
     let w = tree.only (ap others c.new-faults.ensures) t whole.0 whole.1 (whole_ends text whole.0 2 whole.2) in
     ends.only w.1 (ap (skip text) w.0 ∙ whole.2))
 
-pub returns-clause-reads : goal.returns-clause-reads
-returns-clause-reads c =
+pub returns-in-Ok-clause-reads : goal.returns-in-Ok-clause-reads
+returns-in-Ok-clause-reads c =
     let text = c.args.text.now in
     let tree = c.in_ok-tree.ensures in
-    let ends = c.in_ok-expect_end.ensures in (
+    let ends = c.in-Ok.ensures in (
       λ clean.
           let w = tree.read (omega (arith, clean, ends.others)) in
           (w.0, (c.in_ok-tree.end, w.1, ends.read clean)),
@@ -31,12 +31,12 @@ returns-clause-reads c =
           ends.only w.1 (ap (skip text) w.0 ∙ whole.2),
     )
 
-pub returns-clause-tree : goal.returns-clause-tree
-returns-clause-tree c t whole =
+pub returns-in-Ok-clause-tree : goal.returns-in-Ok-clause-tree
+returns-in-Ok-clause-tree c t whole =
     let text = c.args.text.now in
     let tree = c.in_ok-tree.ensures.only (ap others c.new-faults.ensures) t whole.0 whole.1 (whole_ends text whole.0 2 whole.2) in
     whole_tree text c.in_ok-tree.end c.in_ok-tree.tree t (c.in_ok-tree.ensures.read tree.1) (ap (skip text) tree.0 ∙ whole.2) whole
 
-pub returns-clause-built : goal.returns-clause-built
-returns-clause-built c =
-    built_whole c.in_ok-tree.tree _ _ _ (ap refusals c.new-faults.ensures) c.in_ok-expect_end.ensures.refusals c.in_ok-tree.ensures.refusals
+pub returns-in-Ok-clause-built : goal.returns-in-Ok-clause-built
+returns-in-Ok-clause-built c =
+    built_whole c.in_ok-tree.tree _ _ _ (ap refusals c.new-faults.ensures) c.in-Ok.ensures.refusals c.in_ok-tree.ensures.refusals

@@ -1,0 +1,13 @@
+pub mod FirstFacts
+pub mod EntryFacts
+pub mod RecordFacts
+pub mod NodeFacts
+pub mod DemandFacts
+pub mod MadeFacts
+pub mod KeptFacts
+pub mod StandingFacts
+pub mod StartFacts
+pub mod CountFacts
+pub mod RulesToDemands
+pub mod DemandsToRules
+pub mod ChosenFacts

@@ -1,0 +1,4 @@
+pub mod Demands
+pub mod RecordGraphs
+pub mod Rules
+pub mod Seams

@@ -1,0 +1,3 @@
+pub mod FilteringFacts
+pub mod KnownFacts
+pub mod SomeFacts

@@ -1,0 +1,4 @@
+pub mod Errors
+pub mod Filtering
+pub mod Following
+pub mod QuestionFilters

@@ -1,0 +1,181 @@
+//! The filters of a question, compiled over what its members need.
+
+ghost use Rattle.std.specs.Prelude.{◌≡◌, ◌∷◌, [], IfOk, map};
+ghost use Rattle.guppy_package_table.specs.Tables.{ids_of};
+ghost use Rattle.nextest_filter_evaluation.specs.Compiled as compiled;
+ghost use Rattle.nextest_filter_evaluation.specs.Compiled.{compiled_of};
+ghost use Rattle.nextest_filter_evaluation.specs.Formulas.{leaf};
+ghost use Rattle.nextest_filter_queries.specs.Groups.{AreKnown};
+ghost use Rattle.record_checks.specs.CompiledViews.{filters_view};
+ghost use Rattle.record_checks.specs.RecordFilters.{AreCompiledOf};
+ghost use Rattle.record_checks.specs.Contexts.{HasNamesOf, IsDeclaredGraph};
+ghost use Rattle.question_filters.specs.Errors.{text_error_of};
+ghost use Rattle.question_filters.specs.Filtering.{CompilesGiven, CompilesText, CompilesTexts, Filters};
+ghost use Rattle.question_filters.specs.Following.{IsFollowedIn};
+
+use crate::question_filters::QuestionFilters;
+use crate::scope::LinkScope;
+use feature_switching::FeaturesOn;
+use graph_switching::switched_on;
+use guppy_package_graph::PackageGraph;
+use nextest_filtering::errors::FiltersetError;
+use nextest_filtering::{CompiledExpr, FiltersetKind, FiltersetLeaf, KnownGroups, ParseContext};
+use record_checks::{
+    RecordFilters, SelectError, compiled_text, context_over, declared_graph, known_groups,
+    record_filters,
+};
+use std::alloc::{AllocError, Global};
+use workspace_record::{PlatformTable, WorkspaceRecord};
+
+/// The filters of the record and of the texts. Names are matched over the packages that the members need
+/// by declared links, and paths follow the links of the scope.
+pub fn filters_over(
+    alloc: Global,
+    record: &WorkspaceRecord,
+    on: &FeaturesOn,
+    table: &PlatformTable,
+    scope: LinkScope,
+    texts: &[&str],
+) -> Result<QuestionFilters, SelectError>
+    ensures { Filters (λ cx. HasNamesOf record.now cx × IsFollowedIn scope record.now on.now table.now cx.graph) record.now (map (λ t. t.now) texts.now) result }
+{
+    match declared_graph(alloc, record) {
+        Ok(declared) => in_scope(alloc, record, on, table, scope, texts, &declared),
+        Err(refused) => Err(SelectError::from(refused)),
+    }
+}
+
+fn in_scope(
+    alloc: Global,
+    record: &WorkspaceRecord,
+    on: &FeaturesOn,
+    table: &PlatformTable,
+    scope: LinkScope,
+    texts: &[&str],
+    declared: &PackageGraph,
+) -> Result<QuestionFilters, SelectError>
+    requires declared { IsDeclaredGraph record.now declared.now }
+    ensures { Filters (λ cx. HasNamesOf record.now cx × IsFollowedIn scope record.now on.now table.now cx.graph) record.now (map (λ t. t.now) texts.now) result }
+{
+    match scope {
+        LinkScope::Declared => filters_along(alloc, record, texts, declared, declared),
+        LinkScope::SwitchedOn => {
+            let followed = switched_on(alloc, declared, on, table)?;
+            filters_along(alloc, record, texts, declared, &followed)
+        }
+    }
+}
+
+/// The same, with paths along the links of one graph.
+fn filters_along(
+    alloc: Global,
+    record: &WorkspaceRecord,
+    texts: &[&str],
+    declared: &PackageGraph,
+    followed: &PackageGraph,
+) -> Result<QuestionFilters, SelectError>
+    requires declared { IsDeclaredGraph record.now declared.now }
+    requires same { ids_of followed.now.packages ≡ ids_of declared.now.packages }
+    ensures { Filters (λ cx. HasNamesOf record.now cx × (cx.graph ≡ followed.now)) record.now (map (λ t. t.now) texts.now) result }
+{
+    let cx = context_over(alloc, declared, followed)?;
+    filters_in(alloc, record, texts, &cx)
+}
+
+/// The same, in a context.
+fn filters_in(
+    alloc: Global,
+    record: &WorkspaceRecord,
+    texts: &[&str],
+    cx: &ParseContext<'_>,
+) -> Result<QuestionFilters, SelectError>
+    requires names { HasNamesOf record.now cx.now }
+    ensures { Filters (λ x. x ≡ cx.now) record.now (map (λ t. t.now) texts.now) result }
+{
+    match record_filters(alloc, record, cx) {
+        Ok(filters) => with_texts(alloc, record, texts, cx, filters),
+        Err(refused) => Err(SelectError::from(refused)),
+    }
+}
+
+/// The filters of the texts beside those of the record.
+fn with_texts(
+    alloc: Global,
+    record: &WorkspaceRecord,
+    texts: &[&str],
+    cx: &ParseContext<'_>,
+    filters: RecordFilters,
+) -> Result<QuestionFilters, SelectError>
+    requires compiled { AreCompiledOf cx.now record.now (filters_view filters) }
+    ensures { Filters (λ x. x ≡ cx.now) record.now (map (λ t. t.now) texts.now) result }
+{
+    let groups = known_groups(alloc, record)?;
+    let texts = text_filters(alloc, cx, &groups, texts)?;
+    Ok(QuestionFilters { texts, filters })
+}
+
+fn text_filters(
+    alloc: Global,
+    cx: &ParseContext<'_>,
+    groups: &KnownGroups,
+    texts: &[&str],
+) -> Result<Vec<CompiledExpr>, SelectError>
+    requires known { AreKnown groups.now }
+    ensures { CompilesTexts cx.now groups.now (map (λ t. t.now) texts.now) result }
+{
+    if texts.is_empty() {
+        return Ok(all_tests(alloc)?);
+    }
+    given_filters(alloc, cx, groups, texts)
+}
+
+/// The filter of all tests alone.
+fn all_tests(alloc: Global) -> Result<Vec<CompiledExpr>, AllocError>
+    ensures { IfOk result (λ v. map compiled_of v.items ≡ leaf compiled.All ∷ []) }
+{
+    let mut filters = Vec::new(alloc);
+    filters.push(CompiledExpr::Set(FiltersetLeaf::All))?;
+    Ok(filters)
+}
+
+fn given_filters(
+    alloc: Global,
+    cx: &ParseContext<'_>,
+    groups: &KnownGroups,
+    texts: &[&str],
+) -> Result<Vec<CompiledExpr>, SelectError>
+    requires known { AreKnown groups.now }
+    ensures { CompilesGiven cx.now groups.now (map (λ t. t.now) texts.now) result }
+{
+    let mut filters = Vec::new(alloc);
+    for (place, text) in texts.iter().enumerate() {
+        filters.push(text_filter(alloc, place, *text, cx, groups)?)?;
+    }
+    Ok(filters)
+}
+
+/// The filter of the text, which stands at the place.
+fn text_filter(
+    alloc: Global,
+    place: usize,
+    text: &str,
+    cx: &ParseContext<'_>,
+    groups: &KnownGroups,
+) -> Result<CompiledExpr, SelectError>
+    requires known { AreKnown groups.now }
+    ensures { CompilesText cx.now groups.now place text.now result }
+{
+    match compiled_text(alloc, text, cx, FiltersetKind::Test, groups) {
+        Ok(filter) => Ok(filter),
+        Err(refused) => Err(refused_at(place, refused)),
+    }
+}
+
+fn refused_at(place: usize, refused: FiltersetError) -> SelectError
+    ensures { result ≡ text_error_of place refused }
+{
+    match refused {
+        FiltersetError::Parse(refused) => SelectError::Filter(place, refused.errors),
+        FiltersetError::Memory => SelectError::Memory,
+    }
+}

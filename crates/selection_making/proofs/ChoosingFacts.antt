@@ -1,0 +1,168 @@
+-- Tests chosen from listings, one binary after another.
+use Rattle.std.proofs.Common.{◌≡◌, ◌↔◌, ◌⊎◌, inl, inr, ⊎_elim, ℕ, zero, suc, ◌+◌, ◌<◌, List, [], ◌∷◌, ◌++◌, length, get_or, take, map, refl, sym, ◌∙◌, ap, subst, Contains, Some, Option, String, Vec, string_bytes, add-one, arith}
+use Rattle.std.specs.Global.{Global}
+use Rattle.std.specs.List.{zip}
+use Rattle.list_facts.specs.Ascending.{IsAscendingOf, pair_cmp}
+use Rattle.list_facts.specs.Texts.{texts}
+use Rattle.list_facts.proofs.Membership.{Contains-none, Contains-first, Contains-rest, Contains-cons_cases, Contains-append_left, Contains-append_right, Contains-append_cases}
+use Rattle.list_facts.proofs.Lists.{map-map}
+use Rattle.workspace_record.specs.Records.{Text}
+use Rattle.test_lister.specs.Listers.{Shown}
+use Rattle.test_lister.specs.Asking.{Answered, AskedSome}
+use Rattle.test_lister.specs.declared.binary.BinaryInfo.{BinaryInfo}
+use Rattle.test_lister.proofs.Asking.{asked_all}
+use Rattle.record_rules.specs.Binaries.{Binary}
+use Rattle.record_rules.specs.BinaryView.{binary_view}
+use Rattle.record_rules.specs.declared.binaries.TestBinary.{TestBinary}
+use Rattle.nextest_filter_queries.specs.Queries as asked
+use Rattle.nextest_filtering.proofs.PickFacts.{more_of}
+use Rattle.selection_making.specs.Choosing.{AreListed, IsCarriedOut, IsListed, IsMatched, IsTestOf, ids_of}
+use Rattle.selection_making.specs.Kept.{Adds}
+use Rattle.selection_making.specs.Passing.{IsPassing}
+use Rattle.selection_making.specs.Plans.{PassesIn}
+use Rattle.selection_making.specs.Queries.{binary_asked}
+use Rattle.question_filters.specs.QuestionFilters.{CompiledQuestion, Pass}
+use Rattle.selection_making.specs.Selections.{Selected}
+use Rattle.selection_making.specs.Told.{Told, told_by, told_of}
+use Rattle.selection_making.proofs.KeptFacts.{adds_alike, adds_none, adds_one, adds_then}
+
+-- one pair more of two lists
+module _ {A B : Type 0} where
+  zip_suc : (xs : List A) (ys : List B) (i : ℕ) (d : A) (e : B) → i < length xs → i < length ys → zip (take (suc i) xs) (take (suc i) ys) ≡ zip (take i xs) (take i ys) ++ (get_or xs i d, get_or ys i e) ∷ []
+  zip_suc [] ys i d e lt le = absurd (omega arith)
+  zip_suc (x ∷ xs) [] i d e lt le = absurd (omega arith)
+  zip_suc (x ∷ xs) (y ∷ ys) zero d e lt le = refl
+  zip_suc (x ∷ xs) (y ∷ ys) (suc i) d e lt le = ap (λ zs. (x, y) ∷ zs) (zip_suc xs ys i d e (omega arith) (omega arith))
+
+  pub zip_more : (xs : List A) (ys : List B) (i : ℕ) (d : A) (e : B) → i < length xs → i < length ys → zip (take (i + 1) xs) (take (i + 1) ys) ≡ zip (take i xs) (take i ys) ++ (get_or xs i d, get_or ys i e) ∷ []
+  zip_more xs ys i d e lt le = rw (add-one i) (zip_suc xs ys i d e lt le)
+
+-- the ids that are told are the ids of the binaries
+pub ids_told : (infos : List BinaryInfo) (bs : List Binary) → map told_by infos ≡ map told_of bs → map (λ (i : BinaryInfo). i.id.now) infos ≡ ids_of bs
+ids_told infos bs h = sym (map-map (λ (t : Told). t.id) told_by infos) ∙ ap (map (λ (t : Told). t.id)) h ∙ map-map (λ (t : Told). t.id) told_of bs
+
+-- all ids were asked, under the name that they were told by
+pub begun_all : (old new : Shown) (told ids : List Text) (answers : List (List Text)) → told ≡ ids → Answered old told answers new → AskedSome old ids new
+begun_all old new told ids answers same h = subst (λ all. AskedSome old all new) same (asked_all old new told answers h)
+
+some_exact : {X : Type 0} {x y : X} → Some x ≡ Some y → x ≡ y
+some_exact e = cc
+
+-- tests with more names of which the filters hold
+module _ (filters : CompiledQuestion) (b : asked.Binary) (id : Text) where
+  pub no_names : (pair : Text × Text) → IsPassing filters b id [] pair → ⊥
+  no_names pair h = Contains-none pair.1 h.named
+
+  names_cases : (front : List Text) (name : Text) (pair : Text × Text) → IsPassing filters b id (front ++ name ∷ []) pair ↔ (IsPassing filters b id front pair ⊎ IsPassing filters b id (name ∷ []) pair)
+  names_cases front name pair = (
+    λ h. ⊎_elim (λ i. inl (record { under = h.under; named = i; passes = h.passes })) (λ i. inr (record { under = h.under; named = i; passes = h.passes })) (Contains-append_cases front (name ∷ []) pair.1 h.named),
+    λ s. ⊎_elim (λ h. record { under = h.under; named = Contains-append_left front (name ∷ []) pair.1 h.named; passes = h.passes }) (λ h. record { under = h.under; named = Contains-append_right front (name ∷ []) pair.1 h.named; passes = h.passes }) s,
+  )
+
+  pub one_name_more : (names : List (String Global)) (i : ℕ) (d x : String Global) (name : Text) (old mid new : List (Text × Text)) → i < length names → x ≡ get_or names i d → string_bytes x ≡ name → Adds (IsPassing filters b id (texts (take i names))) old mid → Adds (IsPassing filters b id (name ∷ [])) mid new → Adds (IsPassing filters b id (texts (take (i + 1) names))) old new
+  one_name_more names i d x name old mid new lt at called first second =
+      let more : texts (take (i + 1) names) ≡ texts (take i names) ++ name ∷ [] = more_of string_bytes names i d x lt at ∙ ap (λ n. texts (take i names) ++ n ∷ []) called in
+      rw more (adds_then _ _ _ old mid new first second (names_cases (texts (take i names)) name))
+
+  -- one test, which passes or does not
+  pub passing_added : (name : Text) (old new : List (Text × Text)) → Pass filters (record { binary = b; name = name }) → new ≡ old ++ (id, name) ∷ [] → Adds (IsPassing filters b id (name ∷ [])) old new
+  passing_added name old new holds grown =
+      adds_one _ old new (id, name) grown (record { under = refl; named = Contains-first name []; passes = holds }) (λ pair h. ⊎_elim (λ e. λ i. (h.under i, e i)) (λ n. absurd (Contains-none pair.1 n)) (Contains-cons_cases name [] pair.1 h.named))
+
+  pub not_passing : (name : Text) (xs : List (Text × Text)) → (Pass filters (record { binary = b; name = name }) → ⊥) → Adds (IsPassing filters b id (name ∷ [])) xs xs
+  not_passing name xs fails =
+      adds_none _ xs (λ pair h. ⊎_elim (λ e. fails (subst (λ n. Pass filters (record { binary = b; name = n })) (sym e) h.passes)) (λ n. Contains-none pair.1 n) (Contains-cons_cases name [] pair.1 h.named))
+
+-- the tests of a binary of the record
+pub passing_of : (filters : CompiledQuestion) (b : Binary) (a : asked.Binary) (names : List (String Global)) (old new : List (Text × Text)) → a ≡ binary_asked b → Adds (IsPassing filters a b.id (texts names)) old new → Adds (IsTestOf (PassesIn filters) b names) old new
+passing_of filters b a names old new same h =
+    let over : Adds (IsPassing filters (binary_asked b) b.id (texts names)) old new = subst (λ x. Adds (IsPassing filters x b.id (texts names)) old new) same h in
+    adds_alike _ _ old new (λ pair. (λ p. record { id = p.under; listed = p.named; is_held = p.passes }, λ t. record { under = t.id; named = t.listed; passes = t.is_held })) over
+
+module _ (holds : Binary → Text → Type 0) where
+  -- the tests of one binary more
+  pub listed_none : (pair : Text × Text) → IsListed holds [] [] pair → ⊥
+  listed_none pair h = Contains-none h.entry h.among
+
+  pub listed_more : (asked : List TestBinary) (listings : List (Vec (String Global) Global)) (i : ℕ) (b : TestBinary) (names : List (String Global)) (l : Vec (String Global) Global) (old mid new : List (Text × Text)) → i < length asked → i < length listings → b ≡ get_or asked i b → names ≡ l.items → l ≡ get_or listings i l → Adds (IsListed holds (take i asked) (take i listings)) old mid → Adds (IsTestOf holds (binary_view b) names) mid new → Adds (IsListed holds (take (i + 1) asked) (take (i + 1) listings)) old new
+  listed_more asked listings i b names l old mid new lt le is told at first second =
+      let entry : TestBinary × Vec (String Global) Global = (b, l) in
+      let more : zip (take (i + 1) asked) (take (i + 1) listings) ≡ zip (take i asked) (take i listings) ++ entry ∷ [] =
+      zip_more asked listings i b l lt le ∙ ap (λ x. zip (take i asked) (take i listings) ++ (x, get_or listings i l) ∷ []) (sym is) ∙ ap (λ y. zip (take i asked) (take i listings) ++ (b, y) ∷ []) (sym at) in
+      let its : Adds (IsTestOf holds (binary_view b) l.items) mid new = subst (λ ns. Adds (IsTestOf holds (binary_view b) ns) mid new) told second in
+      adds_then (IsListed holds (take i asked) (take i listings)) (IsTestOf holds (binary_view b) l.items) (IsListed holds (take (i + 1) asked) (take (i + 1) listings)) old mid new first its (λ pair. (
+        λ h. ⊎_elim (λ a. inl (record { entry = h.entry; among = a; is_its = h.is_its })) (λ a. ⊎_elim (λ e. inr (subst (λ (x : TestBinary × Vec (String Global) Global). IsTestOf holds (binary_view x.0) x.1.items pair) (sym e) h.is_its)) (λ n. absurd (Contains-none h.entry n)) (Contains-cons_cases entry [] h.entry a)) (Contains-append_cases (zip (take i asked) (take i listings)) (entry ∷ []) h.entry (subst (λ zs. Contains zs h.entry) more h.among)),
+        λ s. ⊎_elim (λ h. record { entry = h.entry; among = subst (λ zs. Contains zs h.entry) (sym more) (Contains-append_left (zip (take i asked) (take i listings)) (entry ∷ []) h.entry h.among); is_its = h.is_its }) (λ t. record { entry = entry; among = subst (λ zs. Contains zs entry) (sym more) (Contains-append_right (zip (take i asked) (take i listings)) (entry ∷ []) entry (Contains-first entry [])); is_its = t }) s,
+      ))
+
+  -- the listings of all binaries, sorted
+  pub listed_all : (asked : List TestBinary) (listings : List (Vec (String Global) Global)) (found sorted : List (Text × Text)) → Adds (IsListed holds asked listings) [] found → IsAscendingOf pair_cmp found sorted → AreListed holds asked listings sorted
+  listed_all asked listings found sorted added ascending = record {
+    members = λ pair. (
+      λ h. ⊎_elim (λ n. absurd (Contains-none pair n)) (λ l. l) ((added pair).0 ((ascending.members pair).0 h)),
+      λ l. (ascending.members pair).1 ((added pair).1 (inr l)),
+    );
+    ascending = ascending.ascending;
+  }
+
+  module _ (listing_of : Text → Option (List Text)) where
+    abbrev answers : List (Vec (String Global) Global) → List (List Text)
+    answers listings = map (λ listing. texts listing.items) listings
+
+    -- a binary at whose place a listing stands was asked, and the listing is the one that is held
+    entry_held : (asked : List TestBinary) (listings : List (Vec (String Global) Global)) → map Some (answers listings) ≡ map listing_of (ids_of (map binary_view asked)) → (entry : TestBinary × Vec (String Global) Global) → Contains (zip asked listings) entry → Contains (map binary_view asked) (binary_view entry.0) × (listing_of (binary_view entry.0).id ≡ Some (texts entry.1.items))
+    entry_held [] listings held entry i = absurd (Contains-none entry i)
+    entry_held (b ∷ bs) [] held entry i = absurd (Contains-none entry i)
+    entry_held (b ∷ bs) (l ∷ ls) held entry i =
+        let here : Some (texts l.items) ≡ listing_of (binary_view b).id = cc in
+        let later : map Some (answers ls) ≡ map listing_of (ids_of (map binary_view bs)) = cc in
+        ⊎_elim
+        (λ e. subst (λ (x : TestBinary × Vec (String Global) Global). Contains (map binary_view (b ∷ bs)) (binary_view x.0) × (listing_of (binary_view x.0).id ≡ Some (texts x.1.items))) e (Contains-first (binary_view b) (map binary_view bs), sym here))
+        (λ r. let h = entry_held bs ls later entry r in (Contains-rest (binary_view b) (map binary_view bs) (binary_view entry.0) h.0, h.1))
+        (Contains-cons_cases (b, l) (zip bs ls) entry i)
+
+    -- each binary that was asked has a listing at its place
+    entry_found : (asked : List TestBinary) (listings : List (Vec (String Global) Global)) → map Some (answers listings) ≡ map listing_of (ids_of (map binary_view asked)) → (b : Binary) → Contains (map binary_view asked) b → (entry : TestBinary × Vec (String Global) Global) × Contains (zip asked listings) entry × (binary_view entry.0 ≡ b)
+    entry_found [] listings held b i = absurd (Contains-none b i)
+    entry_found (t ∷ ts) [] held b i = absurd cc
+    entry_found (t ∷ ts) (l ∷ ls) held b i =
+        let later : map Some (answers ls) ≡ map listing_of (ids_of (map binary_view ts)) = cc in
+        ⊎_elim
+        (λ e. ((t, l), Contains-first (t, l) (zip ts ls), e))
+        (λ r. let h = entry_found ts ls later b r in (h.0, Contains-rest (t, l) (zip ts ls) h.0 h.1, h.2))
+        (Contains-cons_cases (binary_view t) (map binary_view ts) b i)
+
+    -- the listed tests are those that are matched
+    pub each_iff : (asked : List TestBinary) (listings : List (Vec (String Global) Global)) → map Some (answers listings) ≡ map listing_of (ids_of (map binary_view asked)) → (pair : Text × Text) → IsListed holds asked listings pair ↔ IsMatched holds (map binary_view asked) listing_of pair
+    each_iff asked listings held pair =
+        let there : IsListed holds asked listings pair → IsMatched holds (map binary_view asked) listing_of pair = λ h.
+        let e = entry_held asked listings held h.entry h.among in
+        record { binary = binary_view h.entry.0; is_asked = e.0; id = h.is_its.id; names = texts h.entry.1.items; listing = e.1; listed = h.is_its.listed; is_held = h.is_its.is_held } in
+        let back : IsMatched holds (map binary_view asked) listing_of pair → IsListed holds asked listings pair = λ m.
+        let f = entry_found asked listings held m.binary m.is_asked in
+        let e = entry_held asked listings held f.0 f.1 in
+        let names : m.names ≡ texts f.0.1.items = some_exact (sym m.listing ∙ sym (ap (λ (x : Binary). listing_of x.id) f.2) ∙ e.1) in
+        record {
+          entry = f.0;
+          among = f.1;
+          is_its = record {
+            id = ap (λ (x : Binary). x.id) f.2 ∙ m.id;
+            listed = subst (λ ns. Contains ns pair.1) names m.listed;
+            is_held = subst (λ (x : Binary). holds x pair.1) (sym f.2) m.is_held;
+          };
+        } in
+        (there, back)
+
+  -- what was asked and chosen is what the plan says
+  pub carried_out : (asked : List TestBinary) (old new : Shown) (told : List Text) (listings : List (Vec (String Global) Global)) (chosen : List (Text × Text)) (ids : List Text) (s : Selected) → told ≡ ids_of (map binary_view asked) → Answered old told (map (λ listing. texts listing.items) listings) new → AreListed holds asked listings chosen → ids ≡ ids_of (map binary_view asked) → s ≡ record { chosen = chosen; asked = ids } → IsCarriedOut holds (map binary_view asked) old s new
+  carried_out asked old new told listings chosen ids s telling answered listed all is =
+      let done = subst (λ ts. Answered old ts (map (λ listing. texts listing.items) listings) new) telling answered in
+      let each = each_iff old.listing_of asked listings done.held in
+      subst (λ x. IsCarriedOut holds (map binary_view asked) old x new) (sym is) (record {
+        ids = all;
+        lister = done.asked;
+        not_full = done.not_full;
+        well_formed = done.well_formed;
+        chosen = λ pair. (λ h. (each pair).0 ((listed.members pair).0 h), λ m. (listed.members pair).1 ((each pair).1 m));
+        ascending = listed.ascending;
+      })

@@ -1,0 +1,31 @@
+use Rattle.std.proofs.Common.{◌<◌, [], length, map, take, take_all, subst, arith}
+use Rattle.list_facts.specs.Texts.{pair_of}
+use Rattle.record_checks.proofs.ContextFacts.{if_ok_so}
+use Rattle.record_rules.specs.Binaries.{Binary}
+use Rattle.workspace_record.specs.Records.{Text}
+use Rattle.selection_making.specs.Choosing.{IsListed}
+use Rattle.selection_making.specs.Kept.{Adds}
+use Rattle.selection_making.specs.Plans.{PassesIn}
+use Rattle.question_filters.specs.QuestionFilters.{question_view}
+use Rattle.selection_making.proofs.ChoosingFacts.{listed_all, listed_more}
+use Rattle.selection_making.proofs.asking.choose.Goals as goal
+
+pub loop-place-preserved : goal.loop-place-preserved
+loop-place-preserved c =
+    let holds : Binary → Text → Type 0 = PassesIn (question_view c.args.plan.now.filters) in
+    let asked = c.args.plan.now.asked.items in
+    let listings = c.args.listings.now in
+    let i = c.loop-place.place in
+    let within : i < length asked = omega (arith, c.loop-place-test.true, c.requires) in
+    listed_more holds asked listings i c.index.result.now c.deref.result.now c.index-listings-place.result [] (map pair_of c.loop-place.chosen.items) (map pair_of c.push_chosen.new.chosen.items) within c.loop-place-test.true c.index.ensures c.deref.ensures.value c.index-listings-place.is c.loop-place.invariant c.in_ok-push_chosen.ensures
+
+pub returns : goal.returns
+returns c =
+    let holds : Binary → Text → Type 0 = PassesIn (question_view c.args.plan.now.filters) in
+    let asked = c.args.plan.now.asked.items in
+    let listings = c.args.listings.now in
+    let i = c.loop-place.place in
+    let found = map pair_of c.loop-place.chosen.items in
+    let one : Adds (IsListed holds (take i asked) listings) [] found = subst (λ ls. Adds (IsListed holds (take i asked) ls) [] found) (take_all i listings c.loop-place-test.false) c.loop-place.invariant in
+    let all : Adds (IsListed holds asked listings) [] found = subst (λ bs. Adds (IsListed holds bs listings) [] found) (take_all i asked (omega (arith, c.loop-place-test.false, c.requires))) one in
+    if_ok_so _ _ c.sorted_pairs.result (λ v ascending. listed_all holds asked listings found (map pair_of v.items) all ascending) c.sorted_pairs.ensures

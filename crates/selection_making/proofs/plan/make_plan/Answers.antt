@@ -1,0 +1,18 @@
+use Rattle.std.proofs.Common.{map}
+use Rattle.std.proofs.lemmas.Result.{err_from_is_err_and}
+use Rattle.question_filters.specs.QuestionFilters.{question_view}
+use Rattle.selection_making.specs.Questions.{Question}
+use Rattle.selection_making.proofs.PlanFacts.{plan_err, plan_made}
+use Rattle.selection_making.proofs.plan.make_plan.Goals as goal
+
+pub returns-in_err-filters : goal.returns-in_err-filters
+returns-in_err-filters c =
+    let q : Question = record { workspace = c.args.record.now; choice = c.args.choice.now; table = c.args.table.now; scope = c.args.scope; texts = map (λ t. t.now) c.args.texts.now; asks = c.args.asks } in
+    let p = err_from_is_err_and c.from_residual-in_err-filters.result c.from_residual-in_err-filters.ensures.1 in
+    rw (p.1, p.2) (plan_err q c.in_ok-on.on c.in_ok-on.ensures _ c.in_err-filters.ensures)
+
+pub returns : goal.returns
+returns c =
+    let q : Question = record { workspace = c.args.record.now; choice = c.args.choice.now; table = c.args.table.now; scope = c.args.scope; texts = map (λ t. t.now) c.args.texts.now; asks = c.args.asks } in
+    let f = c.in_ok-filters.ensures in
+    plan_made q c.in_ok-on.on c.in_ok-on.ensures (question_view c.in_ok-filters.filters) f.0 f.1.0 f.1.1 f.2 c.in_ok-let_through.field-0.items c.in_ok-asked.asked.items c.in_ok-let_through.ensures c.in_ok-asked.ensures.ascending c.in_ok-asked.ensures.all_of_them

@@ -1,0 +1,12 @@
+pub mod AskedViews
+pub mod Choosing
+pub mod Kept
+pub mod Laws
+pub mod Passing
+pub mod Plans
+pub mod Queries
+pub mod Questions
+pub mod Readings
+pub mod Selecting
+pub mod Selections
+pub mod Told

@@ -1,0 +1,45 @@
+-- What the filters of a question read as.
+use Rattle.std.specs.Prelude.{◌≡◌, List, [], ◌∷◌}
+use Rattle.workspace_record.specs.Records.{Text, Workspace}
+use Rattle.workspace_record.specs.Features.{FeatureValue}
+use Rattle.workspace_record.specs.declared.choice.PlatformTable.{PlatformTable}
+use Rattle.guppy_package_table.specs.Tables.{TableValue}
+use Rattle.nextest_filter_queries.specs.declared.groups.KnownGroups.{KnownGroups}
+use Rattle.nextest_filter_evaluation.specs.Formulas.{Formula, leaf}
+use Rattle.nextest_filtering.specs.Contexts.{ContextValue}
+use Rattle.nextest_filtering.specs.Filters.{FilterLeaf}
+use Rattle.nextest_filtering.specs.Filters as filter
+use Rattle.graph_switching.specs.LinesOn.{links_on}
+use Rattle.record_checks.specs.Alike.{AreAlike}
+use Rattle.record_checks.specs.Contexts.{HasNamesOf, IsDeclaredGraph}
+use Rattle.record_checks.specs.FilterTexts.{IsFilterOf}
+use Rattle.record_checks.specs.Groups.{AreGroupsOf}
+use Rattle.record_checks.specs.RecordFilters.{AreReadingsOf, FilterReadings}
+use Rattle.record_checks.specs.Switching.{AreOn}
+use Rattle.selection_making.specs.Questions.{Question}
+use Rattle.question_filters.specs.Following.{IsFollowedIn}
+
+-- what the texts read as; where none is given, the filter of all tests
+abbrev pub AreReadAs : List Text → List (Formula FilterLeaf) → Type 0
+AreReadAs [] filters = filters ≡ leaf filter.All ∷ []
+AreReadAs (text ∷ texts) filters = AreAlike IsFilterOf (text ∷ texts) filters
+
+-- the packages and paths over which filters are read, the groups that they may name, what the filters of the record read as, and what the texts do
+pub record Readings : Type 0 where
+  pub context : ContextValue
+  pub groups : KnownGroups
+  pub filters : FilterReadings
+  pub texts : List (Formula FilterLeaf)
+
+module _ (q : Question) where
+  -- paths follow the links of the graph
+  abbrev pub IsFollowed : TableValue → Type 0
+  IsFollowed g = (on : List FeatureValue) × AreOn q.workspace q.choice q.table on × IsFollowedIn q.scope q.workspace on q.table g
+
+  -- names are matched over what the members need by declared links, paths follow the links of the scope, and each filter is what its text reads as
+  pub record AreReadings (r : Readings) : Type 0 where
+    pub names : HasNamesOf q.workspace r.context
+    pub followed : IsFollowed r.context.graph
+    pub groups : AreGroupsOf q.workspace r.groups
+    pub filters : AreReadingsOf q.workspace r.filters
+    pub texts : AreReadAs q.texts r.texts

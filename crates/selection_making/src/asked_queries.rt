@@ -1,0 +1,96 @@
+//! Binaries and tests, as filters are asked about them.
+
+ghost use Rattle.std.specs.Prelude.{◌≡◌, IfOk};
+ghost use Rattle.nextest_filter_queries.specs.Queries.{binary_of, test_of};
+ghost use Rattle.record_rules.specs.Binaries.{kind_text, platform_of};
+ghost use Rattle.record_rules.specs.BinaryView.{binary_view};
+ghost use Rattle.selection_making.specs.AskedViews.{binary_in};
+ghost use Rattle.selection_making.specs.Queries.{binary_asked, filter_platform};
+
+use nextest_filter_faults::BuildPlatform;
+use nextest_filtering::{
+    BinaryQuery, PackageId, RustBinaryId, RustTestBinaryKind, TestCaseName, TestQuery,
+};
+use record_rules::binaries::{TestBinary, platform_of};
+use std::alloc::{AllocError, Global};
+use workspace_record::TargetKind;
+
+/// A binary with the names by which filters are asked about it.
+pub(crate) struct AskedBinary<'b> {
+    package_id: PackageId,
+    id: RustBinaryId,
+    name: &'b str,
+    kind: RustTestBinaryKind,
+    platform: BuildPlatform,
+}
+
+// Written out, so that a function that lets one go takes one step.
+impl Drop for AskedBinary<'_> {
+    fn drop(self) {
+        let AskedBinary {
+            package_id: _,
+            id: _,
+            name: _,
+            kind: _,
+            platform: _,
+        } = self;
+    }
+}
+
+impl<'b> AskedBinary<'b> {
+    pub(crate) fn of(
+        alloc: Global,
+        binary: &'b TestBinary<'_>,
+    ) -> Result<AskedBinary<'b>, AllocError>
+        ensures { IfOk result (λ a. binary_in a ≡ binary_asked (binary_view binary.entry.now)) }
+    {
+        let (row, target) = (binary.row, binary.target);
+        let package_id = PackageId::new(String::from_str(alloc, row.id.as_str())?);
+        let id = RustBinaryId::new(String::from_str(alloc, binary.id.as_str())?);
+        let kind = RustTestBinaryKind::new(String::from_str(alloc, kind_text(target.kind))?);
+        Ok(AskedBinary {
+            package_id,
+            id,
+            name: target.name.as_str(),
+            kind,
+            platform: filter_platform(target.kind),
+        })
+    }
+
+    pub(crate) fn query(&self) -> BinaryQuery<'_>
+        ensures { binary_of result ≡ binary_in self.now }
+    {
+        BinaryQuery {
+            package_id: &self.package_id,
+            binary_id: &self.id,
+            binary_name: self.name,
+            kind: &self.kind,
+            platform: self.platform,
+        }
+    }
+}
+
+/// How nextest calls the kind.
+fn kind_text(kind: TargetKind) -> &'static str
+    ensures { result.now ≡ kind_text kind }
+{
+    match kind {
+        TargetKind::Lib => RustTestBinaryKind::LIB,
+        TargetKind::ProcMacro => RustTestBinaryKind::PROC_MACRO,
+        TargetKind::Test => RustTestBinaryKind::TEST,
+        TargetKind::Bench => RustTestBinaryKind::BENCH,
+        TargetKind::Bin => RustTestBinaryKind::BIN,
+        TargetKind::Example => RustTestBinaryKind::EXAMPLE,
+        TargetKind::BuildScript => "build-script",
+    }
+}
+
+/// The platform that targets of this kind are built for, as filters name it.
+fn filter_platform(kind: TargetKind) -> BuildPlatform
+    ensures { result ≡ filter_platform (platform_of kind) }
+{
+    match platform_of(kind) {
+        test_lister::BuildPlatform::Host => BuildPlatform::Host,
+        test_lister::BuildPlatform::Target => BuildPlatform::Target,
+    }
+}

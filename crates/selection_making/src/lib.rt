@@ -1,0 +1,16 @@
+//! The selection of tests: what is to be asked, what a lister answers, what is chosen and reported.
+#![tactic(auto)]
+
+mod asked_binaries;
+mod asked_queries;
+mod asking;
+pub mod laws;
+mod plan;
+mod report;
+mod selecting;
+mod selection;
+
+pub use crate::asked_binaries::AskedBinaries;
+pub use crate::report::write_report;
+pub use crate::selecting::{select, select_plain};
+pub use crate::selection::Selection;

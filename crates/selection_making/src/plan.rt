@@ -1,0 +1,126 @@
+//! What is to be asked, and by which filters the answers are to be read.
+
+ghost use Rattle.std.specs.Prelude.{◌↔◌, IfOk, IsTrue, map, Contains, string_bytes};
+ghost use Rattle.list_facts.specs.Ascending.{IsAscendingOf, text_cmp};
+ghost use Rattle.record_rules.specs.Binaries.{binaries};
+ghost use Rattle.record_rules.specs.BinaryView.{binary_view};
+ghost use Rattle.record_rules.specs.declared.binaries.TestBinary.{TestBinary};
+ghost use Rattle.selection_making.specs.Kept.{AreThose};
+ghost use Rattle.selection_making.specs.Plans.{MayMatch, Plans};
+ghost use Rattle.selection_making.specs.Queries.{binary_asked};
+ghost use Rattle.question_filters.specs.QuestionFilters.{MayPass, question_view};
+ghost use Rattle.selection_making.specs.Questions.{WantedIn};
+
+use crate::asked_binaries::AskedBinaries;
+use crate::asked_queries::AskedBinary;
+use feature_switching::FeaturesOn;
+use feature_switching::availability::is_available;
+use question_filters::{LinkScope, QuestionFilters, filters_over, may_pass};
+use record_checks::{SelectError, features_on};
+use record_rules::binaries::{TestBinary, binaries};
+use std::alloc::{AllocError, Global};
+use workspace_record::{FeatureChoice, PlatformTable, WorkspaceRecord};
+
+/// The filters, and the binaries to ask for, ascending by id.
+pub(crate) struct Plan<'r> {
+    pub(crate) filters: QuestionFilters,
+    pub(crate) asked: Vec<TestBinary<'r>>,
+}
+
+// Written out, so that a function that lets one go takes one step.
+impl Drop for Plan<'_> {
+    fn drop(self) {
+        let Plan {
+            filters: _,
+            asked: _,
+        } = self;
+    }
+}
+
+pub(crate) fn make_plan<'r>(
+    alloc: Global,
+    record: &'r WorkspaceRecord,
+    choice: &FeatureChoice,
+    table: &PlatformTable,
+    scope: LinkScope,
+    texts: &[&str],
+    asks: AskedBinaries,
+) -> Result<Plan<'r>, SelectError>
+    ensures { Plans (record { workspace = record.entry.now; choice = choice.now; table = table.now; scope = scope; texts = map (λ t. t.now) texts.now; asks = asks }) result }
+{
+    let on = features_on(alloc, record, choice, table)?;
+    let filters = filters_over(alloc, record, &on, table, scope, texts)?;
+    let asked = sorted_binaries(let_through(alloc, record, &on, &filters, asks)?)?;
+    Ok(Plan { filters, asked })
+}
+
+/// The available binaries that are wanted, in the record's order.
+fn let_through<'r>(
+    alloc: Global,
+    record: &'r WorkspaceRecord,
+    on: &FeaturesOn,
+    filters: &QuestionFilters,
+    asks: AskedBinaries,
+) -> Result<Vec<TestBinary<'r>>, AllocError>
+    ensures { IfOk result (λ v. AreThose (MayMatch asks (λ f. Contains on.now f) (question_view filters.now)) (binaries record.entry.now) (map binary_view v.items)) }
+{
+    let mut kept: Vec<TestBinary<'r>> = Vec::new(alloc);
+    for binary in binaries(alloc, record)? {
+        if may_match(alloc, on, filters, asks, &binary)? {
+            kept.push(binary)?;
+        }
+    }
+    Ok(kept)
+}
+
+fn may_match(
+    alloc: Global,
+    on: &FeaturesOn,
+    filters: &QuestionFilters,
+    asks: AskedBinaries,
+    binary: &TestBinary<'_>,
+) -> Result<bool, AllocError>
+    ensures { IfOk result (λ r. IsTrue r ↔ MayMatch asks (λ f. Contains on.now f) (question_view filters.now) (binary_view binary.now)) }
+{
+    let (row, target) = (binary.row, binary.target);
+    if !is_available(on, row.id.as_str(), target) {
+        return Ok(false);
+    }
+    is_wanted(alloc, filters, asks, binary)
+}
+
+/// Whether the binary is wanted, if it is available.
+fn is_wanted(
+    alloc: Global,
+    filters: &QuestionFilters,
+    asks: AskedBinaries,
+    binary: &TestBinary<'_>,
+) -> Result<bool, AllocError>
+    ensures { IfOk result (λ r. IsTrue r ↔ WantedIn asks (MayPass (question_view filters.now) (binary_asked (binary_view binary.now)))) }
+{
+    match asks {
+        AskedBinaries::Available => Ok(true),
+        AskedBinaries::LetThrough => may_pass_there(alloc, filters, binary),
+    }
+}
+
+/// Whether some answers about its tests let the binary through the filters.
+fn may_pass_there(
+    alloc: Global,
+    filters: &QuestionFilters,
+    binary: &TestBinary<'_>,
+) -> Result<bool, AllocError>
+    ensures { IfOk result (λ r. IsTrue r ↔ MayPass (question_view filters.now) (binary_asked (binary_view binary.now))) }
+{
+    let asked = AskedBinary::of(alloc, binary)?;
+    may_pass(alloc, filters, &asked.query())
+}
+
+fn sorted_binaries(mut all: Vec<TestBinary<'_>>) -> Result<Vec<TestBinary<'_>>, AllocError>
+    ensures ascending { IfOk result (λ v. IsAscendingOf text_cmp (map (λ b. string_bytes b.id) all.entry.items) (map (λ b. string_bytes b.id) v.items)) }
+    ensures all_of_them { IfOk result (λ v. (b : TestBinary) → Contains v.items b → Contains all.entry.items b) }
+{
+    all.sort()?;
+    all.dedup();
+    Ok(all)
+}

@@ -1,5 +1,0 @@
-use Rattle.test_select.proofs.ReadingFacts.{say_the_same}
-use Rattle.test_select.proofs.laws.readings_say_the_same.Goals as goal
-
-pub returns : goal.returns
-returns c = record { same = λ q r s bytes p o. say_the_same q bytes r s p o }

@@ -1,8 +1,0 @@
-/// Which available binaries a selection asks for their tests.
-#[derive(Clone, Copy, Debug, PartialEq, Eq)]
-pub(crate) enum AskedBinaries {
-    /// Those of which some test may be chosen.
-    LetThrough,
-    /// Each.
-    Available,
-}
