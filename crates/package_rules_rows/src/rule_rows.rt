@@ -77,9 +77,7 @@ fn push_checked(
 ) -> Result<(), RowFault> {
     let text = match check_record(alloc, record) {
         Err(RecordError::Broken { rule, place }) => broken_text(alloc, rule, place)?,
-        Err(RecordError::NotYet | RecordError::Filter { .. }) | Ok(()) => String::from_str(
-            alloc, "none",
-        )?,
+        Err(RecordError::Filter { .. }) | Ok(()) => String::from_str(alloc, "none")?,
         Err(RecordError::Memory) => return Err(RowFault::Memory),
     };
     answers.push("broken", text)

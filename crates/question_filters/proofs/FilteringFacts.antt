@@ -106,7 +106,6 @@ filters_wider P Q w texts (Err Memory) so h = h
 pub record_faulted : {A : Type 0} (right : A → Type 0) (P : ContextValue → Type 0) (w : Workspace) (texts : List Text) (why : RecordError) (e : SelectError) → e ≡ select_error_of why → AnswersFilters right w (Err why) → Filters P w texts (Err e)
 record_faulted right P w texts (refused.Broken rule place) e is h = subst (λ x. Filters P w texts (Err x)) (sym is) h
 record_faulted right P w texts (refused.Filter place errors) e is h = subst (λ x. Filters P w texts (Err x)) (sym is) h
-record_faulted right P w texts refused.NotYet e is h = absurd h
 record_faulted right P w texts refused.Memory e is h = subst (λ x. Filters P w texts (Err x)) (sym is) tt
 
 -- paths along the links that are on

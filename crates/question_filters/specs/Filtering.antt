@@ -76,7 +76,6 @@ pub record AreFiltersIn (cx : ContextValue) (w : Workspace) (given : List Text) 
 abbrev pub IsFaulted : Workspace → RecordError → Type 0
 IsFaulted w (refused.Broken rule place) = fault_of w ≡ Some (rule, place)
 IsFaulted w (refused.Filter place errors) = RefusesFilter w place errors
-IsFaulted w refused.NotYet = ⊥
 IsFaulted w refused.Memory = ⊥
 
 -- the filters of a question over some context that passes, or why they are refused

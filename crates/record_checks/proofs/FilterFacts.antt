@@ -23,7 +23,7 @@ use Rattle.record_checks.specs.FilterTexts.{IsRefusedText}
 use Rattle.record_checks.specs.RecordFilters.{CompiledFilters, HasAcceptedFilter, IsAcceptedDefault, IsCompiledGroup, IsCompiledDefault, IsRefusedDefault, AreCompiledOf, HasAcceptedFilters, RefusesFilter, RefusesGroup}
 use Rattle.record_checks.specs.declared.filter_parts.GroupFilter.{GroupFilter}
 use Rattle.record_checks.specs.declared.record_error.RecordError.{RecordError}
-use Rattle.record_checks.specs.declared.record_error.RecordError.TheVariants.{Broken, Filter, NotYet, Memory}
+use Rattle.record_checks.specs.declared.record_error.RecordError.TheVariants.{Broken, Filter, Memory}
 use Rattle.record_checks.proofs.AlikeFacts.{alike_more, alike_there}
 use Rattle.record_checks.proofs.BanFacts.{no_default, no_group}
 
@@ -83,11 +83,9 @@ module _ (cx : ContextValue) where
   pub group_err : (groups : List Group) (filters : List (Text × Formula Leaf)) (place : ℕ) (g : Group) (e : RecordError) → AreAlike (IsCompiledGroup cx) (take place groups) filters → slice_get groups place ≡ Some g → CompilesGroup cx place g (Err e) → CompilesGroups cx groups (Err e)
   group_err groups filters place g (Broken rule p) before here h = h
   group_err groups filters place g (Filter p errors) before here h = group_refused groups filters place p g errors before here h.0 h.1
-  group_err groups filters place g NotYet before here h = h
   group_err groups filters place g Memory before here h = tt
 
   pub default_err : {A : Type 0} (right : A → Type 0) (w : Workspace) (groups : List Group) (filters : List (Text × Formula Leaf)) (e : RecordError) → HasNamesOf w cx → groups ≡ w.groups → AreAlike (IsCompiledGroup cx) groups filters → CompilesDefault cx w (Err e) → AnswersFilters right w (Err e)
   default_err right w groups filters (Broken rule p) names same before h = absurd h
   default_err right w groups filters (Filter p errors) names same before h = refuses_default w filters p errors names (subst (λ gs. AreAlike (IsCompiledGroup cx) gs filters) same before) h.0 h.1
-  default_err right w groups filters NotYet names same before h = h
   default_err right w groups filters Memory names same before h = tt

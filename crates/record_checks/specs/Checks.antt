@@ -1,15 +1,14 @@
 -- What a check of a record answers.
-use Rattle.std.specs.Prelude.{◌≡◌, true, false, Some, None, Result, Ok, Err}
+use Rattle.std.specs.Prelude.{◌≡◌, Some, None, Result, Ok, Err}
 use Rattle.workspace_record.specs.Records.{Workspace}
-use Rattle.record_rules.specs.RecordRules.{fault_of, is_thin}
+use Rattle.record_rules.specs.RecordRules.{fault_of}
 use Rattle.record_checks.specs.RecordFilters.{HasAcceptedFilters, RefusesFilter}
 use Rattle.record_checks.specs.declared.record_error.RecordError.{RecordError}
-use Rattle.record_checks.specs.declared.record_error.RecordError.TheVariants.{Broken, Filter, NotYet, Memory}
+use Rattle.record_checks.specs.declared.record_error.RecordError.TheVariants.{Broken, Filter, Memory}
 
--- a check answers nothing where the rules are kept, the filters accepted and the record served; else the first broken rule, the first refused filter, or that the record is not served yet
+-- a check answers nothing where the rules are kept and the filters accepted; else the first broken rule, or the first refused filter
 abbrev pub IsChecked : Workspace → Result (Unit {0}) RecordError → Type 0
-IsChecked w (Ok _) = (fault_of w ≡ None) × HasAcceptedFilters w × (is_thin w ≡ true)
+IsChecked w (Ok _) = (fault_of w ≡ None) × HasAcceptedFilters w
 IsChecked w (Err (Broken rule place)) = fault_of w ≡ Some (rule, place)
 IsChecked w (Err (Filter place errors)) = (fault_of w ≡ None) × RefusesFilter w place errors
-IsChecked w (Err NotYet) = (fault_of w ≡ None) × HasAcceptedFilters w × (is_thin w ≡ false)
 IsChecked w (Err Memory) = Unit {0}

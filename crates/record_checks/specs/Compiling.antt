@@ -14,14 +14,13 @@ use Rattle.record_checks.specs.RecordFilters.{HasAcceptedFilters, RefusesFilter,
 use Rattle.record_checks.specs.CompiledViews.{group_view}
 use Rattle.record_checks.specs.declared.filter_parts.GroupFilter.{GroupFilter}
 use Rattle.record_checks.specs.declared.record_error.RecordError.{RecordError}
-use Rattle.record_checks.specs.declared.record_error.RecordError.TheVariants.{Broken, Filter, NotYet, Memory}
+use Rattle.record_checks.specs.declared.record_error.RecordError.TheVariants.{Broken, Filter, Memory}
 
 -- what is answered is right, or the record is refused: for a broken rule, or for a filter
 abbrev pub AnswersFilters : {A : Type 0} → (A → Type 0) → Workspace → Result A RecordError → Type 0
 AnswersFilters right w (Ok answer) = right answer
 AnswersFilters right w (Err (Broken rule place)) = fault_of w ≡ Some (rule, place)
 AnswersFilters right w (Err (Filter place errors)) = RefusesFilter w place errors
-AnswersFilters right w (Err NotYet) = ⊥
 AnswersFilters right w (Err Memory) = Unit {0}
 
 -- whether the filters of the record are accepted
@@ -34,7 +33,6 @@ module _ (cx : ContextValue) where
   CompilesGroups groups (Ok filters) = AreAlike (IsCompiledGroup cx) groups (map group_view filters.items)
   CompilesGroups groups (Err (Broken rule place)) = ⊥
   CompilesGroups groups (Err (Filter place errors)) = RefusesGroup cx groups place errors
-  CompilesGroups groups (Err NotYet) = ⊥
   CompilesGroups groups (Err Memory) = Unit {0}
 
   -- the filter of the group at the place
@@ -42,7 +40,6 @@ module _ (cx : ContextValue) where
   CompilesGroup place g (Ok filter) = IsCompiledGroup cx g (group_view filter)
   CompilesGroup place g (Err (Broken rule p)) = ⊥
   CompilesGroup place g (Err (Filter p errors)) = (p ≡ place) × IsRefusedText cx Unavailable OverrideFilter g.filter errors
-  CompilesGroup place g (Err NotYet) = ⊥
   CompilesGroup place g (Err Memory) = Unit {0}
 
   -- the default filter
@@ -50,5 +47,4 @@ module _ (cx : ContextValue) where
   CompilesDefault w (Ok filter) = IsCompiledDefault cx w.default_filter (compiled_of filter)
   CompilesDefault w (Err (Broken rule p)) = ⊥
   CompilesDefault w (Err (Filter p errors)) = (p ≡ length w.groups) × IsRefusedDefault cx w.default_filter errors
-  CompilesDefault w (Err NotYet) = ⊥
   CompilesDefault w (Err Memory) = Unit {0}

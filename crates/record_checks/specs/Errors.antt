@@ -3,7 +3,7 @@ use Rattle.std.specs.Prelude.{ℕ}
 use Rattle.nextest_filtering.specs.declared.refusals.FiltersetError.{FiltersetError}
 use Rattle.nextest_filtering.specs.declared.refusals.FiltersetError.TheVariants as filterset
 use Rattle.record_checks.specs.declared.record_error.RecordError.{RecordError}
-use Rattle.record_checks.specs.declared.record_error.RecordError.TheVariants.{Broken, Filter, NotYet, Memory}
+use Rattle.record_checks.specs.declared.record_error.RecordError.TheVariants.{Broken, Filter, Memory}
 use Rattle.record_checks.specs.declared.select_error.SelectError.{SelectError}
 use Rattle.record_checks.specs.declared.select_error.SelectError.TheVariants as select
 
@@ -16,5 +16,4 @@ record_error_of place filterset.Memory = Memory
 abbrev pub select_error_of : RecordError → SelectError
 select_error_of (Broken rule place) = select.Record (Broken rule place)
 select_error_of (Filter place errors) = select.Record (Filter place errors)
-select_error_of NotYet = select.Record NotYet
 select_error_of Memory = select.Memory

@@ -13,7 +13,6 @@ use Rattle.record_checks.specs.declared.select_error.SelectError.TheVariants.{Re
 abbrev pub record_text : RecordError → Text
 record_text (refused.Broken rule place) = codes "record: " ++ error_text (refused.Broken rule place)
 record_text (refused.Filter place errors) = fault_lines (codes "record: ") place errors.items
-record_text refused.NotYet = codes "record: " ++ error_text refused.NotYet
 record_text refused.Memory = codes "record: " ++ error_text refused.Memory
 
 -- why a selection is refused

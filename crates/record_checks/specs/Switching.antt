@@ -21,12 +21,12 @@ use Rattle.record_checks.specs.declared.select_error.SelectError.TheVariants.{Re
 abbrev pub unknown_extra : Workspace → Choice → Option ℕ
 unknown_extra w choice = position (λ f. not (is_known_extra w f)) choice.extras
 
--- the record is served, and the extras are known
+-- the record keeps the rules, and the extras are known
 pub record IsServed (w : Workspace) (choice : Choice) : Type 0 where
   pub checked : IsChecked w (Ok tt)
   pub known : unknown_extra w choice ≡ None
 
--- the record is served, the extras are known, and these are the features that are on, ascending, each once
+-- the record keeps the rules, the extras are known, and these are the features that are on, ascending, each once
 pub record AreOn (w : Workspace) (choice : Choice) (table : PlatformTable) (on : List FeatureValue) : Type 0 where
   pub served : IsServed w choice
   pub members : (f : FeatureValue) → Contains on f ↔ IsOn (rule_list w choice table) f
@@ -36,10 +36,9 @@ pub record AreOn (w : Workspace) (choice : Choice) (table : PlatformTable) (on :
 abbrev pub IsRefused : Workspace → RecordError → Type 0
 IsRefused w (refused.Broken rule place) = IsChecked w (Err (refused.Broken rule place))
 IsRefused w (refused.Filter place errors) = IsChecked w (Err (refused.Filter place errors))
-IsRefused w refused.NotYet = IsChecked w (Err refused.NotYet)
 IsRefused w refused.Memory = ⊥
 
--- the record is served, the extras are known, and each entry of the account is the lowest rule that may stand; it concludes what is on
+-- the record keeps the rules, the extras are known, and each entry of the account is the lowest rule that may stand; it concludes what is on
 pub record IsAccountFor (w : Workspace) (choice : Choice) (table : PlatformTable) (account : Account) : Type 0 where
   pub served : IsServed w choice
   pub lowest : IsLowestAccount (rule_list w choice table) account.rules.items

@@ -1,4 +1,4 @@
-//! Whether a record keeps the rules and is served.
+//! Whether a record keeps the rules.
 
 ghost use Rattle.std.specs.Prelude.{◌≡◌, None};
 ghost use Rattle.record_rules.specs.RecordRules.{fault_of};
@@ -10,23 +10,19 @@ use crate::compiled_filters::record_filters;
 use crate::graph::{context_over, graph_of};
 use crate::record_error::RecordError;
 use guppy_package_graph::{PackageGraph, PackageGraphError};
-use record_rules::{fault_of, is_thin};
+use record_rules::fault_of;
 use std::alloc::Global;
 use workspace_record::WorkspaceRecord;
 
-/// Tests each rule in turn, the one on filters last, and then whether the record is served. Of several
-/// broken rules the first one is answered, at its first place, and of a refused filter all faults.
+/// Tests each rule in turn, the one on filters last. Of several broken rules the first one is answered,
+/// at its first place, and of a refused filter all faults.
 pub fn check_record(alloc: Global, record: &WorkspaceRecord) -> Result<(), RecordError>
     ensures checked { IsChecked record.now result }
 {
     if let Some((rule, place)) = fault_of(alloc, record)? {
         return Err(RecordError::Broken { rule, place });
     }
-    match check_filters(alloc, record) {
-        Err(refused) => Err(refused),
-        Ok(()) if is_thin(record) => Ok(()),
-        Ok(()) => Err(RecordError::NotYet),
-    }
+    check_filters(alloc, record)
 }
 
 /// Whether the filters of the record are accepted.

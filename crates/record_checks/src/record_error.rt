@@ -25,8 +25,6 @@ pub enum RecordError {
         place: usize,
         errors: Vec<ParseSingleError>,
     },
-    /// The rules are kept, but the record has parts that are not served yet.
-    NotYet,
     /// Memory ran out.
     Memory,
 }
@@ -41,7 +39,6 @@ impl fmt::Display for RecordError {
         match self {
             RecordError::Broken { rule, place } => write!(f, "rule {rule} at {place}"),
             RecordError::Filter { place, errors } => write_faults(f, "", *place, errors),
-            RecordError::NotYet => f.write_str("not yet"),
             RecordError::Memory => f.write_str("out of memory"),
         }
     }

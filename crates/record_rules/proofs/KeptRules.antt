@@ -32,4 +32,4 @@ pub binaries_told_apart : (w : Workspace) → fault_of w ≡ None → (a b : Bin
 binaries_told_apart w kept =
     let further = neither (first_fault (first_broken w.packages w.links w.workspace) package_rules) (first_fault (further_broken w) further_rules) kept in
     let each = (fault_iff (further_broken w) further_rules).0 further in
-    told_by (λ b. b.id) (binaries w) ((mapped_iff (λ (b : Binary). b.id) bytes_eq (λ t. t) bytes_eq-Decides (binaries w)).0 each.1.0)
+    told_by (λ b. b.id) (binaries w) ((mapped_iff (λ (b : Binary). b.id) bytes_eq (λ t. t) bytes_eq-Decides (binaries w)).0 each.1.1.0)

@@ -6,9 +6,8 @@ pub mod binaries;
 mod binary_rules;
 mod feature_rules;
 mod group_rules;
+mod optional_lines;
 mod record_rules;
-mod thin;
 
 pub use crate::record_rules::fault_of;
-pub use crate::thin::is_thin;
 pub use package_rules::RecordRule;

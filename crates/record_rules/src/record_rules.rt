@@ -7,12 +7,15 @@ ghost use Rattle.record_rules.specs.RecordRules.{further_broken, fault_of};
 use crate::binary_rules::{first_blank_binary, first_repeated_binary};
 use crate::feature_rules::{first_lacking_package, first_repeated_feature};
 use crate::group_rules::first_bad_group;
+use crate::optional_lines::first_unnamed_link;
 use package_rules::{RecordRule, first_broken_rule};
 use std::alloc::{AllocError, Global};
 use workspace_record::WorkspaceRecord;
 
-/// The rules on features, binaries and names of groups in the order in which they are tested.
-const FURTHER_RULES: [RecordRule; 5] = [
+/// The rules on optional lines, features, binaries and names of groups in the order in which they are
+/// tested.
+const FURTHER_RULES: [RecordRule; 6] = [
+    RecordRule::OptionalLines,
     RecordRule::FeatureNames,
     RecordRule::BinaryIds,
     RecordRule::BinaryIdTexts,
@@ -21,7 +24,7 @@ const FURTHER_RULES: [RecordRule; 5] = [
 ];
 
 /// The first rule that the record breaks, with its first place: the rules on packages, links and
-/// members come before those on features, binaries and names of groups.
+/// members come before those on optional lines, features, binaries and names of groups.
 pub fn fault_of(
     alloc: Global,
     record: &WorkspaceRecord,
@@ -51,7 +54,8 @@ fn first_fault(
     Ok(None)
 }
 
-/// The first place at which the record breaks a rule on features, binaries or names of groups.
+/// The first place at which the record breaks a rule on optional lines, features, binaries or names of
+/// groups.
 fn further_broken(
     alloc: Global,
     rule: RecordRule,
@@ -60,6 +64,7 @@ fn further_broken(
     ensures { IfOk result (λ place. place ≡ further_broken record.now rule) }
 {
     match rule {
+        RecordRule::OptionalLines => first_unnamed_link(alloc, record),
         RecordRule::FeatureNames => first_repeated_feature(alloc, &record.packages),
         RecordRule::BinaryIds => first_repeated_binary(alloc, record),
         RecordRule::BinaryIdTexts => first_blank_binary(alloc, record),
@@ -76,7 +81,6 @@ fn further_broken(
         | RecordRule::MemberPaths
         | RecordRule::DefaultMembers
         | RecordRule::Targets
-        | RecordRule::OptionalLines
         | RecordRule::Filters => Ok(None),
     }
 }

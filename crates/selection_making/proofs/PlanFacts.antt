@@ -129,7 +129,6 @@ module _ (q : Question) (on : List FeatureValue) (are_on : AreOn q.workspace q.c
   pub plan_err : (e : SelectError) → Filters (λ cx. HasNamesOf q.workspace cx × IsFollowedIn q.scope q.workspace on q.table cx.graph) q.workspace q.texts (Err e) → Plans q (Err e)
   plan_err (Record (refused.Broken rule place)) h = h
   plan_err (Record (refused.Filter place errors)) h = (are_on.served.checked.0, h)
-  plan_err (Record refused.NotYet) h = absurd h
   plan_err (Record refused.Memory) h = absurd h
   plan_err (UnknownExtra place) h = absurd h
   plan_err (Filter place faults) h = record {

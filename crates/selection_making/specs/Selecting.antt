@@ -73,7 +73,7 @@ module _ (q : Question) where
       pub members : (id : Text) → Contains ids id ↔ ((b : Binary) × (b.id ≡ id) × IsAvailableBinary b × IsWanted b)
       pub ascending : IsStrictlySortedBy text_cmp ids
 
-    -- the record is served, the extras are known, and the texts are accepted
+    -- the record keeps the rules, the extras are known, and the texts are accepted
     pub record IsAnswered : Type 0 where
       pub checked : IsChecked q.workspace (Ok tt)
       pub known : unknown_extra q.workspace q.choice ≡ None

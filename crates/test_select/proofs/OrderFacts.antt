@@ -16,7 +16,6 @@ pub orders_by : (w : Workspace) (choice : Choice) (table : PlatformTable) (on : 
 orders_by w choice table on are_on (Ok ids) h = record { on = on; are_on = are_on; ordered = h }
 orders_by w choice table on are_on (Err (Record (refused.Broken rule place))) h = h
 orders_by w choice table on are_on (Err (Record (refused.Filter place errors))) h = (are_on.served.checked.0, h)
-orders_by w choice table on are_on (Err (Record refused.NotYet)) h = absurd h
 orders_by w choice table on are_on (Err (Record refused.Memory)) h = absurd h
 orders_by w choice table on are_on (Err (UnknownExtra place)) h = absurd h
 orders_by w choice table on are_on (Err (Filter place faults)) h = absurd h

@@ -38,7 +38,6 @@ abbrev pub OrdersBy : Workspace → PlatformTable → List FeatureValue → Resu
 OrdersBy w table on (Ok v) = IsOrderBy w table on (texts v.items)
 OrdersBy w table on (Err (Record (refused.Broken rule place))) = fault_of w ≡ Some (rule, place)
 OrdersBy w table on (Err (Record (refused.Filter place errors))) = RefusesFilter w place errors
-OrdersBy w table on (Err (Record refused.NotYet)) = ⊥
 OrdersBy w table on (Err (Record refused.Memory)) = ⊥
 OrdersBy w table on (Err (UnknownExtra place)) = ⊥
 OrdersBy w table on (Err (Filter place faults)) = ⊥

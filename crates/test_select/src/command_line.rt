@@ -1,6 +1,7 @@
 //! The command line, as `clap` reads it.
 
 use clap::{Arg, ArgAction, ArgMatches, Command};
+use question_filters::LinkScope;
 use selection_making::AskedBinaries;
 use std::alloc::{AllocError, Global};
 
@@ -19,14 +20,6 @@ pub(crate) fn command<'a>(alloc: Global) -> Result<Command<'a>, AllocError> {
         .subcommand(order_command(alloc)?)
 }
 
-/// The names of the files that `tests` reads.
-#[derive(Clone, Copy)]
-pub(crate) struct TestsFiles<'a> {
-    pub(crate) record: &'a str,
-    pub(crate) choice: Option<&'a str>,
-    pub(crate) listings: &'a str,
-}
-
 fn tests_command<'a>(alloc: Global) -> Result<Command<'a>, AllocError> {
     Command::new(alloc, "tests")
         .about("Prints the tests that run")
@@ -34,11 +27,13 @@ fn tests_command<'a>(alloc: Global) -> Result<Command<'a>, AllocError> {
         .arg(record_option(alloc))?
         .arg(listings_option(alloc))?
         .arg(choice_option(alloc))?
+        .arg(table_option(alloc))?
+        .arg(declared_flag(alloc))?
         .arg(plain_flag(alloc))?
         .arg(filter_words(alloc))
 }
 
-/// What an account is asked of: the names of its files.
+/// What a question is asked of: the names of its files.
 #[derive(Clone, Copy)]
 pub(crate) struct QuestionFiles<'a> {
     pub(crate) record: &'a str,
@@ -111,6 +106,13 @@ fn file_option<'a>(alloc: Global, name: &'a str) -> Arg<'a> {
         .action(ArgAction::Set)
 }
 
+fn declared_flag<'a>(alloc: Global) -> Arg<'a> {
+    Arg::new(alloc, "declared")
+        .long("declared")
+        .action(ArgAction::SetTrue)
+        .help("Follows all links in deps(..) and rdeps(..), also those that are off")
+}
+
 fn plain_flag<'a>(alloc: Global) -> Arg<'a> {
     Arg::new(alloc, "plain")
         .long("plain")
@@ -126,15 +128,6 @@ fn filter_words<'a>(alloc: Global) -> Arg<'a> {
         .help("Which tests are wanted: those of which one filter holds [default: all]")
 }
 
-/// The files that the command line names for `tests`.
-pub(crate) fn tests_files<'a>(asked: &ArgMatches<'a>) -> TestsFiles<'a> {
-    TestsFiles {
-        record: required(asked, "record"),
-        choice: asked.get_str("choice"),
-        listings: required(asked, "listings"),
-    }
-}
-
 /// The files that the command line names for a question on features.
 pub(crate) fn question_files<'a>(asked: &ArgMatches<'a>) -> QuestionFiles<'a> {
     QuestionFiles {
@@ -142,6 +135,11 @@ pub(crate) fn question_files<'a>(asked: &ArgMatches<'a>) -> QuestionFiles<'a> {
         choice: asked.get_str("choice"),
         table: asked.get_str("table"),
     }
+}
+
+/// The file that the command line names for the listings.
+pub(crate) fn listings_file<'a>(asked: &ArgMatches<'a>) -> &'a str {
+    required(asked, "listings")
 }
 
 /// The file that the command line names for the account.
@@ -152,6 +150,15 @@ pub(crate) fn account_file<'a>(asked: &ArgMatches<'a>) -> &'a str {
 /// The value of a required option, without which `clap` takes no command line.
 fn required<'a>(asked: &ArgMatches<'a>, name: &str) -> &'a str {
     asked.get_str(name).unwrap_or("")
+}
+
+/// Which links the command line has followed.
+pub(crate) fn link_scope(asked: &ArgMatches<'_>) -> LinkScope {
+    if asked.get_flag("declared") {
+        LinkScope::Declared
+    } else {
+        LinkScope::SwitchedOn
+    }
 }
 
 /// Which available binaries the command line has asked for.
@@ -171,7 +178,8 @@ pub(crate) fn filters_in<'m, 'a: 'm>(asked: &'m ArgMatches<'a>) -> &'m [&'a str]
 const TESTS_HELP: &str = "Filters:
   all(), none()    every test, and none
   package(NAME)    the tests of packages with such a name
-  deps(NAME)       those of such packages, and of all that they depend on by links that are on
+  deps(NAME)       those of such packages, and of all that they depend on by links that are on,
+                   with --declared by all links
   rdeps(NAME)      those of such packages, and of all that depend on them
   binary_id(NAME)  the tests of binaries with such an id
   binary(NAME)     the tests of binaries whose target has such a name

@@ -4,52 +4,15 @@ ghost use Rattle.std.specs.Prelude.{◌≡◌, IfOk, IfErr, IsNone, IsSome, Ok};
 ghost use Rattle.test_select.specs.Failures.{status_of};
 ghost use Rattle.test_select.specs.Runs.{default_choice, KnowsNothing};
 
-use crate::command_line::{QuestionFiles, TestsFiles};
+use crate::command_line::QuestionFiles;
 use crate::failure::Failure;
 use crate::file_source::FileSource;
-use crate::unknown_platform::nothing_known;
+use indexmap::IndexMap;
 use record_files::{ReadError, read_account, read_choice, read_listings, read_record, read_table};
 use std::alloc::Global;
 use std::collections::BTreeMap;
 use test_lister::{FileLister, Listing};
 use workspace_record::{FeatureChoice, PlatformTable, Standard, WorkspaceRecord};
-
-/// What the command `tests` works on.
-pub(crate) struct TestsInputs {
-    pub(crate) record: WorkspaceRecord,
-    pub(crate) choice: FeatureChoice,
-    pub(crate) lister: FileLister,
-}
-
-// Written out, so that a function that lets one go takes one step.
-impl Drop for TestsInputs {
-    fn drop(self) {
-        let TestsInputs {
-            record: _,
-            choice: _,
-            lister: _,
-        } = self;
-    }
-}
-
-/// Reads and decodes the record, then the choice, then the listings. The first file that fails ends
-/// the reading.
-pub(crate) fn tests_inputs<'a>(
-    alloc: Global,
-    names: TestsFiles<'a>,
-    files: &mut dyn FileSource,
-) -> Result<TestsInputs, Failure<'a>>
-    ensures { IfErr result (λ f. status_of f ≡ 1) }
-{
-    let record = record_in(alloc, names.record, files)?;
-    let choice = choice_in(alloc, names.choice, files)?;
-    let lister = FileLister::new(alloc, listings_in(alloc, names.listings, files)?);
-    Ok(TestsInputs {
-        record,
-        choice,
-        lister,
-    })
-}
 
 /// What is asked on features.
 pub(crate) struct FeatureQuestion {
@@ -86,6 +49,37 @@ pub(crate) fn feature_question<'a>(
         choice,
         table,
     })
+}
+
+/// What the command `tests` works on.
+pub(crate) struct TestsInputs {
+    pub(crate) question: FeatureQuestion,
+    pub(crate) lister: FileLister,
+}
+
+// Written out, so that a function that lets one go takes one step.
+impl Drop for TestsInputs {
+    fn drop(self) {
+        let TestsInputs {
+            question: _,
+            lister: _,
+        } = self;
+    }
+}
+
+/// Reads and decodes the files of the question, and then the listings. The first file that fails ends
+/// the reading.
+pub(crate) fn tests_inputs<'a>(
+    alloc: Global,
+    names: QuestionFiles<'a>,
+    listings: &'a str,
+    files: &mut dyn FileSource,
+) -> Result<TestsInputs, Failure<'a>>
+    ensures { IfErr result (λ f. status_of f ≡ 1) }
+{
+    let question = feature_question(alloc, names, files)?;
+    let lister = FileLister::new(alloc, listings_in(alloc, listings, files)?);
+    Ok(TestsInputs { question, lister })
 }
 
 fn record_in<'a>(
@@ -137,6 +131,16 @@ fn table_in<'a>(
     };
     let bytes = bytes_in(alloc, name, files)?;
     accepted(name, read_table(alloc, &bytes))
+}
+
+/// The table where no file is named.
+fn nothing_known(alloc: Global) -> PlatformTable
+    ensures { KnowsNothing result }
+{
+    PlatformTable {
+        answers: IndexMap::new(alloc),
+        unknown_counts: true,
+    }
 }
 
 /// The account in the file with this name.

@@ -9,7 +9,7 @@ mod file_source;
 mod inputs;
 mod order;
 mod program;
-mod unknown_platform;
+mod selections;
 
 pub use crate::file_source::{FileFault, FileSource};
 pub use crate::order::{package_order, write_order};

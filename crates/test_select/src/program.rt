@@ -4,14 +4,12 @@ ghost use Rattle.std.specs.Prelude.{◌≡◌, ◌≤◌, IfErr};
 ghost use Rattle.test_select.specs.Failures.{status_of};
 
 use crate::accounts::{print_account, print_verdict};
-use crate::command_line::{asked_binaries, command, filters_in, tests_files};
+use crate::command_line::command;
 use crate::failure::Failure;
 use crate::file_source::FileSource;
-use crate::inputs::tests_inputs;
 use crate::order::print_order;
-use crate::unknown_platform::select_on_unknown_platform;
+use crate::selections::print_tests;
 use clap::ArgMatches;
-use selection_making::write_report;
 use std::alloc::Global;
 use std::convert::AsStr;
 use std::io::Write;
@@ -20,10 +18,11 @@ use std::io::Write;
 /// status that it ends with: 0 if all was done, 1 if something was refused or failed, and 2 for a
 /// bad command line.
 ///
-/// `test_select tests --record F --listings F [--choice F] [--plain] [FILTER]...` reads and decodes the record,
-/// the choice and the listings, one by one and in this order, then selects, and writes the report to
-/// `out`. Without a choice the default features are on. Nothing is known of the platform, and links
-/// that are on are followed. With `--plain` each available binary is asked for.
+/// `test_select tests --record F --listings F [--choice F] [--table F] [--declared] [--plain] [FILTER]...`
+/// reads and decodes the record, the choice, the table and the listings, one by one and in this order,
+/// then selects, and writes the report to `out`. Without a choice the default features are on. Without a
+/// table nothing is known of the platform, and what is unknown counts. Links that are on are followed,
+/// with `--declared` all links. With `--plain` each available binary is asked for.
 ///
 /// `test_select account --record F [--choice F] [--table F]` writes the account of what is on, and
 /// `test_select check --record F [--choice F] [--table F] --account F` what is to be said of an account:
@@ -85,26 +84,4 @@ fn carry_out<'a, O: Write>(
         Some(("order", asked)) => print_order(alloc, asked, files, out),
         _ => Ok(()),
     }
-}
-
-fn print_tests<'a, O: Write>(
-    alloc: Global,
-    asked: &ArgMatches<'a>,
-    files: &mut dyn FileSource,
-    out: &mut O,
-) -> Result<(), Failure<'a>>
-    ensures { IfErr result (λ f. status_of f ≡ 1) }
-{
-    let mut inputs = tests_inputs(alloc, tests_files(asked), files)?;
-    let (record, choice) = (&inputs.record, &inputs.choice);
-    let selection = select_on_unknown_platform(
-        alloc,
-        record,
-        choice,
-        filters_in(asked),
-        asked_binaries(asked),
-        &mut inputs.lister,
-    )?;
-    write_report(&selection, out)?;
-    Ok(())
 }

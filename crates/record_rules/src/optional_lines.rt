@@ -1,0 +1,50 @@
+//! The rule on links with optional lines.
+
+ghost use Rattle.std.specs.Prelude.{◌≡◌, IfOk, not, position};
+ghost use Rattle.record_rules.specs.RecordRules.{has_optional_line, has_optional_name, names_its_optional_lines};
+
+use record_index::RecordIndex;
+use std::alloc::{AllocError, Global};
+use workspace_record::{LinkRecord, WorkspaceRecord};
+
+/// The first link with an optional line whose name is not among its source's optional dependencies.
+pub(crate) fn first_unnamed_link(
+    alloc: Global,
+    record: &WorkspaceRecord,
+) -> Result<Option<usize>, AllocError>
+    ensures { IfOk result (λ place. place ≡ position (λ l. not (names_its_optional_lines record.now l)) record.now.links) }
+{
+    let index = RecordIndex::of(alloc, record)?;
+    Ok(first_unnamed(&index))
+}
+
+fn first_unnamed(index: &RecordIndex<'_>) -> Option<usize>
+    ensures { result ≡ position (λ l. not (names_its_optional_lines index.now l)) index.now.links }
+{
+    let row = index.record();
+    row.links
+        .iter()
+        .position(|link| !names_its_optional_lines(index, link))
+}
+
+fn names_its_optional_lines(index: &RecordIndex<'_>, link: &LinkRecord) -> bool
+    ensures { result ≡ names_its_optional_lines index.now link.now }
+{
+    !has_optional_line(link) || has_optional_name(index, link)
+}
+
+fn has_optional_line(link: &LinkRecord) -> bool
+    ensures { result ≡ has_optional_line link.now }
+{
+    link.lines.iter().any(|line| line.optional)
+}
+
+/// Whether the link has the name of an optional dependency of its source.
+fn has_optional_name(index: &RecordIndex<'_>, link: &LinkRecord) -> bool
+    ensures { result ≡ has_optional_name index.now link.now }
+{
+    match index.package_of(link.from.as_str()) {
+        None => false,
+        Some(source) => source.has_optional(link.name.as_str()),
+    }
+}
