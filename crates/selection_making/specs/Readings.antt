@@ -1,17 +1,15 @@
 -- What the filters of a question read as.
 use Rattle.std.specs.Prelude.{◌≡◌, List, [], ◌∷◌}
-use Rattle.workspace_record.specs.Records.{Text, Workspace}
+use Rattle.workspace_record.specs.Records.{Text}
 use Rattle.workspace_record.specs.Features.{FeatureValue}
-use Rattle.workspace_record.specs.declared.choice.PlatformTable.{PlatformTable}
 use Rattle.guppy_package_table.specs.Tables.{TableValue}
 use Rattle.nextest_filter_queries.specs.declared.groups.KnownGroups.{KnownGroups}
 use Rattle.nextest_filter_evaluation.specs.Formulas.{Formula, leaf}
 use Rattle.nextest_filtering.specs.Contexts.{ContextValue}
 use Rattle.nextest_filtering.specs.Filters.{FilterLeaf}
 use Rattle.nextest_filtering.specs.Filters as filter
-use Rattle.graph_switching.specs.LinesOn.{links_on}
 use Rattle.record_checks.specs.Alike.{AreAlike}
-use Rattle.record_checks.specs.Contexts.{HasNamesOf, IsDeclaredGraph}
+use Rattle.record_checks.specs.Contexts.{HasNamesOf}
 use Rattle.record_checks.specs.FilterTexts.{IsFilterOf}
 use Rattle.record_checks.specs.Groups.{AreGroupsOf}
 use Rattle.record_checks.specs.RecordFilters.{AreReadingsOf, FilterReadings}
