@@ -1,0 +1,40 @@
+-- What the rules of records give the feature graphs that are built of them.
+use Rattle.std.specs.Prelude.{◌≡◌, ◌↔◌, true, [], IsTrue, None}
+use Rattle.std.specs.Prelude.{Bool}
+use Rattle.numbered_graph.specs.declared.direction.Direction.TheVariants.{Forward}
+use Rattle.numbered_offers.specs.declared.offer.Offer.{Offer}
+use Rattle.numbered_offers.specs.Least.{IsClosed as AreEdgesClosed}
+use Rattle.workspace_record.specs.Records.{Workspace}
+use Rattle.workspace_record.specs.Choices.{Choice}
+use Rattle.workspace_record.specs.Features.{FeatureValue}
+use Rattle.workspace_record.specs.declared.choice.PlatformTable.{PlatformTable}
+use Rattle.feature_account.specs.Closed.{FeatureSet, IsOn}
+use Rattle.feature_account.specs.RuleList.{rule_list}
+use Rattle.guppy_feature_nodes.specs.Graphs.{FeatureGraphValue, IsFeatureGraph, feature_at}
+use Rattle.guppy_feature_nodes.specs.Offering.{offers_of}
+use Rattle.guppy_feature_graph.specs.Links.{link_of}
+use Rattle.demand_rules.specs.RecordGraphs.{IsGraphOf}
+use Rattle.demand_rules.specs.Rules.{HasChosen}
+use Rattle.record_rules.specs.RecordRules.{fault_of}
+use Rattle.line_verdicts.specs.Verdicts.{HasCountingLine}
+
+-- the graph is built of the rows of the record
+pub record IsBuiltOf (w : Workspace) (g : FeatureGraphValue) : Type 0 where
+  pub packages : g.rows.packages ≡ w.packages
+  pub links : g.rows.links ≡ w.links
+  pub workspace : g.rows.workspace ≡ w.workspace
+  pub built : IsFeatureGraph g
+
+-- a graph that is built of a record which keeps the rules is the graph of that record
+abbrev pub KeptRecordsHaveGraphs : Type 0
+KeptRecordsHaveGraphs = (w : Workspace) (g : FeatureGraphValue) → fault_of w ≡ None → IsBuiltOf w g → IsGraphOf w g
+
+-- what is on under a choice, in a record that keeps the rules, is what lies in each set that has what the choice switches on by
+-- itself and is closed under the edges that lead always and the offers behind which a line counts
+abbrev pub KeptEdgesLeadToWhatIsOn : Type 0
+KeptEdgesLeadToWhatIsOn =
+    (w : Workspace) (choice : Choice) (table : PlatformTable) (g : FeatureGraphValue) (accepts : Offer → Bool) (f : FeatureValue)
+    → fault_of w ≡ None
+    → IsBuiltOf w g
+    → ((o : Offer) → IsTrue (accepts o) ↔ HasCountingLine table (link_of g o))
+    → IsOn (rule_list w choice table) f ↔ ((s : FeatureSet) → HasChosen w choice s → AreEdgesClosed Forward (offers_of Forward g) [] accepts (λ v. s (feature_at g v) ≡ true) → s f ≡ true)

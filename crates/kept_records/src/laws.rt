@@ -1,0 +1,22 @@
+//! The laws of records that keep the rules.
+
+ghost use Rattle.kept_records.specs.Laws.{KeptEdgesLeadToWhatIsOn, KeptRecordsHaveGraphs};
+
+use line_verdicts::laws::edges_lead_to_what_is_on as edges_of_graphs_lead_to_what_is_on;
+
+/// A feature graph that is built of the rows of a record which keeps the rules is the graph of that
+/// record: no package names a feature twice, and each optional line has its name among the optional
+/// dependencies of its source.
+pub fn kept_records_have_graphs()
+    ensures graphs { KeptRecordsHaveGraphs }
+{}
+
+/// What is on in a record that keeps the rules is the least set of features that has what the choice
+/// switches on by itself and is closed under the edges of its feature graph that lead always and the
+/// offers behind which a line counts.
+pub fn edges_lead_to_what_is_on()
+    ensures seam { KeptEdgesLeadToWhatIsOn }
+{
+    kept_records_have_graphs();
+    edges_of_graphs_lead_to_what_is_on();
+}
