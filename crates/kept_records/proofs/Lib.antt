@@ -1,1 +1,2 @@
 mod KeptFacts
+mod LineFacts

@@ -1,15 +1,16 @@
 -- What the rules of records give the feature graphs that are built of them.
-use Rattle.std.specs.Prelude.{◌≡◌, ◌↔◌, true, [], IsTrue, None}
-use Rattle.std.specs.Prelude.{Bool}
+use Rattle.std.specs.Prelude.{◌≡◌, ◌↔◌, Bool, true, [], Contains, IsTrue, None}
 use Rattle.numbered_graph.specs.declared.direction.Direction.TheVariants.{Forward}
 use Rattle.numbered_offers.specs.declared.offer.Offer.{Offer}
 use Rattle.numbered_offers.specs.Least.{IsClosed as AreEdgesClosed}
-use Rattle.workspace_record.specs.Records.{Workspace}
+use Rattle.workspace_record.specs.Records.{Line, Link, Package, Workspace}
 use Rattle.workspace_record.specs.Choices.{Choice}
 use Rattle.workspace_record.specs.Features.{FeatureValue}
 use Rattle.workspace_record.specs.declared.choice.PlatformTable.{PlatformTable}
 use Rattle.feature_account.specs.Closed.{FeatureSet, IsOn}
-use Rattle.feature_account.specs.RuleList.{rule_list}
+use Rattle.feature_account.specs.IsRule.{IsMember}
+use Rattle.feature_account.specs.RuleList.{base_of, rule_list}
+use Rattle.feature_switching.specs.OnLines.{LineIsOn}
 use Rattle.guppy_feature_nodes.specs.Graphs.{FeatureGraphValue, IsFeatureGraph, feature_at}
 use Rattle.guppy_feature_nodes.specs.Offering.{offers_of}
 use Rattle.guppy_feature_graph.specs.Links.{link_of}
@@ -38,3 +39,21 @@ KeptEdgesLeadToWhatIsOn =
     → IsBuiltOf w g
     → ((o : Offer) → IsTrue (accepts o) ↔ HasCountingLine table (link_of g o))
     → IsOn (rule_list w choice table) f ↔ ((s : FeatureSet) → HasChosen w choice s → AreEdgesClosed Forward (offers_of Forward g) [] accepts (λ v. s (feature_at g v) ≡ true) → s f ≡ true)
+
+-- in a record that keeps the rules each workspace package is on
+abbrev pub WorkspacePackagesAreOn : Type 0
+WorkspacePackagesAreOn =
+    (w : Workspace) (choice : Choice) (table : PlatformTable) (p : Package)
+    → fault_of w ≡ None
+    → Contains w.packages p
+    → IsMember w p.id
+    → IsOn (rule_list w choice table) (base_of p.id)
+
+-- in a record that keeps the rules each line that is on leads from a package that is on to one that is on
+abbrev pub LinesOnJoinPackagesOn : Type 0
+LinesOnJoinPackagesOn =
+    (w : Workspace) (choice : Choice) (table : PlatformTable) (link : Link) (line : Line)
+    → fault_of w ≡ None
+    → Contains w.links link
+    → LineIsOn w table (IsOn (rule_list w choice table)) link line
+    → IsOn (rule_list w choice table) (base_of link.from) × IsOn (rule_list w choice table) (base_of link.to)

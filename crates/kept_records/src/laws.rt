@@ -1,6 +1,6 @@
 //! The laws of records that keep the rules.
 
-ghost use Rattle.kept_records.specs.Laws.{KeptEdgesLeadToWhatIsOn, KeptRecordsHaveGraphs};
+ghost use Rattle.kept_records.specs.Laws.{KeptEdgesLeadToWhatIsOn, KeptRecordsHaveGraphs, LinesOnJoinPackagesOn, WorkspacePackagesAreOn};
 
 use line_verdicts::laws::edges_lead_to_what_is_on as edges_of_graphs_lead_to_what_is_on;
 
@@ -20,3 +20,14 @@ pub fn edges_lead_to_what_is_on()
     kept_records_have_graphs();
     edges_of_graphs_lead_to_what_is_on();
 }
+
+/// In a record that keeps the rules each workspace package is on, whatever the choice and the platform.
+pub fn workspace_packages_are_on()
+    ensures on { WorkspacePackagesAreOn }
+{}
+
+/// In a record that keeps the rules each line that is on leads from a package that is on to one that is
+/// on.
+pub fn lines_on_join_packages_on()
+    ensures join { LinesOnJoinPackagesOn }
+{}

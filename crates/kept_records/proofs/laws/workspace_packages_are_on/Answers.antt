@@ -1,0 +1,15 @@
+use Rattle.std.proofs.Common.{refl}
+use Rattle.feature_account.specs.IsRule.{member_base}
+use Rattle.feature_account.specs.RuleList.{base_of, given}
+use Rattle.feature_account.proofs.RuleFacts.{rule_list_iff}
+use Rattle.demand_rules.proofs.StandingFacts.{found_alone}
+use Rattle.kept_records.specs.Laws.{WorkspacePackagesAreOn}
+use Rattle.kept_records.proofs.KeptFacts.{rows_kept}
+use Rattle.kept_records.proofs.laws.workspace_packages_are_on.Goals as goal
+
+are_on : WorkspacePackagesAreOn
+are_on w choice table p kept listed member s closed =
+    closed (given (base_of p.id)) ((rule_list_iff w choice table (given (base_of p.id))).1 (member_base (found_alone w (rows_kept w kept).ids_apart p listed) member)) refl
+
+pub returns : goal.returns
+returns c = record { on = are_on }
