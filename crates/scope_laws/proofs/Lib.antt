@@ -1,1 +1,2 @@
+mod AgreeFacts
 mod PathFacts

@@ -1,13 +1,21 @@
--- Dependencies by links that are on, and by declared links.
-use Rattle.std.specs.Prelude.{List, Contains}
-use Rattle.workspace_record.specs.Records.{Text}
+-- What filters say by links that are on, and by declared links.
+use Rattle.std.specs.Prelude.{◌≡◌, ◌↔◌, List, Contains, Option}
+use Rattle.workspace_record.specs.Records.{Text, Workspace}
+use Rattle.workspace_record.specs.Choices.{Choice}
 use Rattle.workspace_record.specs.Features.{FeatureValue}
 use Rattle.workspace_record.specs.declared.choice.PlatformTable.{PlatformTable}
 use Rattle.guppy_package_table.specs.Tables.{TableValue, IsTableOf}
+use Rattle.record_rules.specs.Binaries.{Binary}
 use Rattle.graph_switching.specs.LinesOn.{links_on}
 use Rattle.nextest_filtering.specs.Contexts.{ContextValue}
 use Rattle.nextest_filter_queries.specs.NameTests.{NameTest}
 use Rattle.nextest_filtering.specs.Meaning.{IsDependency, IsDependent}
+use Rattle.question_filters.specs.declared.scope.LinkScope.TheVariants.{Declared}
+use Rattle.selection_making.specs.Laws.{HasByteTests, HasByteTexts}
+use Rattle.selection_making.specs.Questions.{Question}
+use Rattle.selection_making.specs.Readings.{AreReadings, Readings}
+use Rattle.selection_making.specs.Selecting.{IsAsked, IsAvailableBinary, IsReport}
+use Rattle.selection_making.specs.declared.asked_binaries.AskedBinaries.{AskedBinaries}
 
 -- the graph has the packages of the declared one, and just the lines that are on where these features are
 abbrev pub IsSwitchedOn : TableValue → List FeatureValue → PlatformTable → TableValue → Type 0
@@ -20,3 +28,26 @@ SwitchedDependenciesAreDeclared =
     → IsSwitchedOn declared.graph on table switched.graph
     → ((p : Text × Text) → Contains switched.packages p → Contains declared.packages p)
     → (IsDependency switched test id → IsDependency declared test id) × (IsDependent switched test id → IsDependent declared test id)
+
+-- which tests of a workspace, under a choice and on a platform, over declared links
+abbrev pub over_declared : Workspace → List Text → AskedBinaries → Choice → PlatformTable → Question
+over_declared w texts asks choice table = record { workspace = w; choice = choice; table = table; scope = Declared; texts = texts; asks = asks }
+
+-- the same binaries are available in both questions
+abbrev pub AreAvailableAlike : Question → Question → Type 0
+AreAvailableAlike q p = (b : Binary) → IsAvailableBinary q b ↔ IsAvailableBinary p b
+
+-- two questions, each as it is read, have one report over the same listings, and ask for the same binaries
+pub record Agree (q p : Question) (r s : Readings) : Type 0 where
+  pub reports : (listing_of : Text → Option (List Text)) (pairs others : List (Text × Text)) → HasByteTests listing_of → IsReport q r listing_of pairs → IsReport p s listing_of others → pairs ≡ others
+  pub asked : (ids others : List Text) → IsAsked q r ids → IsAsked p s others → ids ≡ others
+
+-- over declared links, choices and platforms that make the same binaries available agree
+abbrev pub DeclaredSelectionsAgree : Type 0
+DeclaredSelectionsAgree =
+    (w : Workspace) (texts : List Text) (asks : AskedBinaries) (choice other : Choice) (table known : PlatformTable) (r s : Readings)
+    → HasByteTexts w
+    → AreReadings (over_declared w texts asks choice table) r
+    → AreReadings (over_declared w texts asks other known) s
+    → AreAvailableAlike (over_declared w texts asks choice table) (over_declared w texts asks other known)
+    → Agree (over_declared w texts asks choice table) (over_declared w texts asks other known) r s

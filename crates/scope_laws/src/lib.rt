@@ -1,4 +1,4 @@
-//! Laws: what filters say of packages by links that are on, and by declared links.
+//! Laws: what filters say by links that are on, and by declared links.
 #![tactic(auto)]
 
 pub mod laws;
