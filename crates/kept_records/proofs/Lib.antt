@@ -1,2 +1,3 @@
 mod KeptFacts
 mod LineFacts
+mod OrderFacts

@@ -1,5 +1,5 @@
 -- What the rules of records give the feature graphs that are built of them.
-use Rattle.std.specs.Prelude.{◌≡◌, ◌↔◌, Bool, true, [], Contains, IsTrue, None}
+use Rattle.std.specs.Prelude.{List, ◌≡◌, ◌↔◌, Bool, true, [], Contains, IsTrue, None}
 use Rattle.numbered_graph.specs.declared.direction.Direction.TheVariants.{Forward}
 use Rattle.numbered_offers.specs.declared.offer.Offer.{Offer}
 use Rattle.numbered_offers.specs.Least.{IsClosed as AreEdgesClosed}
@@ -57,3 +57,22 @@ LinesOnJoinPackagesOn =
     → Contains w.links link
     → LineIsOn w table (IsOn (rule_list w choice table)) link line
     → IsOn (rule_list w choice table) (base_of link.from) × IsOn (rule_list w choice table) (base_of link.to)
+
+-- the lists have the same elements, in whichever order
+abbrev pub HaveTheSame : {X : Type 0} → List X → List X → Type 0
+HaveTheSame xs ys = (x : _) → Contains xs x ↔ Contains ys x
+
+-- the records have the same packages, links and members, in whichever order
+pub record IsReordered (w v : Workspace) : Type 0 where
+  pub packages : HaveTheSame w.packages v.packages
+  pub links : HaveTheSame w.links v.links
+  pub members : HaveTheSame w.workspace.members v.workspace.members
+
+-- in records that keep the rules, another order of packages, links and members changes nothing that is on
+abbrev pub OrderIsFree : Type 0
+OrderIsFree =
+    (w v : Workspace) (choice : Choice) (table : PlatformTable) (f : FeatureValue)
+    → fault_of w ≡ None
+    → fault_of v ≡ None
+    → IsReordered w v
+    → IsOn (rule_list w choice table) f ↔ IsOn (rule_list v choice table) f

@@ -1,6 +1,6 @@
 //! The laws of records that keep the rules.
 
-ghost use Rattle.kept_records.specs.Laws.{KeptEdgesLeadToWhatIsOn, KeptRecordsHaveGraphs, LinesOnJoinPackagesOn, WorkspacePackagesAreOn};
+ghost use Rattle.kept_records.specs.Laws.{KeptEdgesLeadToWhatIsOn, KeptRecordsHaveGraphs, LinesOnJoinPackagesOn, OrderIsFree, WorkspacePackagesAreOn};
 
 use line_verdicts::laws::edges_lead_to_what_is_on as edges_of_graphs_lead_to_what_is_on;
 
@@ -30,4 +30,9 @@ pub fn workspace_packages_are_on()
 /// on.
 pub fn lines_on_join_packages_on()
     ensures join { LinesOnJoinPackagesOn }
+{}
+
+/// In records that keep the rules another order of packages, links and members changes nothing that is on.
+pub fn order_is_free()
+    ensures free { OrderIsFree }
 {}
