@@ -26,7 +26,7 @@ use Rattle.feature_account.proofs.AccountFacts.{concludes-push, conclusions-push
 use Rattle.feature_account.proofs.ClosedSets.{concludes_iff}
 use Rattle.account_making.specs.Lowest.{IsLowestAfter, IsLowestAccount, IsLooksOf}
 use Rattle.feature_account.specs.Found.{found_set}
-use Rattle.account_making.specs.Waiting.{waits_for, waiting_at, IsWaiting, has, IsEach, IsWith}
+use Rattle.account_making.specs.Waiting.{is_premise, waiting_at, IsWaiting, has, IsEach, IsWith}
 use Rattle.account_making.proofs.Concluding.{sound-push, lowest-push, left_out, left_out-falls, same_open}
 
 -- what the search keeps: the account so far, and among the numbers to be looked at each open rule's
@@ -51,7 +51,7 @@ pub closed_where_none : (rules : List Rule) (s : FeatureSet) → ((n : ℕ) (r :
 closed_where_none rules s none r inside held = not_open _ _ (none inside.0 r (slice_get-get_or rules inside.0 r inside.1 ∙ ap Some inside.2)) held
 
 -- one feature more may open a rule only if the rule waits for it
-newly_open : (s t : FeatureSet) (c : FeatureValue) → ((f : FeatureValue) → t f ≡ (s f || (feature_eq f c || false))) → (r : Rule) → is_open t r ≡ true → (is_open s r ≡ true) ⊎ (waits_for r.premises c ≡ true)
+newly_open : (s t : FeatureSet) (c : FeatureValue) → ((f : FeatureValue) → t f ≡ (s f || (feature_eq f c || false))) → (r : Rule) → is_open t r ≡ true → (is_open s r ≡ true) ⊎ (is_premise r.premises c ≡ true)
 newly_open s t c grown r h =
     let both = and_not_parts (has_premises t r.premises) (t r.conclusion) h in
     let still_out : s r.conclusion ≡ false = (or_parts (s r.conclusion) _ (sym (grown r.conclusion) ∙ both.1)).0 in
@@ -61,7 +61,7 @@ newly_open s t c grown r h =
     was_or_is f e =
         ⊎_elim inl (λ late. ⊎_elim (λ same. inr (IsEquivalence.symm (equivalence features_decide) c f ∙ same)) (λ no. absurd (true≢false (sym no))) (or_cases (feature_eq f c) false late)) (or_cases (s f) _ (sym (grown f) ∙ e))
 
-    held_or_waits : (p : Premises) → has_premises t p ≡ true → (has_premises s p ≡ true) ⊎ (waits_for p c ≡ true)
+    held_or_waits : (p : Premises) → has_premises t p ≡ true → (has_premises s p ≡ true) ⊎ (is_premise p c ≡ true)
     held_or_waits premises.None e = inl refl
     held_or_waits (premises.One f) e = was_or_is f e
     held_or_waits (premises.Two f g) e =

@@ -18,7 +18,7 @@ use Rattle.workspace_record.specs.Equality.{equivalence}
 use Rattle.workspace_record.specs.Features.{FeatureValue, feature_eq, feature_cmp, feature_ties, features_decide}
 use Rattle.feature_account.specs.declared.rule.Rule.{Rule}
 use Rattle.feature_account.proofs.FoundFacts.{lent, lent_cmp, tied}
-use Rattle.account_making.specs.Waiting.{waits_for, waiting_at, IsWaiting}
+use Rattle.account_making.specs.Waiting.{is_premise, waiting_at, IsWaiting}
 
 -- the map with a number more for one feature
 module _ (m0 m1 m2 : BTreeMap (Bor FeatureValue) (Vec ℕ Global)) (k : Bor FeatureValue) (numbers : Vec ℕ Global) (n : ℕ) (taken : tree.UpdatesBy lent_cmp (lent_cmp k) m0 m1 None) (put : tree.UpdatesBy lent_cmp (lent_cmp k) m1 m2 (Some numbers)) where
@@ -55,7 +55,7 @@ one_added xs n a b f same =
 
 -- the map has the numbers of the waiting rules among the first
 pub record WaitsBelow (rules : List Rule) (count : ℕ) (waiting : BTreeMap (Bor FeatureValue) (Vec ℕ Global)) : Type 0 where
-  pub finds : (n : ℕ) (r : Rule) (f : FeatureValue) → n < count → slice_get rules n ≡ Some r → waits_for r.premises f ≡ true → list_any (nat_eq n) (waiting_at waiting f) ≡ true
+  pub finds : (n : ℕ) (r : Rule) (f : FeatureValue) → n < count → slice_get rules n ≡ Some r → is_premise r.premises f ≡ true → list_any (nat_eq n) (waiting_at waiting f) ≡ true
   pub known : (n : ℕ) (f : FeatureValue) → list_any (nat_eq n) (waiting_at waiting f) ≡ true → n < count
   pub few : (f : FeatureValue) → length (waiting_at waiting f) ≤ count
 
@@ -76,18 +76,18 @@ waits_all rules m count le ge all = record {
 }
 
 -- one rule more
-module _ (rules : List Rule) (m0 m1 : BTreeMap (Bor FeatureValue) (Vec ℕ Global)) (i : ℕ) (rule : Rule) (before : WaitsBelow rules i m0) (stands : slice_get rules i ≡ Some rule) (added : (f : FeatureValue) → waiting_at m1 f ≡ waiting_at m0 f ++ cond (waits_for rule.premises f) (i ∷ []) []) where
-  any_added : (n : ℕ) (f : FeatureValue) → list_any (nat_eq n) (waiting_at m1 f) ≡ (list_any (nat_eq n) (waiting_at m0 f) || list_any (nat_eq n) (cond (waits_for rule.premises f) (i ∷ []) []))
+module _ (rules : List Rule) (m0 m1 : BTreeMap (Bor FeatureValue) (Vec ℕ Global)) (i : ℕ) (rule : Rule) (before : WaitsBelow rules i m0) (stands : slice_get rules i ≡ Some rule) (added : (f : FeatureValue) → waiting_at m1 f ≡ waiting_at m0 f ++ cond (is_premise rule.premises f) (i ∷ []) []) where
+  any_added : (n : ℕ) (f : FeatureValue) → list_any (nat_eq n) (waiting_at m1 f) ≡ (list_any (nat_eq n) (waiting_at m0 f) || list_any (nat_eq n) (cond (is_premise rule.premises f) (i ∷ []) []))
   any_added n f = ap (list_any (nat_eq n)) (added f) ∙ list_any-append (nat_eq n) (waiting_at m0 f) _
 
   same_number : (b : Bool) (n : ℕ) → list_any (nat_eq n) (cond b (i ∷ []) []) ≡ true → n ≡ i
   same_number true n h = (unsigned_Decides n i).0 (⊎_elim (λ e. e) (λ e. absurd (true≢false (sym e))) (or_cases (nat_eq n i) false h))
   same_number false n h = absurd (true≢false (sym h))
 
-  new_found : (n : ℕ) (r : Rule) (f : FeatureValue) → n ≡ i → slice_get rules n ≡ Some r → waits_for r.premises f ≡ true → list_any (nat_eq n) (cond (waits_for rule.premises f) (i ∷ []) []) ≡ true
+  new_found : (n : ℕ) (r : Rule) (f : FeatureValue) → n ≡ i → slice_get rules n ≡ Some r → is_premise r.premises f ≡ true → list_any (nat_eq n) (cond (is_premise rule.premises f) (i ∷ []) []) ≡ true
   new_found n r f e at waits =
       let same : r ≡ rule = ap (λ o. unwrap_or o r) (sym at ∙ ap (slice_get rules) e ∙ stands) in
-      let waits_now : waits_for rule.premises f ≡ true = subst (λ (q : Rule). waits_for q.premises f ≡ true) same waits in
+      let waits_now : is_premise rule.premises f ≡ true = subst (λ (q : Rule). is_premise q.premises f ≡ true) same waits in
       ap (λ b. list_any (nat_eq n) (cond b (i ∷ []) [])) waits_now ∙ or_left (nat_eq n i) false ((unsigned_Decides n i).1 e)
 
   length_added : (b : Bool) → length (cond b (i ∷ []) []) ≤ 1
@@ -97,8 +97,8 @@ module _ (rules : List Rule) (m0 m1 : BTreeMap (Bor FeatureValue) (Vec ℕ Globa
   pub waits_more : WaitsBelow rules (i + 1) m1
   waits_more = record {
     finds = λ n r f lt at waits. any_added n f ∙ ⊎_elim (λ (old : n < i). or_left _ _ (before.finds n r f old at waits)) (λ (past : i ≤ n). or_right (list_any (nat_eq n) (waiting_at m0 f)) _ (new_found n r f (omega (arith, past, lt)) at waits)) (cases_lt n i);
-    known = λ n f h. ⊎_elim (λ old. let lt = before.known n f old in omega (arith, lt)) (λ new. let e = same_number (waits_for rule.premises f) n new in omega (arith, e)) (or_cases _ _ (sym (any_added n f) ∙ h));
-    few = λ f. let le = before.few f in let one = length_added (waits_for rule.premises f) in let e = ap length (added f) in let sum = length-append (waiting_at m0 f) (cond (waits_for rule.premises f) (i ∷ []) []) in omega (arith, le, one, e, sum);
+    known = λ n f h. ⊎_elim (λ old. let lt = before.known n f old in omega (arith, lt)) (λ new. let e = same_number (is_premise rule.premises f) n new in omega (arith, e)) (or_cases _ _ (sym (any_added n f) ∙ h));
+    few = λ f. let le = before.few f in let one = length_added (is_premise rule.premises f) in let e = ap length (added f) in let sum = length-append (waiting_at m0 f) (cond (is_premise rule.premises f) (i ∷ []) []) in omega (arith, le, one, e, sum);
   }
 
 -- what holds after a call that may fail

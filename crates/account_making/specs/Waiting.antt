@@ -1,4 +1,5 @@
 -- What a search over rules keeps: which rules wait for a feature, and which are to be looked at.
+pub use Rattle.feature_account.specs.Closed.{is_premise}
 use Rattle.std.specs.Prelude.{◌≡◌, ℕ, ◌+◌, ◌<◌, ◌≤◌, Bool, true, false, ◌||◌, List, [], Some, length, slice_get, Vec, nat_eq, Contains}
 use Rattle.std.specs.BTreeMap as tree
 use Rattle.std.specs.BTreeMap.{BTreeMap}
@@ -9,16 +10,8 @@ use Rattle.std.specs.Global.{Global}
 use Rattle.std.specs.List.{list_any}
 use Rattle.std.specs.Option.{option_map_or}
 use Rattle.std.specs.Ordering.{nat_cmp}
-use Rattle.workspace_record.specs.Features.{FeatureValue, feature_eq, feature_cmp}
-use Rattle.feature_account.specs.declared.rule.Premises.{Premises}
-use Rattle.feature_account.specs.declared.rule.Premises.TheVariants.{None, One, Two}
+use Rattle.workspace_record.specs.Features.{FeatureValue, feature_cmp}
 use Rattle.feature_account.specs.declared.rule.Rule.{Rule}
-
--- the feature is one of the premises
-abbrev pub waits_for : Premises → FeatureValue → Bool
-waits_for None f = false
-waits_for (One a) f = feature_eq f a
-waits_for (Two a b) f = feature_eq f a || feature_eq f b
 
 -- the numbers that the map has for a feature
 abbrev pub waiting_at : BTreeMap (Bor FeatureValue) (Vec ℕ Global) → FeatureValue → List ℕ
@@ -26,7 +19,7 @@ waiting_at waiting f = option_map_or (λ v. v.items) (tree.get_by (λ k. feature
 
 -- the map has for a feature the numbers of the rules that wait for it, each once at most
 pub record IsWaiting (rules : List Rule) (waiting : BTreeMap (Bor FeatureValue) (Vec ℕ Global)) : Type 0 where
-  pub finds : (n : ℕ) (r : Rule) (f : FeatureValue) → slice_get rules n ≡ Some r → waits_for r.premises f ≡ true → list_any (nat_eq n) (waiting_at waiting f) ≡ true
+  pub finds : (n : ℕ) (r : Rule) (f : FeatureValue) → slice_get rules n ≡ Some r → is_premise r.premises f ≡ true → list_any (nat_eq n) (waiting_at waiting f) ≡ true
   pub known : (n : ℕ) (f : FeatureValue) → list_any (nat_eq n) (waiting_at waiting f) ≡ true → n < length rules
   pub few : (f : FeatureValue) → length (waiting_at waiting f) ≤ length rules
 

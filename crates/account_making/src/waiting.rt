@@ -2,7 +2,7 @@
 
 ghost use Rattle.std.specs.Prelude.{◌≡◌, [], ◌∷◌, ◌++◌, OnOk, IfOk, ◌||◌, if◌then◌else◌};
 ghost use Rattle.workspace_record.specs.Features.{FeatureValue, feature_eq};
-ghost use Rattle.account_making.specs.Waiting.{waits_for, waiting_at, IsWaiting};
+ghost use Rattle.account_making.specs.Waiting.{is_premise, waiting_at, IsWaiting};
 
 use feature_account::{Premises, Rule};
 use std::alloc::{AllocError, Global};
@@ -29,7 +29,7 @@ fn add_premises<'a>(
     premises: &'a Premises,
     number: usize,
 ) -> Result<(), AllocError>
-    ensures { OnOk result ((f : FeatureValue) → waiting_at waiting.new f ≡ waiting_at waiting.old f ++ (if waits_for premises.entry.now f then number ∷ [] else [])) }
+    ensures { OnOk result ((f : FeatureValue) → waiting_at waiting.new f ≡ waiting_at waiting.old f ++ (if is_premise premises.entry.now f then number ∷ [] else [])) }
 {
     match premises {
         Premises::None => Ok(()),

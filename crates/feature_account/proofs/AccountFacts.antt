@@ -1,5 +1,5 @@
 -- An account, read entry by entry.
-use Rattle.std.proofs.Common.{Bor, ◌≡◌, ℕ, zero, suc, ◌+◌, ◌<◌, ◌⊎◌, ⊎_elim, Bool, true, false, not, ◌&&◌, ◌||◌, List, [], ◌∷◌, ◌++◌, Option, Some, None, length, take, get_or, append-nil, append_assoc, refl, sym, ◌∙◌, ap, subst, slice_get, Contains, true≢false, unwrap_or, Result, Ok, Err, IfOk, ◌↔◌}
+use Rattle.std.proofs.Common.{Bor, ◌≡◌, ℕ, zero, suc, ◌+◌, ◌<◌, ⊎_elim, true, false, ◌||◌, List, [], ◌∷◌, ◌++◌, Option, Some, None, length, take, get_or, append-nil, append_assoc, refl, sym, ◌∙◌, ap, subst, slice_get, Contains, true≢false, unwrap_or, Result, Ok, Err, IfOk, ◌↔◌}
 use Rattle.std.specs.BTreeMap as tree
 use Rattle.std.specs.BTreeSet.{BTreeSet}
 use Rattle.std.specs.List.{list_any, cons_option}
@@ -11,11 +11,11 @@ use Rattle.std.proofs.lemmas.Option.{slice_get_within, get_or_from_slice_get, sl
 use Rattle.list_facts.proofs.Tests.{and_not_parts, implied}
 use Rattle.workspace_record.specs.Features.{FeatureValue, feature_eq, feature_cmp}
 use Rattle.feature_account.specs.Closed.{FeatureSet, has_premises, is_open, IsClosed}
-use Rattle.feature_account.specs.Accounts.{conclusions, concluded_set, concludes, MayStand, IsSoundAfter, IsSound, IsFirstFault, IsUnknown, IsRepeated, IsUnsupported, IsFirstOpen, IsVerdict, IsValidAccount}
+use Rattle.feature_account.specs.Accounts.{conclusions, concluded_set, concludes, MayStand, IsSoundAfter, IsSound, IsFirstFault, IsUnknown, IsRepeated, IsUnsupported, IsFirstOpen, IsFault, IsVerdict, IsValidAccount}
 use Rattle.feature_account.specs.Found.{found_set}
 use Rattle.feature_account.specs.declared.rule.Rule.{Rule}
 use Rattle.feature_account.specs.declared.verdict.Verdict.{Verdict}
-use Rattle.feature_account.specs.declared.verdict.Verdict.TheVariants.{Accepted, UnknownRule, RepeatedConclusion, MissingPremise, NotClosed}
+use Rattle.feature_account.specs.declared.verdict.Verdict.TheVariants.{Accepted, UnknownRule, RepeatedConclusion, MissingPremise, NotClosed, NotGoal, Unused}
 
 -- what stands at a number is in the list
 pub Contains-slice_get : {X : Type 0} (xs : List X) (n : ℕ) (x : X) → slice_get xs n ≡ Some x → Contains xs x
@@ -48,15 +48,15 @@ concludes-push rules account n r known f =
     ap (λ xs. concluded_set xs f) (conclusions-push rules account n r known) ∙ list_any-append (feature_eq f) (conclusions rules account) (r.conclusion ∷ [])
 
 module _ (rules : List Rule) (account : List ℕ) (place n : ℕ) (found : FeatureSet) (so_far : SoFar rules account place found) (stands : slice_get account place ≡ Some n) where
-  pub unknown_at : slice_get rules n ≡ None → IsVerdict rules account (UnknownRule place)
+  pub unknown_at : slice_get rules n ≡ None → IsFault rules account (UnknownRule place)
   unknown_at e = record { before = so_far.sound; entry = n; stands = stands; fault = e }
 
   module _ (r : Rule) (known : slice_get rules n ≡ Some r) where
-    pub repeated_at : found r.conclusion ≡ true → IsVerdict rules account (RepeatedConclusion place)
+    pub repeated_at : found r.conclusion ≡ true → IsFault rules account (RepeatedConclusion place)
     repeated_at h =
         record { before = so_far.sound; entry = n; stands = stands; fault = subst (IsRepeated rules (take place account)) (sym known) (subst (λ xs. xs r.conclusion ≡ true) so_far.found_is h) }
 
-    pub unsupported_at : found r.conclusion ≡ false → has_premises found r.premises ≡ false → IsVerdict rules account (MissingPremise place)
+    pub unsupported_at : found r.conclusion ≡ false → has_premises found r.premises ≡ false → IsFault rules account (MissingPremise place)
     unsupported_at new h =
         record { before = so_far.sound; entry = n; stands = stands; fault = subst (IsUnsupported rules (take place account)) (sym known) (subst (λ xs. (xs r.conclusion ≡ false) × (has_premises xs r.premises ≡ false)) so_far.found_is (new, h)) }
 
@@ -92,21 +92,25 @@ first_open_at s rules n r lt at opened closed =
       lowest = closed;
     }
 
-module _ (rules : List Rule) (account : List ℕ) (place : ℕ) (found : FeatureSet) (so_far : SoFar rules account place found) (all : take place account ≡ account) where
-  found_all : found ≡ concludes rules account
-  found_all = so_far.found_is ∙ ap (concludes rules) all
+-- all entries were read
+pub found_at_end : (rules : List Rule) (account : List ℕ) (place : ℕ) (found : FeatureSet) → SoFar rules account place found → take place account ≡ account → found ≡ concludes rules account
+found_at_end rules account place found so_far all = so_far.found_is ∙ ap (concludes rules) all
 
-  sound_all : IsSound rules account
-  sound_all = subst (IsSound rules) all so_far.sound
+pub sound_at_end : (rules : List Rule) (account : List ℕ) (place : ℕ) (found : FeatureSet) → SoFar rules account place found → take place account ≡ account → IsSound rules account
+sound_at_end rules account place found so_far all = subst (IsSound rules) all so_far.sound
 
-  pub accepted_at_end : IsClosed rules found → IsVerdict rules account Accepted
-  accepted_at_end closed = record { sound = sound_all; closed = subst (IsClosed rules) found_all closed }
-
-  pub not_closed_at_end : (n : ℕ) → IsFirstOpen rules found n → IsVerdict rules account (NotClosed n)
-  not_closed_at_end n first = (sound_all, subst (λ s. IsFirstOpen rules s n) found_all first)
+-- a fault is a verdict on an account
+pub verdict_from_fault : (rules : List Rule) (account : List ℕ) (v : Verdict) → IsFault rules account v → IsVerdict rules account v
+verdict_from_fault rules account Accepted h = absurd h
+verdict_from_fault rules account (UnknownRule place) h = h
+verdict_from_fault rules account (RepeatedConclusion place) h = h
+verdict_from_fault rules account (MissingPremise place) h = h
+verdict_from_fault rules account (NotClosed number) h = absurd h
+verdict_from_fault rules account NotGoal h = absurd h
+verdict_from_fault rules account (Unused place) h = absurd h
 
 -- an entry of a sound account is the number of a rule that may stand
-stands_at : (rules : List Rule) (earlier account : List ℕ) (place n : ℕ) → IsSoundAfter rules earlier account → slice_get account place ≡ Some n → (r : Rule) × (slice_get rules n ≡ Some r) × MayStand rules (earlier ++ take place account) r
+pub stands_at : (rules : List Rule) (earlier account : List ℕ) (place n : ℕ) → IsSoundAfter rules earlier account → slice_get account place ≡ Some n → (r : Rule) × (slice_get rules n ≡ Some r) × MayStand rules (earlier ++ take place account) r
 stands_at rules earlier [] place n sound e = absurd cc
 stands_at rules earlier (m ∷ account) zero n sound e =
     (sound.0, ap (slice_get rules) (sym (ap (λ o. unwrap_or o m) e)) ∙ sound.1, subst (λ xs. MayStand rules xs sound.0) (sym (append-nil earlier)) sound.2)
@@ -120,19 +124,31 @@ no_fault rules account place Fault refuted sound first =
     let at = stands_at rules [] account place first.entry sound first.stands in
     refuted at.0 at.2 (subst (Fault (take place account)) at.1 first.fault)
 
+-- no fault is told of a sound account
+pub sound_has_no_fault : (rules : List Rule) (account : List ℕ) (v : Verdict) → IsSound rules account → IsFault rules account v → ⊥
+sound_has_no_fault rules account Accepted sound h = h
+sound_has_no_fault rules account (UnknownRule place) sound h =
+    no_fault rules account place IsUnknown (λ r may bad. cc) sound h
+sound_has_no_fault rules account (RepeatedConclusion place) sound h =
+    no_fault rules account place (IsRepeated rules) (λ r may bad. true≢false (sym bad ∙ may.new)) sound h
+sound_has_no_fault rules account (MissingPremise place) sound h =
+    no_fault rules account place (IsUnsupported rules) (λ r may bad. true≢false (sym may.supported ∙ bad.1)) sound h
+sound_has_no_fault rules account (NotClosed number) sound h = h
+sound_has_no_fault rules account NotGoal sound h = h
+sound_has_no_fault rules account (Unused place) sound h = h
+
 -- a valid account gets no other verdict
 pub accepted_from_valid : (rules : List Rule) (account : List ℕ) (v : Verdict) → IsVerdict rules account v → IsValidAccount rules account → v ≡ Accepted
 accepted_from_valid rules account Accepted h valid = refl
-accepted_from_valid rules account (UnknownRule place) h valid =
-    absurd (no_fault rules account place IsUnknown (λ r may bad. cc) valid.sound h)
-accepted_from_valid rules account (RepeatedConclusion place) h valid =
-    absurd (no_fault rules account place (IsRepeated rules) (λ r may bad. true≢false (sym bad ∙ may.new)) valid.sound h)
-accepted_from_valid rules account (MissingPremise place) h valid =
-    absurd (no_fault rules account place (IsUnsupported rules) (λ r may bad. true≢false (sym may.supported ∙ bad.1)) valid.sound h)
+accepted_from_valid rules account (UnknownRule place) h valid = absurd (sound_has_no_fault rules account (UnknownRule place) valid.sound h)
+accepted_from_valid rules account (RepeatedConclusion place) h valid = absurd (sound_has_no_fault rules account (RepeatedConclusion place) valid.sound h)
+accepted_from_valid rules account (MissingPremise place) h valid = absurd (sound_has_no_fault rules account (MissingPremise place) valid.sound h)
 accepted_from_valid rules account (NotClosed number) h valid =
     let open_rule = h.1 in
     let inside = Contains-slice_get rules number open_rule.rule open_rule.stands in
     absurd (true≢false (sym (valid.closed open_rule.rule inside open_rule.supported) ∙ open_rule.left_out))
+accepted_from_valid rules account NotGoal h valid = absurd h
+accepted_from_valid rules account (Unused place) h valid = absurd h
 
 -- exactly a valid account is accepted
 pub accepted_iff : (rules : List Rule) (account : List ℕ) (v : Verdict) → IsVerdict rules account v → (v ≡ Accepted) ↔ IsValidAccount rules account

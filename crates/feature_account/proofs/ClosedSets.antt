@@ -18,7 +18,7 @@ use Rattle.feature_account.proofs.RuleFacts.{rule_list-grows}
 use Rattle.feature_account.proofs.AccountFacts.{Contains-slice_get, conclusions-push}
 
 -- each feature of the one set is in the other
-abbrev IsWithin : FeatureSet → FeatureSet → Type 0
+abbrev pub IsWithin : FeatureSet → FeatureSet → Type 0
 IsWithin s t = (f : FeatureValue) → s f ≡ true → t f ≡ true
 
 -- a larger set has the premises too

@@ -6,3 +6,5 @@ pub mod EntryReading
 pub mod LineFacts
 pub mod KeptLinks
 pub mod RuleFacts
+pub mod ExplanationFacts
+pub mod Irreducible

@@ -5,7 +5,7 @@ use Rattle.workspace_record.specs.Features.{FeatureValue, feature_eq}
 use Rattle.feature_account.specs.Closed.{FeatureSet, has_premises, IsClosed}
 use Rattle.feature_account.specs.declared.rule.Rule.{Rule}
 use Rattle.feature_account.specs.declared.verdict.Verdict.{Verdict}
-use Rattle.feature_account.specs.declared.verdict.Verdict.TheVariants.{Accepted, UnknownRule, RepeatedConclusion, MissingPremise, NotClosed}
+use Rattle.feature_account.specs.declared.verdict.Verdict.TheVariants.{Accepted, UnknownRule, RepeatedConclusion, MissingPremise, NotClosed, NotGoal, Unused}
 
 -- what the entries conclude, in their order
 abbrev pub conclusions : List Rule → List ℕ → List FeatureValue
@@ -67,10 +67,18 @@ pub record IsFirstOpen (rules : List Rule) (s : FeatureSet) (number : ℕ) : Typ
   pub left_out : s rule.conclusion ≡ false
   pub lowest : IsClosed (take number rules) s
 
+-- the verdict tells the first entry that may not stand, and why
+abbrev pub IsFault : List Rule → List ℕ → Verdict → Type 0
+IsFault rules entries (UnknownRule place) = IsFirstFault rules entries place IsUnknown
+IsFault rules entries (RepeatedConclusion place) = IsFirstFault rules entries place (IsRepeated rules)
+IsFault rules entries (MissingPremise place) = IsFirstFault rules entries place (IsUnsupported rules)
+IsFault rules entries Accepted = ⊥
+IsFault rules entries (NotClosed number) = ⊥
+IsFault rules entries NotGoal = ⊥
+IsFault rules entries (Unused place) = ⊥
+
 -- what is to be said of an account: that it is valid, or its first fault
 abbrev pub IsVerdict : List Rule → List ℕ → Verdict → Type 0
 IsVerdict rules account Accepted = IsValidAccount rules account
-IsVerdict rules account (UnknownRule place) = IsFirstFault rules account place IsUnknown
-IsVerdict rules account (RepeatedConclusion place) = IsFirstFault rules account place (IsRepeated rules)
-IsVerdict rules account (MissingPremise place) = IsFirstFault rules account place (IsUnsupported rules)
 IsVerdict rules account (NotClosed number) = IsSound rules account × IsFirstOpen rules (concludes rules account) number
+IsVerdict rules account fault = IsFault rules account fault

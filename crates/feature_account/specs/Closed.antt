@@ -1,6 +1,6 @@
 -- Sets of features that rules close, and what is on: what lies in all of them.
-use Rattle.std.specs.Prelude.{◌≡◌, Bool, true, not, ◌&&◌, List, Contains}
-use Rattle.workspace_record.specs.Features.{FeatureValue}
+use Rattle.std.specs.Prelude.{◌≡◌, Bool, true, false, not, ◌&&◌, ◌||◌, List, Contains}
+use Rattle.workspace_record.specs.Features.{FeatureValue, feature_eq}
 use Rattle.feature_account.specs.declared.rule.Premises.{Premises}
 use Rattle.feature_account.specs.declared.rule.Premises.TheVariants.{None, One, Two}
 use Rattle.feature_account.specs.declared.rule.Rule.{Rule}
@@ -14,6 +14,12 @@ abbrev pub has_premises : FeatureSet → Premises → Bool
 has_premises s None = true
 has_premises s (One f) = s f
 has_premises s (Two f g) = s f && s g
+
+-- the feature is one of the premises
+abbrev pub is_premise : Premises → FeatureSet
+is_premise None f = false
+is_premise (One g) f = feature_eq f g
+is_premise (Two g h) f = feature_eq f g || feature_eq f h
 
 -- the set has the premises of a rule, and not its conclusion
 abbrev pub is_open : FeatureSet → Rule → Bool

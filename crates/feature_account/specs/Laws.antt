@@ -7,6 +7,7 @@ use Rattle.workspace_record.specs.Tables.{answer}
 use Rattle.workspace_record.specs.declared.choice.PlatformTable.{PlatformTable}
 use Rattle.feature_account.specs.Accounts.{concludes, IsValidAccount}
 use Rattle.feature_account.specs.Closed.{IsOn}
+use Rattle.feature_account.specs.Explanations.{IsExplanation, IsSublist}
 use Rattle.feature_account.specs.IsRule.{IsRule}
 use Rattle.feature_account.specs.RuleList.{rule_list}
 use Rattle.feature_account.specs.declared.rule.Rule.{Rule}
@@ -20,6 +21,11 @@ ListsEachRule =
 abbrev pub AccountsAgree : Type 0
 AccountsAgree =
     (rules : List Rule) (a b : List ℕ) → IsValidAccount rules a → IsValidAccount rules b → (f : FeatureValue) → (concludes rules a f ≡ concludes rules b f) × (IsTrue (concludes rules a f) ↔ IsOn rules f)
+
+-- a list made of an explanation by dropping entries is an explanation of the same feature only if none was dropped
+abbrev pub ExplanationsAreIrreducible : Type 0
+ExplanationsAreIrreducible =
+    (rules : List Rule) (goal : FeatureValue) (fewer entries : List ℕ) → IsExplanation rules goal entries → IsSublist fewer entries → IsExplanation rules goal fewer → fewer ≡ entries
 
 -- what is on stays on when an extra is added
 abbrev pub StaysOnWithAnExtra : Type 0

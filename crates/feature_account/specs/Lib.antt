@@ -4,6 +4,7 @@ pub mod EntryView
 pub mod RuleList
 pub mod Closed
 pub mod Accounts
+pub mod Explanations
 pub mod Found
 pub mod IsEntry
 pub mod IsRule

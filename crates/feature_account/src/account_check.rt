@@ -7,9 +7,10 @@ ghost use Rattle.feature_account.specs.Found.{found_set};
 ghost use Rattle.feature_account.specs.Accounts.{IsFirstOpen, IsValidAccount, IsVerdict};
 ghost use Rattle.feature_account.specs.RuleList.{rule_list};
 
-use crate::found::{contains, has_premises, insert, is_open};
+use crate::found::is_open;
 use crate::rule::Rule;
 use crate::rule_list::rules;
+use crate::soundness::first_fault;
 use crate::verdict::Verdict;
 use std::alloc::{AllocError, Global};
 use std::collections::BTreeSet;
@@ -53,21 +54,12 @@ fn first_open<'a>(rules: &'a [Rule], concluded: &BTreeSet<&'a Feature>) -> Optio
 fn verdict_of(alloc: Global, rules: &[Rule], account: &[usize]) -> Result<Verdict, AllocError>
     ensures { IfOk result (IsVerdict rules.now account.now) }
 {
-    let mut concluded: BTreeSet<&Feature> = BTreeSet::new(alloc);
-    for (place, number) in account.iter().enumerate() {
-        let Some(rule) = rules.get(*number) else {
-            return Ok(Verdict::UnknownRule(place));
-        };
-        if contains(&concluded, &rule.conclusion) {
-            return Ok(Verdict::RepeatedConclusion(place));
-        }
-        if !has_premises(&concluded, &rule.premises) {
-            return Ok(Verdict::MissingPremise(place));
-        }
-        insert(&mut concluded, &rule.conclusion)?;
+    let mut concluded = BTreeSet::new(alloc);
+    match first_fault(rules, account, &mut concluded)? {
+        Some(fault) => Ok(fault),
+        None => match first_open(rules, &concluded) {
+            None => Ok(Verdict::Accepted),
+            Some(number) => Ok(Verdict::NotClosed(number)),
+        },
     }
-    Ok(match first_open(rules, &concluded) {
-        None => Verdict::Accepted,
-        Some(number) => Verdict::NotClosed(number),
-    })
 }

@@ -2,7 +2,7 @@
 
 ghost use Rattle.std.specs.Prelude.{◌≡◌, ◌||◌, false, OnOk};
 ghost use Rattle.workspace_record.specs.Features.{FeatureValue, feature_eq};
-ghost use Rattle.feature_account.specs.Closed.{has_premises, is_open};
+ghost use Rattle.feature_account.specs.Closed.{has_premises, is_open, is_premise};
 ghost use Rattle.feature_account.specs.Found.{found_set};
 
 use crate::rule::{Premises, Rule};
@@ -41,4 +41,21 @@ pub fn insert<'a>(found: &mut BTreeSet<&'a Feature>, feature: &'a Feature) -> Re
 {
     found.insert(feature)?;
     Ok(())
+}
+
+/// Finds the premises too.
+pub fn insert_premises<'a>(
+    found: &mut BTreeSet<&'a Feature>,
+    premises: &'a Premises,
+) -> Result<(), AllocError>
+    ensures found { OnOk result ((f : FeatureValue) → found_set found.new f ≡ (is_premise premises.entry.now f || found_set found.old f)) }
+{
+    match premises {
+        Premises::None => Ok(()),
+        Premises::One(a) => insert(found, a),
+        Premises::Two(a, b) => {
+            insert(found, a)?;
+            insert(found, b)
+        }
+    }
 }

@@ -2,6 +2,7 @@
 
 ghost use Rattle.feature_account.specs.Laws.{
   AccountsAgree,
+  ExplanationsAreIrreducible,
   ListsEachRule,
   StaysOnWhenUnknownsCount,
   StaysOnWithAYes,
@@ -16,6 +17,12 @@ pub fn lists_each_rule()
 /// Two valid accounts of one list of rules conclude the same features, and exactly those that are on.
 pub fn accounts_agree()
     ensures { AccountsAgree }
+{}
+
+/// An explanation has no entry to spare: with any of its entries dropped, it is none of the same
+/// feature.
+pub fn explanations_are_irreducible()
+    ensures { ExplanationsAreIrreducible }
 {}
 
 /// What is on stays on when an extra is added.

@@ -1,17 +1,21 @@
-//! The rules by which Cargo switches features on, and a checker of accounts of what is on.
+//! The rules by which Cargo switches features on, and checkers of accounts of what is on and of
+//! explanations why a feature is.
 #![tactic(auto)]
 
 mod account_check;
 mod entry;
+mod explanation_check;
 pub mod found;
 pub mod laws;
 pub mod lines;
 mod own_features;
 mod rule;
 mod rule_list;
+pub mod soundness;
 mod verdict;
 
 pub use crate::account_check::check_account;
+pub use crate::explanation_check::check_explanation;
 pub use crate::rule::{Premises, Rule};
 pub use crate::rule_list::rules;
 pub use crate::verdict::Verdict;

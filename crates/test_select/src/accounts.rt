@@ -58,6 +58,8 @@ fn write_verdict<O: Write>(verdict: Verdict, out: &mut O) -> io::Result<()> {
         }
         Verdict::MissingPremise(place) => writeln!(out, "refused: missing premise at {place}")?,
         Verdict::NotClosed(number) => writeln!(out, "refused: not closed at {number}")?,
+        Verdict::NotGoal => writeln!(out, "refused: goal not reached")?,
+        Verdict::Unused(place) => writeln!(out, "refused: unused at {place}")?,
     }
     out.flush()
 }

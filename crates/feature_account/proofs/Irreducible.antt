@@ -1,0 +1,119 @@
+-- Why no entry of an explanation can be dropped.
+use Rattle.std.proofs.Common.{◌≡◌, ℕ, ⊎_elim, true, false, ◌||◌, List, [], ◌∷◌, ◌++◌, Some, append-nil, append_assoc, refl, sym, ◌∙◌, ap, subst, slice_get, true≢false}
+use Rattle.std.specs.List.{cons_option}
+use Rattle.std.specs.Option.{option_map}
+use Rattle.std.proofs.lemmas.Bool.{and_parts, or_cases, or_left, or_right}
+use Rattle.std.proofs.lemmas.List.Elements.{filter_map-append}
+use Rattle.std.proofs.lemmas.List.Folds.{list_any-append}
+use Rattle.workspace_record.specs.Features.{FeatureValue, feature_eq, features_decide}
+use Rattle.feature_account.specs.Accounts.{conclusions, concluded_set, concludes, IsSoundAfter}
+use Rattle.feature_account.specs.Closed.{FeatureSet, has_premises, is_premise}
+use Rattle.feature_account.specs.Explanations.{EndsIn, needs, EachIsUsed, IsExplanation, IsSublist}
+use Rattle.feature_account.specs.declared.rule.Premises.{Premises}
+use Rattle.feature_account.specs.declared.rule.Premises.TheVariants as premises
+use Rattle.feature_account.specs.declared.rule.Rule.{Rule}
+use Rattle.feature_account.proofs.ClosedSets.{IsWithin}
+use Rattle.feature_account.proofs.ExplanationFacts.{needs-cons, is_used-known}
+
+-- what two lists conclude, one after the other
+pub concludes-append : (rules : List Rule) (front back : List ℕ) (f : FeatureValue) → concludes rules (front ++ back) f ≡ (concludes rules front f || concludes rules back f)
+concludes-append rules front back f =
+    ap (λ xs. concluded_set xs f) (filter_map-append _ front back) ∙ list_any-append (feature_eq f) (conclusions rules front) (conclusions rules back)
+
+-- what an account with one entry more in front concludes
+pub concludes-cons : (rules : List Rule) (n : ℕ) (account : List ℕ) (r : Rule) → slice_get rules n ≡ Some r → (f : FeatureValue) → concludes rules (n ∷ account) f ≡ (feature_eq f r.conclusion || concludes rules account f)
+concludes-cons rules n account r known f =
+    ap (λ o. concluded_set (cons_option (option_map (λ (q : Rule). q.conclusion) o) (conclusions rules account)) f) known
+
+same : (f : FeatureValue) → feature_eq f f ≡ true
+same f = (features_decide f f).1 refl
+
+-- a premise is in each set that has all of them
+pub premise_held : (s : FeatureSet) (p : Premises) (f : FeatureValue) → has_premises s p ≡ true → is_premise p f ≡ true → s f ≡ true
+premise_held s premises.None f held is = absurd (true≢false (sym is))
+premise_held s (premises.One g) f held is = subst (λ h. s h ≡ true) (sym ((features_decide f g).0 is)) held
+premise_held s (premises.Two g h) f held is =
+    let both = and_parts (s g) (s h) held in
+    ⊎_elim (λ e. subst (λ h. s h ≡ true) (sym ((features_decide f g).0 e)) both.0) (λ e. subst (λ h. s h ≡ true) (sym ((features_decide f h).0 e)) both.1) (or_cases (feature_eq f g) (feature_eq f h) is)
+
+-- what entries that may all stand need, was concluded before them or is by them
+pub needed_is_concluded : (rules : List Rule) (earlier entries : List ℕ) (f : FeatureValue) → IsSoundAfter rules earlier entries → needs rules entries f ≡ true → concludes rules (earlier ++ entries) f ≡ true
+needed_is_concluded rules earlier [] f sound needed = absurd (true≢false (sym needed))
+needed_is_concluded rules earlier (n ∷ ns) f sound needed =
+    let r = sound.0 in
+    ⊎_elim (λ is. concludes-append rules earlier (n ∷ ns) f ∙ or_left _ _ (premise_held (concludes rules earlier) r.premises f sound.2.supported is)) (λ h. subst (λ xs. concludes rules xs f ≡ true) (append_assoc earlier (n ∷ []) ns) (needed_is_concluded rules (earlier ++ n ∷ []) ns f sound.3 h)) (or_cases (is_premise r.premises f) (needs rules ns f) (sym (needs-cons rules n ns r f sound.1) ∙ needed))
+
+-- what was concluded before is not concluded again
+pub not_again : (rules : List Rule) (earlier entries : List ℕ) (f : FeatureValue) → IsSoundAfter rules earlier entries → concludes rules earlier f ≡ true → concludes rules entries f ≡ true → ⊥
+not_again rules earlier [] f sound before again = true≢false (sym again)
+not_again rules earlier (n ∷ ns) f sound before again =
+    let r = sound.0 in
+    ⊎_elim (λ e. true≢false (sym (subst (λ g. concludes rules earlier g ≡ true) ((features_decide f r.conclusion).0 e) before) ∙ sound.2.new)) (λ h. not_again rules (earlier ++ n ∷ []) ns f sound.3 (concludes-append rules earlier (n ∷ []) f ∙ or_left _ _ before) h) (or_cases (feature_eq f r.conclusion) (concludes rules ns f) (sym (concludes-cons rules n ns r sound.1 f) ∙ again))
+
+-- a list that ends in a feature concludes it
+pub ends_in-concludes : (rules : List Rule) (goal : FeatureValue) (entries : List ℕ) → EndsIn rules goal entries → concludes rules entries goal ≡ true
+ends_in-concludes rules goal [] ends = absurd ends
+ends_in-concludes rules goal (n ∷ []) ends =
+    ap (λ o. concluded_set (cons_option o []) goal) ends ∙ or_left _ _ (same goal)
+ends_in-concludes rules goal (n ∷ m ∷ ns) ends =
+    concludes-append rules (n ∷ []) (m ∷ ns) goal ∙ or_right _ _ (ends_in-concludes rules goal (m ∷ ns) ends)
+
+-- an entry that may stand after the earlier ones cannot be left out where all later ones are kept, and less before it
+not_left_out : (rules : List Rule) (goal : FeatureValue) (earlier kept : List ℕ) (n : ℕ) (later : List ℕ) → IsSoundAfter rules earlier (n ∷ later) → EndsIn rules goal (n ∷ later) → EachIsUsed rules (n ∷ later) → IsWithin (concludes rules kept) (concludes rules earlier) → IsSoundAfter rules kept later → concludes rules (kept ++ later) goal ≡ true → ⊥
+not_left_out rules goal earlier kept n [] sound ends used within kept_sound reached =
+    let r = sound.0 in
+    let here : concludes rules kept goal ≡ true = subst (λ xs. concludes rules xs goal ≡ true) (append-nil kept) reached in
+    let goal_is : Some r.conclusion ≡ Some goal = sym (ap (option_map (λ (q : Rule). q.conclusion)) sound.1) ∙ ends in
+    let conclusion_is : r.conclusion ≡ goal = cc in
+    true≢false (sym (within goal here) ∙ subst (λ g. concludes rules earlier g ≡ false) conclusion_is sound.2.new)
+not_left_out rules goal earlier kept n (m ∷ ms) sound ends used within kept_sound reached =
+    let r = sound.0 in
+    let c = r.conclusion in
+    let later = m ∷ ms in
+    let needed = sym (is_used-known rules n later r sound.1) ∙ used.0 in
+    let somewhere = needed_is_concluded rules kept later c kept_sound needed in
+    let here = concludes-append rules earlier (n ∷ []) c ∙ or_right _ _ (concludes-cons rules n [] r sound.1 c ∙ or_left _ _ (same c)) in
+    ⊎_elim (λ h. true≢false (sym (within c h) ∙ sound.2.new)) (λ h. not_again rules (earlier ++ n ∷ []) later c sound.3 here h) (or_cases _ _ (sym (concludes-append rules kept later c) ∙ somewhere))
+
+-- the tail of a list each of which is used
+used_tail : (rules : List Rule) (n : ℕ) (later : List ℕ) → EachIsUsed rules (n ∷ later) → EachIsUsed rules later
+used_tail rules n [] used = tt
+used_tail rules n (m ∷ ms) used = used.1
+
+-- there is no entry, or the last concludes the feature
+abbrev EndsIfAny : List Rule → FeatureValue → List ℕ → Type 0
+EndsIfAny rules goal [] = Unit {0}
+EndsIfAny rules goal (n ∷ ns) = EndsIn rules goal (n ∷ ns)
+
+ends_tail : (rules : List Rule) (goal : FeatureValue) (n : ℕ) (later : List ℕ) → EndsIn rules goal (n ∷ later) → EndsIfAny rules goal later
+ends_tail rules goal n [] ends = tt
+ends_tail rules goal n (m ∷ ms) ends = ends
+
+-- what is concluded stays so with one entry more
+within_push : (rules : List Rule) (kept earlier : List ℕ) (n : ℕ) → IsWithin (concludes rules kept) (concludes rules earlier) → IsWithin (concludes rules kept) (concludes rules (earlier ++ n ∷ []))
+within_push rules kept earlier n within f h = concludes-append rules earlier (n ∷ []) f ∙ or_left _ _ (within f h)
+
+within_both : (rules : List Rule) (kept earlier : List ℕ) (m n : ℕ) → m ≡ n → IsWithin (concludes rules kept) (concludes rules earlier) → IsWithin (concludes rules (kept ++ m ∷ [])) (concludes rules (earlier ++ n ∷ []))
+within_both rules kept earlier m n e within f h =
+    ⊎_elim (λ old. within_push rules kept earlier n within f old) (λ new. concludes-append rules earlier (n ∷ []) f ∙ or_right _ _ (subst (λ k. concludes rules (k ∷ []) f ≡ true) e new)) (or_cases _ _ (sym (concludes-append rules kept (m ∷ []) f) ∙ h))
+
+-- where entries are left out of the later ones, after less before them, none of them is
+none_left_out : (rules : List Rule) (goal : FeatureValue) (earlier kept entries fewer : List ℕ) → IsSoundAfter rules earlier entries → EndsIfAny rules goal entries → EachIsUsed rules entries → IsWithin (concludes rules kept) (concludes rules earlier) → IsSublist fewer entries → IsSoundAfter rules kept fewer → concludes rules (kept ++ fewer) goal ≡ true → fewer ≡ entries
+none_left_out rules goal earlier kept [] [] sound ends used within sub kept_sound reached = refl
+none_left_out rules goal earlier kept [] (m ∷ ms) sound ends used within sub kept_sound reached = absurd sub
+none_left_out rules goal earlier kept (n ∷ ns) [] sound ends used within sub kept_sound reached =
+    let all = none_left_out rules goal (earlier ++ n ∷ []) kept ns [] sound.3 (ends_tail rules goal n ns ends) (used_tail rules n ns used) (within_push rules kept earlier n within) tt kept_sound reached in
+    absurd (not_left_out rules goal earlier kept n ns sound ends used within (subst (IsSoundAfter rules kept) all kept_sound) (subst (λ xs. concludes rules (kept ++ xs) goal ≡ true) all reached))
+none_left_out rules goal earlier kept (n ∷ ns) (m ∷ ms) sound ends used within sub kept_sound reached =
+    let later_ends = ends_tail rules goal n ns ends in
+    let later_used = used_tail rules n ns used in
+    ⊎_elim (λ both. let all = none_left_out rules goal (earlier ++ n ∷ []) (kept ++ m ∷ []) ns ms sound.3 later_ends later_used (within_both rules kept earlier m n both.0 within) both.1 kept_sound.3 (subst (λ xs. concludes rules xs goal ≡ true) (sym (append_assoc kept (m ∷ []) ms)) reached) in ap (λ k. k ∷ ms) both.0 ∙ ap (λ xs. n ∷ xs) all) (λ skipped. let all = none_left_out rules goal (earlier ++ n ∷ []) kept ns (m ∷ ms) sound.3 later_ends later_used (within_push rules kept earlier n within) skipped kept_sound reached in absurd (not_left_out rules goal earlier kept n ns sound ends used within (subst (IsSoundAfter rules kept) all kept_sound) (subst (λ xs. concludes rules (kept ++ xs) goal ≡ true) all reached))) sub
+
+ends_if_any : (rules : List Rule) (goal : FeatureValue) (entries : List ℕ) → EndsIn rules goal entries → EndsIfAny rules goal entries
+ends_if_any rules goal [] ends = tt
+ends_if_any rules goal (n ∷ ns) ends = ends
+
+-- an explanation made of another by dropping entries has dropped none
+pub irreducible : (rules : List Rule) (goal : FeatureValue) (fewer entries : List ℕ) → IsExplanation rules goal entries → IsSublist fewer entries → IsExplanation rules goal fewer → fewer ≡ entries
+irreducible rules goal fewer entries is sub fewer_is =
+    none_left_out rules goal [] [] entries fewer is.sound (ends_if_any rules goal entries is.reached) is.used (λ f h. h) sub fewer_is.sound (ends_in-concludes rules goal fewer fewer_is.reached)

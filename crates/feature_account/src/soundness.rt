@@ -1,0 +1,46 @@
+//! Whether each entry of a list may stand where it does.
+
+ghost use Rattle.std.specs.Prelude.{◌≡◌, ◌<◌, [], length, slice_get, IfOk, IfNone, IfSome};
+ghost use Rattle.feature_account.specs.Accounts.{concludes, IsFault, IsSound};
+ghost use Rattle.feature_account.specs.Found.{found_set};
+
+use crate::found::{contains, has_premises, insert};
+use crate::rule::Rule;
+use crate::verdict::Verdict;
+use std::alloc::AllocError;
+use std::collections::BTreeSet;
+use workspace_record::Feature;
+
+/// The first entry that may not stand, if there is one; else all that the entries conclude is found.
+pub(crate) fn first_fault<'a>(
+    rules: &'a [Rule],
+    entries: &[usize],
+    concluded: &mut BTreeSet<&'a Feature>,
+) -> Result<Option<Verdict>, AllocError>
+    requires { concluded.old.keys ≡ [] }
+    ensures fault { IfOk result (λ o. IfSome o (IsFault rules.entry.now entries.now)) }
+    ensures sound { IfOk result (λ o. IfNone o (IsSound rules.entry.now entries.now)) }
+    ensures concluded { IfOk result (λ o. IfNone o (found_set concluded.new ≡ concludes rules.entry.now entries.now)) }
+{
+    for (place, number) in entries.iter().enumerate() {
+        let Some(rule) = rules.get(*number) else {
+            return Ok(Some(Verdict::UnknownRule(place)));
+        };
+        if contains(concluded, &rule.conclusion) {
+            return Ok(Some(Verdict::RepeatedConclusion(place)));
+        }
+        if !has_premises(concluded, &rule.premises) {
+            return Ok(Some(Verdict::MissingPremise(place)));
+        }
+        insert(concluded, &rule.conclusion)?;
+    }
+    Ok(None)
+}
+
+/// The rule with this number.
+pub fn rule_of(rules: &[Rule], number: usize) -> &Rule
+    requires known { number < length rules.now }
+    ensures stands { slice_get rules.entry.now number ≡ Some result.now }
+{
+    &rules[number]
+}
