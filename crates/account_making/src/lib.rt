@@ -12,4 +12,4 @@ mod writing;
 pub use crate::account::Account;
 pub use crate::making::account_of;
 pub use crate::write_account_error::WriteAccountError;
-pub use crate::writing::write_account;
+pub use crate::writing::{push_numbers, write_account};

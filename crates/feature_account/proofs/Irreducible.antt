@@ -13,20 +13,8 @@ use Rattle.feature_account.specs.declared.rule.Premises.{Premises}
 use Rattle.feature_account.specs.declared.rule.Premises.TheVariants as premises
 use Rattle.feature_account.specs.declared.rule.Rule.{Rule}
 use Rattle.feature_account.proofs.ClosedSets.{IsWithin}
+use Rattle.feature_account.proofs.Conclusions.{same_feature, concludes-append, concludes-cons, ends_in-concludes, not_again, within_push, within_both}
 use Rattle.feature_account.proofs.ExplanationFacts.{needs-cons, is_used-known}
-
--- what two lists conclude, one after the other
-pub concludes-append : (rules : List Rule) (front back : List ℕ) (f : FeatureValue) → concludes rules (front ++ back) f ≡ (concludes rules front f || concludes rules back f)
-concludes-append rules front back f =
-    ap (λ xs. concluded_set xs f) (filter_map-append _ front back) ∙ list_any-append (feature_eq f) (conclusions rules front) (conclusions rules back)
-
--- what an account with one entry more in front concludes
-pub concludes-cons : (rules : List Rule) (n : ℕ) (account : List ℕ) (r : Rule) → slice_get rules n ≡ Some r → (f : FeatureValue) → concludes rules (n ∷ account) f ≡ (feature_eq f r.conclusion || concludes rules account f)
-concludes-cons rules n account r known f =
-    ap (λ o. concluded_set (cons_option (option_map (λ (q : Rule). q.conclusion) o) (conclusions rules account)) f) known
-
-same : (f : FeatureValue) → feature_eq f f ≡ true
-same f = (features_decide f f).1 refl
 
 -- a premise is in each set that has all of them
 pub premise_held : (s : FeatureSet) (p : Premises) (f : FeatureValue) → has_premises s p ≡ true → is_premise p f ≡ true → s f ≡ true
@@ -43,21 +31,6 @@ needed_is_concluded rules earlier (n ∷ ns) f sound needed =
     let r = sound.0 in
     ⊎_elim (λ is. concludes-append rules earlier (n ∷ ns) f ∙ or_left _ _ (premise_held (concludes rules earlier) r.premises f sound.2.supported is)) (λ h. subst (λ xs. concludes rules xs f ≡ true) (append_assoc earlier (n ∷ []) ns) (needed_is_concluded rules (earlier ++ n ∷ []) ns f sound.3 h)) (or_cases (is_premise r.premises f) (needs rules ns f) (sym (needs-cons rules n ns r f sound.1) ∙ needed))
 
--- what was concluded before is not concluded again
-pub not_again : (rules : List Rule) (earlier entries : List ℕ) (f : FeatureValue) → IsSoundAfter rules earlier entries → concludes rules earlier f ≡ true → concludes rules entries f ≡ true → ⊥
-not_again rules earlier [] f sound before again = true≢false (sym again)
-not_again rules earlier (n ∷ ns) f sound before again =
-    let r = sound.0 in
-    ⊎_elim (λ e. true≢false (sym (subst (λ g. concludes rules earlier g ≡ true) ((features_decide f r.conclusion).0 e) before) ∙ sound.2.new)) (λ h. not_again rules (earlier ++ n ∷ []) ns f sound.3 (concludes-append rules earlier (n ∷ []) f ∙ or_left _ _ before) h) (or_cases (feature_eq f r.conclusion) (concludes rules ns f) (sym (concludes-cons rules n ns r sound.1 f) ∙ again))
-
--- a list that ends in a feature concludes it
-pub ends_in-concludes : (rules : List Rule) (goal : FeatureValue) (entries : List ℕ) → EndsIn rules goal entries → concludes rules entries goal ≡ true
-ends_in-concludes rules goal [] ends = absurd ends
-ends_in-concludes rules goal (n ∷ []) ends =
-    ap (λ o. concluded_set (cons_option o []) goal) ends ∙ or_left _ _ (same goal)
-ends_in-concludes rules goal (n ∷ m ∷ ns) ends =
-    concludes-append rules (n ∷ []) (m ∷ ns) goal ∙ or_right _ _ (ends_in-concludes rules goal (m ∷ ns) ends)
-
 -- an entry that may stand after the earlier ones cannot be left out where all later ones are kept, and less before it
 not_left_out : (rules : List Rule) (goal : FeatureValue) (earlier kept : List ℕ) (n : ℕ) (later : List ℕ) → IsSoundAfter rules earlier (n ∷ later) → EndsIn rules goal (n ∷ later) → EachIsUsed rules (n ∷ later) → IsWithin (concludes rules kept) (concludes rules earlier) → IsSoundAfter rules kept later → concludes rules (kept ++ later) goal ≡ true → ⊥
 not_left_out rules goal earlier kept n [] sound ends used within kept_sound reached =
@@ -72,7 +45,7 @@ not_left_out rules goal earlier kept n (m ∷ ms) sound ends used within kept_so
     let later = m ∷ ms in
     let needed = sym (is_used-known rules n later r sound.1) ∙ used.0 in
     let somewhere = needed_is_concluded rules kept later c kept_sound needed in
-    let here = concludes-append rules earlier (n ∷ []) c ∙ or_right _ _ (concludes-cons rules n [] r sound.1 c ∙ or_left _ _ (same c)) in
+    let here = concludes-append rules earlier (n ∷ []) c ∙ or_right _ _ (concludes-cons rules n [] r sound.1 c ∙ or_left _ _ (same_feature c)) in
     ⊎_elim (λ h. true≢false (sym (within c h) ∙ sound.2.new)) (λ h. not_again rules (earlier ++ n ∷ []) later c sound.3 here h) (or_cases _ _ (sym (concludes-append rules kept later c) ∙ somewhere))
 
 -- the tail of a list each of which is used
@@ -88,14 +61,6 @@ EndsIfAny rules goal (n ∷ ns) = EndsIn rules goal (n ∷ ns)
 ends_tail : (rules : List Rule) (goal : FeatureValue) (n : ℕ) (later : List ℕ) → EndsIn rules goal (n ∷ later) → EndsIfAny rules goal later
 ends_tail rules goal n [] ends = tt
 ends_tail rules goal n (m ∷ ms) ends = ends
-
--- what is concluded stays so with one entry more
-within_push : (rules : List Rule) (kept earlier : List ℕ) (n : ℕ) → IsWithin (concludes rules kept) (concludes rules earlier) → IsWithin (concludes rules kept) (concludes rules (earlier ++ n ∷ []))
-within_push rules kept earlier n within f h = concludes-append rules earlier (n ∷ []) f ∙ or_left _ _ (within f h)
-
-within_both : (rules : List Rule) (kept earlier : List ℕ) (m n : ℕ) → m ≡ n → IsWithin (concludes rules kept) (concludes rules earlier) → IsWithin (concludes rules (kept ++ m ∷ [])) (concludes rules (earlier ++ n ∷ []))
-within_both rules kept earlier m n e within f h =
-    ⊎_elim (λ old. within_push rules kept earlier n within f old) (λ new. concludes-append rules earlier (n ∷ []) f ∙ or_right _ _ (subst (λ k. concludes rules (k ∷ []) f ≡ true) e new)) (or_cases _ _ (sym (concludes-append rules kept (m ∷ []) f) ∙ h))
 
 -- where entries are left out of the later ones, after less before them, none of them is
 none_left_out : (rules : List Rule) (goal : FeatureValue) (earlier kept entries fewer : List ℕ) → IsSoundAfter rules earlier entries → EndsIfAny rules goal entries → EachIsUsed rules entries → IsWithin (concludes rules kept) (concludes rules earlier) → IsSublist fewer entries → IsSoundAfter rules kept fewer → concludes rules (kept ++ fewer) goal ≡ true → fewer ≡ entries

@@ -6,5 +6,6 @@ pub mod EntryReading
 pub mod LineFacts
 pub mod KeptLinks
 pub mod RuleFacts
+pub mod Conclusions
 pub mod ExplanationFacts
 pub mod Irreducible

@@ -1,0 +1,61 @@
+//! The entries of an account that the conclusion of one feature rests on.
+
+ghost use Rattle.std.specs.Prelude.{◌≡◌, ◌≢◌, ◌↔◌, [], false, IfOk, IfSome, IsSome, IsTrue};
+ghost use Rattle.feature_account.specs.Accounts.{concludes, IsSound};
+ghost use Rattle.feature_account.specs.Explanations.{IsExplanation, IsSublist};
+
+use feature_account::Rule;
+use feature_account::found::{contains, insert, insert_premises};
+use feature_account::soundness::rule_of;
+use std::alloc::{AllocError, Global};
+use std::collections::BTreeSet;
+use workspace_record::Feature;
+
+/// The entries of an account, in its order, that the conclusion of the feature rests on, that one last;
+/// none where no entry concludes the feature.
+///
+/// Takes any account whose entries may all stand. The work grows with the entries, times their
+/// logarithm.
+pub fn explanation_of(
+    alloc: Global,
+    rules: &[Rule],
+    account: &[usize],
+    feature: &Feature,
+) -> Result<Option<Vec<usize>>, AllocError>
+    requires sound { IsSound rules.now account.now }
+    ensures found { IfOk result (λ o. IsSome o ↔ IsTrue (concludes rules.now account.now feature.now)) }
+    ensures explains { IfOk result (λ o. IfSome o (λ v. IsExplanation rules.now feature.now v.items)) }
+    ensures in_order { IfOk result (λ o. IfSome o (λ v. IsSublist v.items account.now)) }
+{
+    let entries = needed_entries(alloc, rules, account, feature)?;
+    if entries.is_empty() {
+        return Ok(None);
+    }
+    Ok(Some(entries))
+}
+
+// Goes from the end, and takes each entry whose conclusion is the goal or a premise of one taken.
+fn needed_entries(
+    alloc: Global,
+    rules: &[Rule],
+    account: &[usize],
+    goal: &Feature,
+) -> Result<Vec<usize>, AllocError>
+    requires sound { IsSound rules.now account.now }
+    ensures none { IfOk result (λ v. v.items ≡ [] → concludes rules.now account.now goal.now ≡ false) }
+    ensures explains { IfOk result (λ v. v.items ≢ [] → IsExplanation rules.now goal.now v.items) }
+    ensures in_order { IfOk result (λ v. IsSublist v.items account.now) }
+{
+    let mut needed: BTreeSet<&Feature> = BTreeSet::new(alloc);
+    insert(&mut needed, goal)?;
+    let mut entries = Vec::new(alloc);
+    for place in (0..account.len()).rev() {
+        let rule = rule_of(rules, account[place]);
+        if contains(&needed, &rule.conclusion) {
+            entries.push(account[place])?;
+            insert_premises(&mut needed, &rule.premises)?;
+        }
+    }
+    entries.reverse();
+    Ok(entries)
+}

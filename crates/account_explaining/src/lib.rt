@@ -1,0 +1,8 @@
+//! Takes the explanation of one feature out of an account of what is on, and writes it.
+#![tactic(auto)]
+
+mod explaining;
+mod writing;
+
+pub use crate::explaining::explanation_of;
+pub use crate::writing::write_explanation;
