@@ -1,13 +1,17 @@
-use crate::question::{Question, choice_in, record_in, table_in};
+use crate::question::{Question, account_in, choice_in, record_in, table_in};
 use crate::rule_texts::{conclusions_text, rules_text};
 use crate::switching::tell_switching;
-use feature_account::{FeatureChoice, Rule, WorkspaceRecord, check_account, rules};
+use feature_account::{
+    FeatureChoice, Rule, Verdict, WorkspaceRecord, check_account, check_explanation, rules,
+};
+use record_files::AccountFile;
 use row_program::{Answers, Row, RowFault, RowRunner};
-use std::alloc::Global;
+use std::alloc::{AllocError, Global};
 
-/// Rows of rules and accounts. A row's `files` are `record.json`, and where it has them `choice.json`
-/// and `table.json`; its `account` is a list of numbers. What comes is `rules`, a line for each rule,
-/// `verdict`, what is to be said of the account, and `concludes`, what the account's rules conclude; and
+/// Rows of rules, accounts and explanations. A row's `files` are `record.json`, and where it has them
+/// `choice.json`, `table.json` and `account.json`; its `account` is a list of numbers. What comes is
+/// `rules`, a line for each rule, `verdict`, what is to be said of the account, or of the explanation
+/// where the file of the account has a goal, and `concludes`, what the rules of `account` conclude; and
 /// what is on by the rules in the graphs of the record (`tell_switching`).
 #[derive(Drop)]
 pub(crate) struct AccountRows;
@@ -89,12 +93,23 @@ fn tell_verdict(
     question: Question<'_>,
     answers: &mut Answers,
 ) -> Result<(), RowFault> {
+    let account = account_in(alloc, row)?;
+    let verdict = verdict_on(alloc, question, &account)?;
+    answers.push("verdict", format!(in alloc; "{verdict:?}")?)
+}
+
+fn verdict_on(
+    alloc: Global,
+    question: Question<'_>,
+    account: &AccountFile,
+) -> Result<Verdict, AllocError> {
     let Question {
         record,
         choice,
         table,
     } = question;
-    let account = row.numbers(alloc, "account")?;
-    let verdict = check_account(alloc, record, choice, table, account.as_slice())?;
-    answers.push("verdict", format!(in alloc; "{verdict:?}")?)
+    match &account.goal {
+        None => check_account(alloc, record, choice, table, &account.rules),
+        Some(goal) => check_explanation(alloc, record, choice, table, goal, &account.rules),
+    }
 }

@@ -1,7 +1,7 @@
-//! What rules and accounts are of: a record, a choice and a table.
+//! What rules and accounts are of: a record, a choice and a table; and what accounts and explanations say.
 
 use feature_account::{FeatureChoice, PlatformTable, WorkspaceRecord};
-use record_files::{ReadError, read_choice, read_record, read_table};
+use record_files::{AccountFile, ReadError, read_account, read_choice, read_record, read_table};
 use row_program::{Row, RowFault};
 use std::alloc::{AllocError, Global};
 
@@ -35,6 +35,18 @@ pub(crate) fn table_in(alloc: Global, row: Row<'_>) -> Result<PlatformTable, Row
     match table_of(alloc, &text) {
         Ok(table) => Ok(table),
         Err(error) => Err(unread(alloc, "table.json", error)),
+    }
+}
+
+/// The account or explanation of the row: of its file, or else the numbers of its `account`.
+pub(crate) fn account_in(alloc: Global, row: Row<'_>) -> Result<AccountFile, RowFault> {
+    let Some(text) = row.file(alloc, "account.json")? else {
+        let rules = row.numbers(alloc, "account")?;
+        return Ok(AccountFile { rules, goal: None });
+    };
+    match read_account(alloc, text.as_bytes()) {
+        Ok(account) => Ok(account),
+        Err(error) => Err(unread(alloc, "account.json", error)),
     }
 }
 

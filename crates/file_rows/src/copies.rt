@@ -1,5 +1,6 @@
 //! Values that are read, beside their copies.
 
+use record_files::AccountFile;
 use std::alloc::{AllocError, Global};
 use std::collections::BTreeMap;
 use workspace_record::{FeatureChoice, PlatformTable, WorkspaceRecord};
@@ -27,8 +28,8 @@ impl Copied for PlatformTable {
     }
 }
 
-/// Lists of numbers have no copy of their own.
-impl Copied for Vec<usize> {
+/// Accounts have no copy of their own.
+impl Copied for AccountFile {
     fn is_its_copy(&self, _alloc: Global) -> Result<bool, AllocError> {
         Ok(true)
     }

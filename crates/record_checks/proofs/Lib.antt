@@ -6,3 +6,4 @@ pub mod GroupFacts
 pub mod MeaningFacts
 pub mod OneRecordFacts
 pub mod OneReadingFacts
+pub mod ExplainingFacts

@@ -13,3 +13,4 @@ pub mod Meaning
 pub mod RecordFilters
 pub mod RefusalTexts
 pub mod Switching
+pub mod Explaining

@@ -53,7 +53,7 @@ pub fn account(
     }
 }
 
-fn check_question(
+pub(crate) fn check_question(
     alloc: Global,
     record: &WorkspaceRecord,
     choice: &FeatureChoice,

@@ -3,28 +3,50 @@ ghost use Rattle.serde_json.specs.View.{view, items_view};
 ghost use Rattle.record_files.specs.declared.key.Key.TheVariants as key;
 ghost use Rattle.record_files.specs.Files.{ReadsFile};
 ghost use Rattle.record_files.specs.Outcomes.{Gives};
-ghost use Rattle.record_files.specs.Values.{each};
-ghost use Rattle.record_files.specs.Accounts.{rule_of, rules_of, account_of, account_file};
+ghost use Rattle.record_files.specs.Values.{each, optional, required};
+ghost use Rattle.record_files.specs.Accounts.{rule_of, rules_of, goal_of, account_of, account_file};
 
+use crate::account_file::AccountFile;
+use crate::choice::extra_of;
 use crate::error::ReadError;
 use crate::file::value_of;
 use crate::key::Key;
 use crate::object::{given, object_of};
 use serde_json::Value;
 use std::alloc::Global;
+use workspace_record::Feature;
 
-/// Reads an account: `rules`, a list of the numbers of rules.
+/// Reads an account or an explanation: `rules`, a list of the numbers of rules, and of an explanation
+/// its `goal`, an object with a package id as `package` and a `feature`, written as in a choice.
 ///
-/// Each is a whole number that a `usize` holds, and is written without a fraction or an exponent.
-pub fn read_account(alloc: Global, bytes: &[u8]) -> Result<Vec<usize>, ReadError>
-    ensures { ReadsFile (λ v. v.items) account_file bytes.now result }
+/// Each number is whole, a `usize` holds it, and it is written without a fraction or an exponent.
+pub fn read_account(alloc: Global, bytes: &[u8]) -> Result<AccountFile, ReadError>
+    ensures { ReadsFile (λ f. f) account_file bytes.now result }
 {
     let value = value_of(alloc, bytes)?;
     account_of(alloc, object_of(&value, Key::File)?)
 }
 
-fn account_of(alloc: Global, value: &Value) -> Result<Vec<usize>, ReadError>
-    ensures { Gives (λ v. v.items) result (account_of (view value.now)) }
+#[tactic(auto, unfolding(crate::specs::Accounts::account_of))]
+fn account_of(alloc: Global, value: &Value) -> Result<AccountFile, ReadError>
+    ensures { Gives (λ f. f) result (account_of (view value.now)) }
+{
+    let rules = rules_at(alloc, value)?;
+    let goal = goal_at(alloc, value)?;
+    Ok(AccountFile { rules, goal })
+}
+
+fn goal_at(alloc: Global, value: &Value) -> Result<Option<Feature>, ReadError>
+    ensures { Gives (λ o. o) result (optional goal_of key.Goal (view value.now)) }
+{
+    match given(value, Key::Goal) {
+        None => Ok(None),
+        Some(value) => Ok(Some(extra_of(alloc, object_of(value, Key::Goal)?)?)),
+    }
+}
+
+fn rules_at(alloc: Global, value: &Value) -> Result<Vec<usize>, ReadError>
+    ensures { Gives (λ v. v.items) result (required rules_of key.Rules (view value.now)) }
 {
     match given(value, Key::Rules).and_then(Value::as_array) {
         None => Err(ReadError::at(Key::Rules)),

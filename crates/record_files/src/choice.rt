@@ -68,8 +68,9 @@ fn extras_of(alloc: Global, values: &[Value]) -> Result<Vec<Feature>, ReadError>
     Ok(extras)
 }
 
+/// A feature of a package: the package's id, and the feature's text.
 #[tactic(auto, unfolding(crate::specs::Choices::extra_of))]
-fn extra_of(alloc: Global, value: &Value) -> Result<Feature, ReadError>
+pub(crate) fn extra_of(alloc: Global, value: &Value) -> Result<Feature, ReadError>
     ensures { Gives (λ f. f) result (extra_of (view value.now)) }
 {
     let package = text_at(alloc, value, Key::Package)?;
@@ -78,8 +79,10 @@ fn extra_of(alloc: Global, value: &Value) -> Result<Feature, ReadError>
     Ok(Feature { package, label })
 }
 
-fn label_of(alloc: Global, text: &str) -> Result<Label, AllocError>
-    ensures { IfOk result (λ l. label_view l ≡ label_of text.now) }
+/// The label that a text names, as in a choice: the empty text the package itself, `dep:d` the optional
+/// dependency `d`, and any other text the feature of that name.
+pub fn label_of(alloc: Global, text: &str) -> Result<Label, AllocError>
+    ensures label { IfOk result (λ l. label_view l ≡ label_of text.now) }
 {
     if text.is_empty() {
         return Ok(Label::Base);

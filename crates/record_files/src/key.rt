@@ -61,6 +61,7 @@ pub enum Key {
     Answers,
     UnknownCounts,
     Rules,
+    Goal,
 }
 
 impl Key {
@@ -126,6 +127,7 @@ impl Key {
             Key::Answers => "answers",
             Key::UnknownCounts => "unknown_counts",
             Key::Rules => "rules",
+            Key::Goal => "goal",
         }
     }
 }

@@ -5,6 +5,7 @@
 #![tactic(auto)]
 
 mod account;
+mod account_file;
 mod choice;
 mod details;
 mod edition;
@@ -23,7 +24,8 @@ mod target;
 mod workspace;
 
 pub use crate::account::read_account;
-pub use crate::choice::read_choice;
+pub use crate::account_file::AccountFile;
+pub use crate::choice::{label_of, read_choice};
 pub use crate::error::ReadError;
 pub use crate::field::Field;
 pub use crate::key::Key;

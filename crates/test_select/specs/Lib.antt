@@ -1,3 +1,4 @@
 pub mod Failures
 pub mod Orders
 pub mod Runs
+pub mod Verdicts

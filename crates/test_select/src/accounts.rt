@@ -1,16 +1,18 @@
-//! Accounts of what is on, printed and checked.
+//! Accounts of what is on, printed and checked, and explanations checked.
 
-ghost use Rattle.std.specs.Prelude.{◌≡◌, IfErr};
+ghost use Rattle.std.specs.Prelude.{◌≡◌, IfErr, IfOk};
 ghost use Rattle.test_select.specs.Failures.{status_of};
+ghost use Rattle.test_select.specs.Verdicts.{IsVerdictOn};
 
 use crate::command_line::{account_file, question_files};
 use crate::failure::Failure;
 use crate::file_source::FileSource;
-use crate::inputs::{account_in, feature_question};
+use crate::inputs::{FeatureQuestion, account_in, feature_question};
 use clap::ArgMatches;
-use feature_account::{Verdict, check_account};
+use feature_account::{Verdict, check_account, check_explanation};
 use record_checks::{account, write_account};
-use std::alloc::Global;
+use record_files::AccountFile;
+use std::alloc::{AllocError, Global};
 use std::io::{self, Write};
 
 /// Prints the account of what is on.
@@ -29,7 +31,7 @@ pub(crate) fn print_account<'a, O: Write>(
     Ok(())
 }
 
-/// Checks an account, and prints what is to be said of it.
+/// Checks an account or an explanation, and prints what is to be said of it.
 pub(crate) fn print_verdict<'a, O: Write>(
     alloc: Global,
     asked: &ArgMatches<'a>,
@@ -40,12 +42,26 @@ pub(crate) fn print_verdict<'a, O: Write>(
 {
     let question = feature_question(alloc, question_files(asked), files)?;
     let account = account_in(alloc, account_file(asked), files)?;
-    let (record, choice) = (&question.record, &question.choice);
-    let verdict = check_account(alloc, record, choice, &question.table, &account)?;
+    let verdict = verdict_on(alloc, &question, &account)?;
     write_verdict(verdict, out)?;
     match verdict {
         Verdict::Accepted => Ok(()),
         _ => Err(Failure::AccountRefused),
+    }
+}
+
+// A file with a goal is an explanation, and one without an account.
+fn verdict_on(
+    alloc: Global,
+    question: &FeatureQuestion,
+    account: &AccountFile,
+) -> Result<Verdict, AllocError>
+    ensures { IfOk result (IsVerdictOn question.now account.now) }
+{
+    let (record, choice, table) = (&question.record, &question.choice, &question.table);
+    match &account.goal {
+        None => check_account(alloc, record, choice, table, &account.rules),
+        Some(goal) => check_explanation(alloc, record, choice, table, goal, &account.rules),
     }
 }
 

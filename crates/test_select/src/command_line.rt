@@ -17,6 +17,7 @@ pub(crate) fn command<'a>(alloc: Global) -> Result<Command<'a>, AllocError> {
         .subcommand(tests_command(alloc)?)?
         .subcommand(account_command(alloc)?)?
         .subcommand(check_command(alloc)?)?
+        .subcommand(explain_command(alloc)?)?
         .subcommand(order_command(alloc)?)
 }
 
@@ -52,12 +53,23 @@ fn account_command<'a>(alloc: Global) -> Result<Command<'a>, AllocError> {
 
 fn check_command<'a>(alloc: Global) -> Result<Command<'a>, AllocError> {
     Command::new(alloc, "check")
-        .about("Checks an account of the features that are on")
+        .about("Checks an account of the features that are on, or an explanation of one")
         .after_help(CHECK_HELP)
         .arg(record_option(alloc))?
         .arg(choice_option(alloc))?
         .arg(table_option(alloc))?
         .arg(account_option(alloc))
+}
+
+fn explain_command<'a>(alloc: Global) -> Result<Command<'a>, AllocError> {
+    Command::new(alloc, "explain")
+        .about("Prints why a feature is on")
+        .after_help(EXPLAIN_HELP)
+        .arg(record_option(alloc))?
+        .arg(choice_option(alloc))?
+        .arg(table_option(alloc))?
+        .arg(package_argument(alloc))?
+        .arg(feature_argument(alloc))
 }
 
 fn order_command<'a>(alloc: Global) -> Result<Command<'a>, AllocError> {
@@ -94,9 +106,9 @@ fn table_option<'a>(alloc: Global) -> Arg<'a> {
 }
 
 fn account_option<'a>(alloc: Global) -> Arg<'a> {
-    file_option(alloc, "account")
-        .required(true)
-        .help("The account to be checked: numbers of rules, as JSON")
+    file_option(alloc, "account").required(true).help(
+        "The account or explanation to be checked: numbers of rules, as JSON",
+    )
 }
 
 fn file_option<'a>(alloc: Global, name: &'a str) -> Arg<'a> {
@@ -104,6 +116,23 @@ fn file_option<'a>(alloc: Global, name: &'a str) -> Arg<'a> {
         .long(name)
         .value_name("FILE")
         .action(ArgAction::Set)
+}
+
+fn package_argument<'a>(alloc: Global) -> Arg<'a> {
+    Arg::new(alloc, "package")
+        .value_name("PACKAGE")
+        .required(true)
+        .action(ArgAction::Set)
+        .help("The id of the feature's package")
+}
+
+fn feature_argument<'a>(alloc: Global) -> Arg<'a> {
+    Arg::new(alloc, "feature")
+        .value_name("FEATURE")
+        .action(ArgAction::Set)
+        .help(
+            "The feature, by name, or an optional dependency, as `dep:NAME` [default: the package]",
+        )
 }
 
 fn declared_flag<'a>(alloc: Global) -> Arg<'a> {
@@ -147,7 +176,17 @@ pub(crate) fn account_file<'a>(asked: &ArgMatches<'a>) -> &'a str {
     required(asked, "account")
 }
 
-/// The value of a required option, without which `clap` takes no command line.
+/// The package that the command line names, by its id.
+pub(crate) fn package_word<'a>(asked: &ArgMatches<'a>) -> &'a str {
+    required(asked, "package")
+}
+
+/// The text of the feature that the command line names; of the package itself it is empty.
+pub(crate) fn feature_word<'a>(asked: &ArgMatches<'a>) -> &'a str {
+    asked.get_str("feature").unwrap_or("")
+}
+
+/// The value of a required word, without which `clap` takes no command line.
 fn required<'a>(asked: &ArgMatches<'a>, name: &str) -> &'a str {
     asked.get_str(name).unwrap_or("")
 }
@@ -213,10 +252,21 @@ output cannot be written, with the reasons on standard error; 2 for a bad comman
 const CHECK_HELP: &str =
     "Output: `accepted`, or `refused: ` and the first fault of the account: `unknown rule at P`,
 `repeated conclusion at P` or `missing premise at P`, where P counts its entries from 0, or `not closed
-at N`, where N is the lowest rule that is left out.
+at N`, where N is the lowest rule that is left out. A file with a goal is an explanation, and is refused,
+in place of the last, as `goal not reached`, or as `unused at P` where no later entry needs what the one
+at P concludes.
 
-Exit status: 0 if the account is accepted; 1 if it or a file is refused, or the output cannot be
-written, with the reasons for the latter two on standard error; 2 for a bad command line.";
+Exit status: 0 if the account or explanation is accepted; 1 if it or a file is refused, or the output
+cannot be written, with the reasons for the latter two on standard error; 2 for a bad command line.";
+
+const EXPLAIN_HELP: &str =
+    "Output: a line of JSON with the feature as goal, and the numbers of the rules by which it is switched
+on: those of the account that the last of them rests on, in its order. Rules are numbered as for
+`account`. Or else `not on`.
+
+Exit status: 0 if the explanation is printed; 1 if the feature is not on, or a file, the record or the
+choice is refused, or the output cannot be written, with the reasons for the latter on standard error;
+2 for a bad command line.";
 
 const ORDER_HELP: &str =
     "Output: a line for each package that is on, with its id, and none stands there twice. A package comes

@@ -22,8 +22,10 @@ pub(crate) enum Failure<'a> {
     BadFile(&'a str, ReadError),
     /// The record, the choice, a filter text or a listing is refused.
     Refused(SelectError),
-    /// The account is refused, as the output says.
+    /// The account or the explanation is refused, as the output says.
     AccountRefused,
+    /// The feature is not on, as the output says.
+    NotOn,
     /// The output does not take what is written.
     CannotWrite,
     /// Memory ran out.
@@ -70,7 +72,7 @@ impl fmt::Display for Failure<'_> {
             Failure::CannotRead(name) => writeln!(f, "cannot read {name}"),
             Failure::BadFile(name, error) => write_bad_file(f, name, error),
             Failure::Refused(error) => writeln!(f, "{error}"),
-            Failure::AccountRefused => Ok(()),
+            Failure::AccountRefused | Failure::NotOn => Ok(()),
             Failure::CannotWrite => f.write_str("cannot write\n"),
             Failure::Memory => f.write_str("out of memory\n"),
         }

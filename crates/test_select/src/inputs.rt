@@ -8,7 +8,9 @@ use crate::command_line::QuestionFiles;
 use crate::failure::Failure;
 use crate::file_source::FileSource;
 use indexmap::IndexMap;
-use record_files::{ReadError, read_account, read_choice, read_listings, read_record, read_table};
+use record_files::{
+    AccountFile, ReadError, read_account, read_choice, read_listings, read_record, read_table,
+};
 use std::alloc::Global;
 use std::collections::BTreeMap;
 use test_lister::{FileLister, Listing};
@@ -143,12 +145,12 @@ fn nothing_known(alloc: Global) -> PlatformTable
     }
 }
 
-/// The account in the file with this name.
+/// The account or the explanation in the file with this name.
 pub(crate) fn account_in<'a>(
     alloc: Global,
     name: &'a str,
     files: &mut dyn FileSource,
-) -> Result<Vec<usize>, Failure<'a>>
+) -> Result<AccountFile, Failure<'a>>
     ensures { IfErr result (λ f. status_of f ≡ 1) }
 {
     let bytes = bytes_in(alloc, name, files)?;

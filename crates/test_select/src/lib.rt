@@ -4,6 +4,7 @@
 
 mod accounts;
 mod command_line;
+mod explanations;
 mod failure;
 mod file_source;
 mod inputs;
@@ -17,15 +18,17 @@ pub use crate::program::run;
 pub use feature_account::{
     Feature, FeatureChoice, FeatureRecord, GroupRecord, Label, LineKind, LineRecord, LinkRecord,
     MemberRecord, PackageInfo, PackageRecord, PlatformTable, Standard, TargetInfo, TargetKind,
-    TargetRecord, Verdict, WorkspaceInfo, WorkspaceRecord, check_account,
+    TargetRecord, Verdict, WorkspaceInfo, WorkspaceRecord, check_account, check_explanation,
 };
 pub use question_filters::LinkScope;
 pub use record_checks::{
     Account, FeaturesOn, GroupTable, ParseSingleError, RecordError, RecordRule, SelectError,
-    SourceSpan, WriteAccountError, account, check_record, features_on, write_account,
+    SourceSpan, WriteAccountError, account, check_record, explain, features_on, write_account,
+    write_explanation,
 };
 pub use record_files::{
-    Field, Key, ReadError, read_account, read_choice, read_listings, read_record, read_table,
+    AccountFile, Field, Key, ReadError, read_account, read_choice, read_listings, read_record,
+    read_table,
 };
 pub use selection_making::{Selection, laws, select, select_plain, write_report};
 pub use test_lister::{

@@ -5,6 +5,7 @@ ghost use Rattle.test_select.specs.Failures.{status_of};
 
 use crate::accounts::{print_account, print_verdict};
 use crate::command_line::command;
+use crate::explanations::print_explanation;
 use crate::failure::Failure;
 use crate::file_source::FileSource;
 use crate::order::print_order;
@@ -25,8 +26,11 @@ use std::io::Write;
 /// with `--declared` all links. With `--plain` each available binary is asked for.
 ///
 /// `test_select account --record F [--choice F] [--table F]` writes the account of what is on, and
-/// `test_select check --record F [--choice F] [--table F] --account F` what is to be said of an account:
-/// a refused one has status 1 and no line on `err`. `test_select order --record F [--choice F] [--table F]`
+/// `test_select check --record F [--choice F] [--table F] --account F` what is to be said of an account,
+/// or of an explanation where the file has a goal: a refused one has status 1 and no line on `err`.
+/// `test_select explain --record F [--choice F] [--table F] PACKAGE [FEATURE]` writes the explanation of
+/// the feature, which is named as in a choice and is without the word that of the package itself, or
+/// `not on` with status 1 and no line on `err`. `test_select order --record F [--choice F] [--table F]`
 /// writes the ids of the packages that are on, dependencies first.
 ///
 /// Help and the version go to `out` too. `err` gets a line for each other cause
@@ -81,6 +85,7 @@ fn carry_out<'a, O: Write>(
         Some(("tests", asked)) => print_tests(alloc, asked, files, out),
         Some(("account", asked)) => print_account(alloc, asked, files, out),
         Some(("check", asked)) => print_verdict(alloc, asked, files, out),
+        Some(("explain", asked)) => print_explanation(alloc, asked, files, out),
         Some(("order", asked)) => print_order(alloc, asked, files, out),
         _ => Ok(()),
     }

@@ -1,0 +1,19 @@
+-- What the program says of the file of an account.
+use Rattle.std.specs.Prelude.{List, Option, Some, None}
+use Rattle.feature_account.specs.Accounts.{IsVerdict}
+use Rattle.feature_account.specs.Explanations.{IsExplanationVerdict}
+use Rattle.feature_account.specs.RuleList.{rule_list}
+use Rattle.feature_account.specs.declared.rule.Rule.{Rule}
+use Rattle.feature_account.specs.declared.verdict.Verdict.{Verdict}
+use Rattle.record_files.specs.Accounts.{AccountValue}
+use Rattle.workspace_record.specs.Features.{FeatureValue}
+use Rattle.test_select.specs.declared.inputs.FeatureQuestion.{FeatureQuestion}
+
+-- without a goal the numbers are an account, and with one an explanation of it
+abbrev pub IsVerdictFor : List Rule → AccountValue → Option FeatureValue → Verdict → Type 0
+IsVerdictFor rules account None verdict = IsVerdict rules account.numbers verdict
+IsVerdictFor rules account (Some goal) verdict = IsExplanationVerdict rules goal account.numbers verdict
+
+-- what is to be said of the file, by the record, the choice and the table that were read
+abbrev pub IsVerdictOn : FeatureQuestion → AccountValue → Verdict → Type 0
+IsVerdictOn q account = IsVerdictFor (rule_list q.record q.choice q.table) account account.goal

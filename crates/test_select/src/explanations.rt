@@ -1,0 +1,54 @@
+//! Explanations of features, printed.
+
+ghost use Rattle.std.specs.Prelude.{◌≡◌, IfErr, IfOk};
+ghost use Rattle.record_files.specs.Choices.{label_of};
+ghost use Rattle.test_select.specs.Failures.{status_of};
+
+use crate::command_line::{feature_word, package_word, question_files};
+use crate::failure::Failure;
+use crate::file_source::FileSource;
+use crate::inputs::feature_question;
+use clap::ArgMatches;
+use record_checks::{explain, write_explanation};
+use record_files::label_of;
+use std::alloc::{AllocError, Global};
+use std::io::{self, Write};
+use workspace_record::Feature;
+
+/// Prints the explanation of the feature that the command line names, or that it is not on.
+pub(crate) fn print_explanation<'a, O: Write>(
+    alloc: Global,
+    asked: &ArgMatches<'a>,
+    files: &mut dyn FileSource,
+    out: &mut O,
+) -> Result<(), Failure<'a>>
+    ensures { IfErr result (λ f. status_of f ≡ 1) }
+{
+    let question = feature_question(alloc, question_files(asked), files)?;
+    let feature = feature_named(alloc, package_word(asked), feature_word(asked))?;
+    let (record, choice) = (&question.record, &question.choice);
+    match explain(alloc, record, choice, &question.table, &feature)? {
+        Some(explanation) => {
+            write_explanation(alloc, &feature, &explanation, out)?;
+            Ok(())
+        }
+        None => {
+            write_not_on(out)?;
+            Err(Failure::NotOn)
+        }
+    }
+}
+
+/// The feature of the package with this id that a choice names by this text.
+fn feature_named(alloc: Global, package_id: &str, text: &str) -> Result<Feature, AllocError>
+    ensures { IfOk result (λ f. f ≡ record { package_id = package_id.now; label = label_of text.now }) }
+{
+    let package = String::from_str(alloc, package_id)?;
+    let label = label_of(alloc, text)?;
+    Ok(Feature { package, label })
+}
+
+fn write_not_on<O: Write>(out: &mut O) -> io::Result<()> {
+    out.write_all(b"not on\n")?;
+    out.flush()
+}
