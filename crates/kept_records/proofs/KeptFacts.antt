@@ -29,7 +29,7 @@ second_of true b e h = e
 second_of false b e h = absurd (true≢false (sym h))
 
 -- each element passes a test, where there is no first one that fails it
-each_passes : {X : Type 0} (test : X → Bool) (xs : List X) → position (λ x. not (test x)) xs ≡ None → All (λ x. test x ≡ true) xs
+pub each_passes : {X : Type 0} (test : X → Bool) (xs : List X) → position (λ x. not (test x)) xs ≡ None → All (λ x. test x ≡ true) xs
 each_passes test xs none = (position_iff (λ x. not (test x)) (λ x. test x ≡ true) (λ x. (not-false (test x), not_from_true (test x))) xs).0 none
 
 -- a package that passes the test has no name twice

@@ -1,3 +1,3 @@
-mod KeptFacts
-mod LineFacts
-mod OrderFacts
+pub mod KeptFacts
+pub mod LineFacts
+pub mod OrderFacts

@@ -3,7 +3,7 @@ use Rattle.std.specs.Prelude.{List, ◌≡◌, ◌↔◌, Bool, true, [], Contai
 use Rattle.numbered_graph.specs.declared.direction.Direction.TheVariants.{Forward}
 use Rattle.numbered_offers.specs.declared.offer.Offer.{Offer}
 use Rattle.numbered_offers.specs.Least.{IsClosed as AreEdgesClosed}
-use Rattle.workspace_record.specs.Records.{Line, Link, Package, Workspace}
+use Rattle.workspace_record.specs.Records.{FeatureEntry, Line, Link, Package, Workspace}
 use Rattle.workspace_record.specs.Choices.{Choice}
 use Rattle.workspace_record.specs.Features.{FeatureValue}
 use Rattle.workspace_record.specs.declared.choice.PlatformTable.{PlatformTable}
@@ -62,13 +62,44 @@ LinesOnJoinPackagesOn =
 abbrev pub HaveTheSame : {X : Type 0} → List X → List X → Type 0
 HaveTheSame xs ys = (x : _) → Contains xs x ↔ Contains ys x
 
--- the records have the same packages, links and members, in whichever order
+-- each element of the one list has its like in the other, in whichever order
+abbrev pub HaveAlike : {X : Type 0} → (X → X → Type 0) → List X → List X → Type 0
+HaveAlike Like xs ys = ((x : _) → Contains xs x → (y : _) × Contains ys y × Like x y) × ((y : _) → Contains ys y → (x : _) × Contains xs x × Like x y)
+
+-- features of one name with the same entries, in whichever order
+pub record IsFeatureReordered (f g : FeatureEntry) : Type 0 where
+  pub name : f.name ≡ g.name
+  pub enables : HaveTheSame f.enables g.enables
+
+-- packages of one id with the same features and optional dependencies, in whichever order
+pub record IsPackageReordered (p q : Package) : Type 0 where
+  pub id : p.id ≡ q.id
+  pub features : HaveAlike IsFeatureReordered p.features q.features
+  pub optional : HaveTheSame p.optional q.optional
+
+-- lines that ask for the same, in whichever order
+pub record IsLineReordered (l m : Line) : Type 0 where
+  pub kind : l.kind ≡ m.kind
+  pub optional : l.optional ≡ m.optional
+  pub default_features : l.default_features ≡ m.default_features
+  pub features : HaveTheSame l.features m.features
+  pub spec : l.spec ≡ m.spec
+
+-- links between the same packages, under one name, with the same lines, in whichever order
+pub record IsLinkReordered (l m : Link) : Type 0 where
+  pub from : l.from ≡ m.from
+  pub to : l.to ≡ m.to
+  pub name : l.name ≡ m.name
+  pub lines : HaveAlike IsLineReordered l.lines m.lines
+
+-- the records have the same packages, links and members, in whichever order, also of what stands in them
 pub record IsReordered (w v : Workspace) : Type 0 where
-  pub packages : HaveTheSame w.packages v.packages
-  pub links : HaveTheSame w.links v.links
+  pub packages : HaveAlike IsPackageReordered w.packages v.packages
+  pub links : HaveAlike IsLinkReordered w.links v.links
   pub members : HaveTheSame w.workspace.members v.workspace.members
 
--- in records that keep the rules, another order of packages, links and members changes nothing that is on
+-- in records that keep the rules, another order of packages, features, entries, optional dependencies, links, lines and members
+-- changes nothing that is on
 abbrev pub OrderIsFree : Type 0
 OrderIsFree =
     (w v : Workspace) (choice : Choice) (table : PlatformTable) (f : FeatureValue)

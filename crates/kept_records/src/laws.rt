@@ -32,7 +32,9 @@ pub fn lines_on_join_packages_on()
     ensures join { LinesOnJoinPackagesOn }
 {}
 
-/// In records that keep the rules another order of packages, links and members changes nothing that is on.
+/// In records that keep the rules another order changes nothing that is on: of packages, their features,
+/// the entries of these, and optional dependencies; of links, their lines, and the features that these list;
+/// and of members.
 pub fn order_is_free()
     ensures free { OrderIsFree }
 {}
