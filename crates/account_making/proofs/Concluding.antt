@@ -5,22 +5,15 @@ use Rattle.std.proofs.lemmas.List.Folds.{list_any-append}
 use Rattle.list_facts.proofs.Tests.{and_not_parts, not_mono}
 use Rattle.list_facts.proofs.Membership.{Contains-append_left, Contains-append_right, Contains-first}
 use Rattle.list_facts.proofs.Counting.{length-filter-lt}
-use Rattle.list_facts.proofs.Quantifiers.{list_any-from_Contains, list_any_cases}
-use Rattle.workspace_record.specs.Features.{FeatureValue, feature_eq, features_decide}
+use Rattle.workspace_record.specs.Features.{FeatureValue}
 use Rattle.feature_account.specs.Accounts.{conclusions, concluded_set, concludes, MayStand, IsSound, IsFirstOpen}
 use Rattle.feature_account.specs.Closed.{FeatureSet, has_premises, is_open}
 use Rattle.feature_account.specs.declared.rule.Premises.{Premises}
 use Rattle.feature_account.specs.declared.rule.Premises.TheVariants as premises
 use Rattle.feature_account.specs.declared.rule.Rule.{Rule}
+use Rattle.feature_account.proofs.ConcludedFacts.{concluded_iff}
 use Rattle.feature_account.proofs.AccountFacts.{concludes-push, conclusions-push, IsSoundAfter-push, Contains-slice_get}
 use Rattle.account_making.specs.Lowest.{IsLowestAfter}
-
--- a list concludes what it holds
-pub concluded_iff : (found : List FeatureValue) (f : FeatureValue) → (concluded_set found f ≡ true) ↔ Contains found f
-concluded_iff found f = (
-  λ h. let p = list_any_cases (feature_eq f) found h in subst (Contains found) (sym ((features_decide f p.0).0 p.2)) p.1,
-  λ h. list_any-from_Contains (feature_eq f) found f h ((features_decide f f).1 refl),
-)
 
 -- the number of an open rule may be the next entry
 pub sound-push : (rules : List Rule) (account : List ℕ) (n : ℕ) (r : Rule) → IsSound rules account → slice_get rules n ≡ Some r → is_open (concludes rules account) r ≡ true → IsSound rules (account ++ n ∷ [])

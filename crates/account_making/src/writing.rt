@@ -39,11 +39,7 @@ fn account_text(alloc: Global, account: &[usize]) -> Result<String, AllocError>
 }
 
 /// Appends the numbers, parted by commas.
-pub fn push_numbers(
-    alloc: Global,
-    text: &mut String,
-    numbers: &[usize],
-) -> Result<(), AllocError>
+pub fn push_numbers(alloc: Global, text: &mut String, numbers: &[usize]) -> Result<(), AllocError>
     ensures appended { OnOk result (string_bytes text.new ≡ string_bytes text.old ++ numbers_text numbers.now) }
 {
     match numbers.split_first() {

@@ -2,8 +2,9 @@
 
 use crate::question::Question;
 use crate::rule_texts::push_feature;
+use account_making::account_of;
 use feature_account::{Feature, Label, Premises, Rule};
-use feature_switching::{FeaturesOn, features_of};
+use feature_switching::FeaturesOn;
 use graph_switching::{dependency_order, switched_on};
 use guppy_feature_graph::{
     FeatureGraph, FeatureGraphData, FeatureId, FeatureLabel, FeatureQuery, FeatureSet,
@@ -23,8 +24,28 @@ pub(crate) fn tell_switching(
     rules: &[Rule],
     answers: &mut Answers,
 ) -> Result<(), RowFault> {
-    let on = features_of(alloc, rules)?;
+    let on = features_on(alloc, rules)?;
     tell_on(alloc, question, rules, &on, answers)
+}
+
+/// What the account of what is on concludes.
+fn features_on(alloc: Global, rules: &[Rule]) -> Result<FeaturesOn, AllocError> {
+    let account = account_of(alloc, rules)?;
+    FeaturesOn::of(conclusions(alloc, rules, &account.rules)?)
+}
+
+fn conclusions(
+    alloc: Global,
+    rules: &[Rule],
+    account: &[usize],
+) -> Result<Vec<Feature>, AllocError> {
+    let mut features = Vec::new(alloc);
+    for number in account {
+        if let Some(rule) = rules.get(*number) {
+            features.push(rule.conclusion.copy(alloc)?)?;
+        }
+    }
+    Ok(features)
 }
 
 fn tell_on(

@@ -16,6 +16,7 @@ mod verdict;
 
 pub use crate::account_check::check_account;
 pub use crate::explanation_check::check_explanation;
+pub use crate::own_features::chosen_features;
 pub use crate::rule::{Premises, Rule};
 pub use crate::rule_list::rules;
 pub use crate::verdict::Verdict;

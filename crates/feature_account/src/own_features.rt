@@ -6,7 +6,9 @@ ghost use Rattle.feature_account.specs.RuleList.{named_of, dep_of, own_features,
 
 use record_index::{PackageIndex, RecordIndex};
 use std::alloc::{AllocError, Global};
-use workspace_record::{Feature, FeatureChoice, FeatureRecord, PackageRecord, Standard};
+use workspace_record::{
+    Feature, FeatureChoice, FeatureRecord, PackageRecord, Standard, WorkspaceRecord,
+};
 
 /// The feature that Cargo switches on by default.
 pub(crate) const DEFAULT: &str = "default";
@@ -133,8 +135,21 @@ fn push_extras(
     Ok(())
 }
 
-/// What the choice switches on by itself.
-pub(crate) fn chosen_features(
+/// What the choice switches on by itself: of each member of the workspace its package and the features
+/// of the standard choice, and then the extras.
+pub fn chosen_features(
+    alloc: Global,
+    record: &WorkspaceRecord,
+    choice: &FeatureChoice,
+) -> Result<Vec<Feature>, AllocError>
+    ensures chosen { IfOk result (λ v. v.items ≡ chosen_features record.now choice.now) }
+{
+    let index = RecordIndex::of(alloc, record)?;
+    chosen_by(alloc, &index, choice)
+}
+
+/// The same, where the record is found by its index.
+pub(crate) fn chosen_by(
     alloc: Global,
     index: &RecordIndex<'_>,
     choice: &FeatureChoice,

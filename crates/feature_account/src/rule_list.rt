@@ -11,7 +11,7 @@ ghost use Rattle.feature_account.specs.RuleList.{given, implies, named_of, dep_o
 
 use crate::entry::{Entry, entry_of};
 use crate::lines::counts;
-use crate::own_features::{DEFAULT, chosen_features, own_features};
+use crate::own_features::{DEFAULT, chosen_by, own_features};
 use crate::rule::{Premises, Rule};
 use record_index::{LentLink, PackageIndex, RecordIndex};
 use std::alloc::{AllocError, Global};
@@ -67,7 +67,7 @@ fn push_rules(
     requires { links.now ≡ (index.now).links }
     ensures { OnOk result (rules.new.items ≡ rules.old.items ++ rule_list index.now choice.now table.now) }
 {
-    push_given(chosen_features(alloc, index, choice)?, rules)?;
+    push_given(chosen_by(alloc, index, choice)?, rules)?;
     push_packages_base_rules(alloc, index.packages(), rules)?;
     push_packages_entry_rules(alloc, index, table, index.packages(), rules)?;
     push_links_rules(alloc, index, table, links, rules)

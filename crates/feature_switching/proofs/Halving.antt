@@ -10,8 +10,8 @@ use Rattle.std.proofs.lemmas.List.Sorted.{searchable_from_sorted}
 use Rattle.std.proofs.lemmas.Map.Keys.{Less-from_sorted}
 use Rattle.workspace_record.specs.Features.{FeatureValue, feature_cmp, feature_cmp_total, feature_ties, features_decide}
 use Rattle.feature_account.specs.Accounts.{concluded_set}
-use Rattle.account_making.proofs.Concluding.{concluded_iff}
-use Rattle.feature_switching.proofs.Concluded.{feature_exact}
+use Rattle.feature_account.proofs.ConcludedFacts.{concluded_iff}
+use Rattle.feature_switching.proofs.FeatureOrder.{feature_exact}
 
 not_after : (o p : Ordering) → o ≡ Less → p ≡ ordering_reverse o → is_lt p ≡ false
 not_after o p e q = ap is_lt (q ∙ ap ordering_reverse e)

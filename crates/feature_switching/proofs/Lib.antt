@@ -1,3 +1,3 @@
-pub mod Concluded
+pub mod FeatureOrder
 pub mod Halving
 pub mod OnLines

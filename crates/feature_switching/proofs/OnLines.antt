@@ -14,7 +14,7 @@ use Rattle.feature_account.specs.Accounts.{concluded_set}
 use Rattle.feature_account.specs.Lines.{counts}
 use Rattle.feature_account.specs.RuleList.{line_start, named_of}
 use Rattle.feature_switching.specs.OnLines.{HasRequired, LinkIsOn}
-use Rattle.account_making.proofs.Concluding.{concluded_iff}
+use Rattle.feature_account.proofs.ConcludedFacts.{concluded_iff}
 
 module _ (on : List FeatureValue) where
   -- the features of these names are on

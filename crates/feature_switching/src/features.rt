@@ -1,18 +1,15 @@
-//! The features that rules switch on.
+//! The features that are on.
 
 ghost use Rattle.std.specs.Prelude.{◌≡◌, ◌↔◌, IfOk, IsTrue, Contains};
 ghost use Rattle.std.specs.List.Sorted.{IsStrictlySortedBy};
 ghost use Rattle.list_facts.specs.Ascending.{IsAscendingOf};
 ghost use Rattle.workspace_record.specs.Features.{FeatureValue, feature_cmp};
-ghost use Rattle.feature_account.specs.Accounts.{conclusions, concluded_set};
+ghost use Rattle.feature_account.specs.Accounts.{concluded_set};
 ghost use Rattle.feature_account.specs.RuleList.{base_of, named_of, dep_of};
-ghost use Rattle.feature_account.specs.Closed.{IsOn};
 ghost use Rattle.feature_switching.specs.LentLabels.{lent_view};
 
 use crate::lent_label::{LentLabel, compare};
-use account_making::account_of;
-use feature_account::Rule;
-use std::alloc::{AllocError, Global};
+use std::alloc::AllocError;
 use std::marker::Model;
 use workspace_record::Feature;
 
@@ -35,6 +32,15 @@ impl Model for FeaturesOn {
 }
 
 impl FeaturesOn {
+    /// These features, each once.
+    pub fn of(features: Vec<Feature>) -> Result<FeaturesOn, AllocError>
+        ensures members { IfOk result (λ on. (f : FeatureValue) → Contains on f ↔ Contains features.items f) }
+        ensures ascending { IfOk result (λ on. IsStrictlySortedBy feature_cmp on) }
+    {
+        let features = sorted_features(features)?;
+        Ok(FeaturesOn { features })
+    }
+
     /// Whether the feature is on.
     pub fn contains(&self, feature: &Feature) -> bool
         ensures { IsTrue result ↔ Contains self.now feature.now }
@@ -82,40 +88,10 @@ fn finds(features: &[Feature], package_id: &str, label: LentLabel<'_>) -> bool
     found.is_ok()
 }
 
-/// The features that lie in every set that the rules close.
-pub fn features_of(alloc: Global, rules: &[Rule]) -> Result<FeaturesOn, AllocError>
-    ensures on { IfOk result (λ on. (f : FeatureValue) → Contains on f ↔ IsOn rules.now f) }
-    ensures ascending { IfOk result (λ on. IsStrictlySortedBy feature_cmp on) }
-{
-    let found = conclude_all(alloc, rules)?;
-    let features = sorted_features(found)?;
-    Ok(FeaturesOn { features })
-}
-
 fn sorted_features(mut features: Vec<Feature>) -> Result<Vec<Feature>, AllocError>
     ensures { IfOk result (λ v. IsAscendingOf feature_cmp features.items v.items) }
 {
     features.sort()?;
     features.dedup();
     Ok(features)
-}
-
-// What the account of what is on concludes.
-fn conclude_all(alloc: Global, rules: &[Rule]) -> Result<Vec<Feature>, AllocError>
-    ensures { IfOk result (λ v. (f : FeatureValue) → Contains v.items f ↔ IsOn rules.now f) }
-{
-    let account = account_of(alloc, rules)?;
-    conclusions(alloc, rules, &account.rules)
-}
-
-fn conclusions(alloc: Global, rules: &[Rule], account: &[usize]) -> Result<Vec<Feature>, AllocError>
-    ensures { IfOk result (λ v. v.items ≡ conclusions rules.now account.now) }
-{
-    let mut found: Vec<Feature> = Vec::new(alloc);
-    for number in account {
-        if let Some(rule) = rules.get(*number) {
-            found.push(rule.conclusion.copy(alloc)?)?;
-        }
-    }
-    Ok(found)
 }

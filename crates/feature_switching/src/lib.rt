@@ -5,4 +5,4 @@ pub mod availability;
 mod features;
 mod lent_label;
 
-pub use crate::features::{FeaturesOn, features_of};
+pub use crate::features::FeaturesOn;

@@ -16,7 +16,7 @@ use Rattle.workspace_record.specs.Records.{Link, Package, Text}
 use Rattle.workspace_record.specs.Features.{FeatureValue}
 use Rattle.feature_account.specs.Accounts.{concluded_set}
 use Rattle.feature_account.specs.RuleList.{base_of}
-use Rattle.account_making.proofs.Concluding.{concluded_iff}
+use Rattle.feature_account.proofs.ConcludedFacts.{concluded_iff}
 use Rattle.package_rules.specs.Kept.{IsPackageId}
 use Rattle.guppy_package_table.specs.Tables.{firm_flags, ids_of, links_among}
 use Rattle.graph_switching.specs.DependencyOrders.{AreBehind, IsDependencyOrder, Leads}

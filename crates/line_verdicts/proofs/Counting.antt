@@ -32,7 +32,7 @@ module _ (table : PlatformTable) (l : LinkValue) where
   in_force_where : (line : Line) (kind : LineKind) → Contains (lines_behind l kind) line → is_in_force table line.spec ≡ true → in_force_of kind ≡ true
   in_force_where line kind behind in_force = list_any-map (is_in_force table) (λ (x : Line). x.spec) (lines_behind l kind) ∙ list_any-from_Contains (λ (x : Line). is_in_force table x.spec) (lines_behind l kind) line behind in_force
 
-  abbrev some_counts : Bool
+  abbrev pub some_counts : Bool
   some_counts = (in_force_of Normal || in_force_of Build) || (starts_in_workspace l && in_force_of Dev)
 
   counts_by : (line : Line) (kind : LineKind) → Contains (lines_behind l kind) line → counts_for (starts_in_workspace l) kind ≡ true → is_in_force table line.spec ≡ true → some_counts ≡ true

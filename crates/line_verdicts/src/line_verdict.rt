@@ -26,7 +26,9 @@ pub struct LineVerdict<'t> {
 }
 
 impl<'t> LineVerdict<'t> {
-    ghost use Rattle.line_verdicts.specs.Verdicts.{table_of};
+    ghost use Rattle.std.specs.Prelude.{◌↔◌, IsTrue};
+    ghost use Rattle.guppy_feature_views.specs.Views.{link_view};
+    ghost use Rattle.line_verdicts.specs.Verdicts.{HasCountingLine, table_of};
 
     /// The verdict on the platform of a table.
     pub fn new(alloc: Global, table: &'t PlatformTable) -> Result<LineVerdict<'t>, AllocError>
@@ -36,6 +38,17 @@ impl<'t> LineVerdict<'t> {
         platforms.push(TablePlatform { table })?;
         let platform = PlatformSpec::platforms(platforms);
         Ok(LineVerdict { table, platform })
+    }
+
+    /// Whether a line behind the link counts.
+    pub fn accepts(&self, link: ConditionalLink<'_>) -> bool
+        ensures counting { IsTrue result ↔ HasCountingLine (table_of self.now) (link_view link.entry) }
+    {
+        let in_workspace = link.from().package().in_workspace();
+        let normal = self.is_in_force(link.normal());
+        let build = self.is_in_force(link.build());
+        let dev = self.is_in_force(link.dev());
+        some_counts(in_workspace, normal, build, dev)
     }
 
     /// Whether one of the lines of a status is in force.
@@ -59,11 +72,7 @@ impl FeatureLinkVisitor for LineVerdict<'_> {
     ghost steps = { λ v before shown answer after. (IsTrue answer ↔ HasCountingLine (table_of v) shown.1) × (after ≡ []) };
 
     fn visit_link(&mut self, _: &FeatureLinkContext<'_>, link: ConditionalLink<'_>) -> bool {
-        let in_workspace = link.from().package().in_workspace();
-        let normal = self.is_in_force(link.normal());
-        let build = self.is_in_force(link.build());
-        let dev = self.is_in_force(link.dev());
-        some_counts(in_workspace, normal, build, dev)
+        self.accepts(link)
     }
 }
 

@@ -7,3 +7,4 @@ pub mod MeaningFacts
 pub mod OneRecordFacts
 pub mod OneReadingFacts
 pub mod ExplainingFacts
+pub mod ServedFacts

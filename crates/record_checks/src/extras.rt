@@ -2,7 +2,8 @@
 
 ghost use Rattle.std.specs.Prelude.{◌≡◌, IfOk, not, position};
 ghost use Rattle.workspace_record.specs.LabelView.{label_view};
-ghost use Rattle.record_checks.specs.Extras.{has_label, is_found_feature, is_known_extra};
+ghost use Rattle.feature_resolving.specs.Known.{has_label, is_known_feature};
+ghost use Rattle.record_checks.specs.Extras.{is_known_extra};
 
 use record_index::{PackageIndex, RecordIndex};
 use std::alloc::{AllocError, Global};
@@ -32,11 +33,11 @@ fn first_unknown(index: &RecordIndex<'_>, choice: &FeatureChoice) -> Option<usiz
 fn is_known_extra(index: &RecordIndex<'_>, extra: &Feature) -> bool
     ensures { result ≡ is_known_extra index.now extra.now }
 {
-    index.is_workspace_package(extra.package.as_str()) && is_found_feature(index, extra)
+    index.is_workspace_package(extra.package.as_str()) && is_known_feature(index, extra)
 }
 
-fn is_found_feature(index: &RecordIndex<'_>, extra: &Feature) -> bool
-    ensures { result ≡ is_found_feature index.now extra.now }
+fn is_known_feature(index: &RecordIndex<'_>, extra: &Feature) -> bool
+    ensures { result ≡ is_known_feature index.now extra.now }
 {
     match index.package_of(extra.package.as_str()) {
         None => false,

@@ -11,18 +11,21 @@ ghost use Rattle.record_checks.specs.Switching.{IsServed, AnswersOrRefuses, Swit
 
 use crate::checking::check_record;
 use crate::extras::unknown_extra;
+use crate::graph::graph_of;
 use crate::select_error::SelectError;
 use account_making::{Account, account_of};
 use feature_account::rules;
-use feature_switching::{FeaturesOn, features_of};
+use feature_resolving::resolved_features;
+use feature_switching::FeaturesOn;
+use guppy_package_graph::PackageGraphError;
 use std::alloc::{AllocError, Global};
 use workspace_record::{FeatureChoice, PlatformTable, WorkspaceRecord};
 
 /// The features that are on: those in every set that the rules of the record, the choice and the table
-/// close. The record is tested first, and then the extras of the choice.
+/// close. They are found by a resolve of the record's feature graph (`resolved_features`). The record is
+/// tested first, and then the extras of the choice.
 ///
-/// The work grows as that of `rules` and `check_record`, and with the rules times the logarithm of their
-/// number.
+/// The work grows as that of `resolved_features` and `check_record`.
 pub fn features_on(
     alloc: Global,
     record: &WorkspaceRecord,
@@ -87,9 +90,13 @@ fn switched_on(
     choice: &FeatureChoice,
     table: &PlatformTable,
 ) -> Result<FeaturesOn, AllocError>
+    requires served { IsServed record.now choice.now }
     ensures on { IfOk result (λ on. (f : FeatureValue) → Contains on f ↔ IsOn (rule_list record.now choice.now table.now) f) }
     ensures ascending { IfOk result (λ on. IsStrictlySortedBy feature_cmp on) }
 {
-    let rules = rules(alloc, record, choice, table)?;
-    features_of(alloc, &rules)
+    match graph_of(alloc, record) {
+        Ok(graph) => resolved_features(alloc, record, &graph, choice, table),
+        Err(PackageGraphError::Memory) => Err(AllocError),
+        Err(PackageGraphError::Broken { .. }) => unreachable!(),
+    }
 }

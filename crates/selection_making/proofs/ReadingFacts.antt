@@ -9,7 +9,7 @@ use Rattle.workspace_record.specs.declared.choice.PlatformTable.{PlatformTable}
 use Rattle.workspace_record.specs.declared.kinds.TargetKind.{TargetKind}
 use Rattle.workspace_record.specs.declared.kinds.TargetKind.TheVariants.{Lib, ProcMacro, Test, Bench, Bin, Example, BuildScript}
 use Rattle.feature_account.specs.Lines.{is_member}
-use Rattle.feature_switching.proofs.Concluded.{feature_exact}
+use Rattle.feature_switching.proofs.FeatureOrder.{feature_exact}
 use Rattle.graph_switching.specs.LinesOn.{links_on}
 use Rattle.guppy_package_table.specs.Tables.{TableValue}
 use Rattle.record_rules.specs.Binaries.{Binary, binaries, binaries_of, binary_id, binary_of, kind_text, may_have_tests}

@@ -1,7 +1,7 @@
 use mathlib.Core.List.{map-id}
 use Rattle.workspace_record.specs.Features.{feature_cmp, feature_cmp_total, feature_ties}
 use Rattle.list_facts.proofs.Ascending.{ascending_of_sort}
-use Rattle.feature_switching.proofs.Concluded.{feature_exact}
+use Rattle.feature_switching.proofs.FeatureOrder.{feature_exact}
 use Rattle.feature_switching.proofs.features.sorted_features.Goals as goal
 
 pub returns : goal.returns

@@ -1,6 +1,6 @@
 use Rattle.std.proofs.Common.{◌≡◌, Contains, IsTrue, ◌↔◌, subst, sym}
 use Rattle.feature_account.specs.Accounts.{concluded_set}
-use Rattle.account_making.proofs.Concluding.{concluded_iff}
+use Rattle.feature_account.proofs.ConcludedFacts.{concluded_iff}
 use Rattle.feature_switching.proofs.features.FeaturesOn.contains.Goals as goal
 
 pub returns : goal.returns

@@ -1,4 +1,4 @@
-use Rattle.std.proofs.Common.{◌≡◌, ◌∙◌, ◌↔◌, ◌&&◌, ◌||◌, IsTrue, ap, ap₂, is_some, refl, subst, sym}
+use Rattle.std.proofs.Common.{◌≡◌, ◌∙◌, ◌↔◌, ◌&&◌, ◌||◌, IsTrue, ap, ap₂, is_some, subst, sym}
 use Rattle.guppy_package_graph.specs.Views.{graph_of, place_of}
 use Rattle.guppy_package_graph.proofs.PlaceFacts.{member_at}
 use Rattle.guppy_package_table.specs.Tables.{TableValue, member_path_at}
@@ -8,10 +8,10 @@ use Rattle.guppy_feature_views.specs.Views.{link_view, metadata_graph_of, node_o
 use Rattle.guppy_package_graph.specs.Finding.{IsAt}
 use Rattle.line_verdicts.specs.Verdicts.{HasCountingLine, starts_in_workspace, table_of}
 use Rattle.line_verdicts.proofs.Counting.{counting_iff}
-use Rattle.line_verdicts.proofs.line_verdict.LineVerdictFeatureLinkVisitor.visit_link.Goals as goal
+use Rattle.line_verdicts.proofs.line_verdict.LineVerdict.accepts.Goals as goal
 
-pub returns-clause-step : goal.returns-clause-step
-returns-clause-step c =
+pub returns : goal.returns
+returns c =
     let l : LinkValue = link_view c.args.link in
     let table = table_of c.args.self.now in
     let from = c.from.result in
@@ -26,4 +26,4 @@ returns-clause-step c =
     let build = c.is_in_force-build.ensures _ c.build.ensures.status in
     let dev = c.is_in_force-dev.ensures _ c.dev.ensures.status in
     let value = c.some_counts.ensures ∙ ap₂ ◌||◌ (ap₂ ◌||◌ normal build) (ap₂ ◌&&◌ member dev) in
-    (subst (λ b. IsTrue b ↔ HasCountingLine table l) (sym value) (counting_iff table l), refl)
+    record { counting = subst (λ b. IsTrue b ↔ HasCountingLine table l) (sym value) (counting_iff table l) }

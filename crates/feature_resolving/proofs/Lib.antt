@@ -1,0 +1,4 @@
+pub mod ChosenNodes
+pub mod LeadingFacts
+pub mod OnFacts
+pub mod VerdictFacts
