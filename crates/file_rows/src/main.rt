@@ -10,8 +10,8 @@ use std::process::ExitCode;
 use std::{fs, io};
 
 fn main(rt: HostRuntime) -> io::Result<ExitCode> {
-    let file = fs::read(&rt, "rows.json")?;
+    let files = fs::read(&rt, "files.json")?;
     let mut out = rt.stdout();
-    let same = run_rows(rt.alloc(), &file, &mut FileRows, &mut out)?;
+    let same = run_rows(rt.alloc(), "files", &files, &mut FileRows, &mut out)?;
     Ok(ExitCode::from(if same { 0 } else { 1 }))
 }

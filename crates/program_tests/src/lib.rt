@@ -1,9 +1,8 @@
-//! Tests of runs of the program whose streams fail.
+//! Tests of selections over listers and writers that fail, of what errors print, and of runs of the
+//! program whose streams fail: what no row can say.
 #![tactic(auto)]
 
 #[cfg(test)]
-mod failing;
+mod runs;
 #[cfg(test)]
-mod files;
-#[cfg(test)]
-mod streams;
+mod selections;

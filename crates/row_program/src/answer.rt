@@ -1,6 +1,6 @@
 use crate::fault::RowFault;
 use serde_json::Value;
-use std::alloc::Global;
+use std::alloc::{AllocError, Global};
 
 /// What came of a row, each text under the key by which rows say what they want of it. Where a key has
 /// several texts, each is to be the wanted one.
@@ -24,6 +24,15 @@ impl Answers {
     pub fn push(&mut self, key: &'static str, text: String) -> Result<(), RowFault> {
         self.items.push(Answer { key, text })?;
         Ok(())
+    }
+
+    /// As `push`, of a text for which there may have been no memory.
+    pub fn tell(
+        &mut self,
+        key: &'static str,
+        text: Result<String, AllocError>,
+    ) -> Result<(), RowFault> {
+        self.push(key, text?)
     }
 }
 

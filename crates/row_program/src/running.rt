@@ -19,33 +19,57 @@ pub trait RowRunner {
     ) -> Result<(), RowFault>;
 }
 
-/// Runs each row of a file of rows, and writes what differs from what is wanted: the row's name, the
-/// key, what was wanted and what came. The last line counts the rows, and those that differ.
+/// Runs each row of a file of rows of this sort, and writes what differs from what is wanted: the
+/// row's name, the key, what was wanted and what came. The last line counts the rows of the sort, and
+/// those that differ.
 ///
 /// Answers whether there were rows and none differs. A row differs too where it wants nothing, or has
 /// a key that is neither an input nor the key of an answer.
 pub fn run_rows<R: RowRunner, W: Write>(
     alloc: Global,
+    sort: &str,
     file: &[u8],
     runner: &mut R,
     out: &mut W,
 ) -> io::Result<bool> {
-    let Ok(value) = Value::from_slice(alloc, file) else {
-        writeln!(out, "the file of rows is not JSON")?;
+    match Value::from_slice(alloc, file) {
+        Ok(value) => run_value(alloc, sort, &value, runner, out),
+        Err(_) => {
+            writeln!(out, "{sort}: the file of rows is not JSON")?;
+            Ok(false)
+        }
+    }
+}
+
+fn run_value<R: RowRunner, W: Write>(
+    alloc: Global,
+    sort: &str,
+    value: &Value,
+    runner: &mut R,
+    out: &mut W,
+) -> io::Result<bool> {
+    let Some(values) = value.as_array() else {
+        writeln!(out, "{sort}: the file of rows is no list")?;
         return Ok(false);
     };
-    let Some(rows) = value.as_array() else {
-        writeln!(out, "the file of rows is no list")?;
-        return Ok(false);
-    };
-    let rows = rows_of(alloc, rows.as_slice())?;
+    let rows = rows_of(alloc, values.as_slice())?;
+    run_each(alloc, sort, &rows, runner, out)
+}
+
+fn run_each<R: RowRunner, W: Write>(
+    alloc: Global,
+    sort: &str,
+    rows: &[Row<'_>],
+    runner: &mut R,
+    out: &mut W,
+) -> io::Result<bool> {
     let mut differ = 0u64;
-    for row in &rows {
+    for row in rows {
         if !run_one(alloc, *row, runner, out)? {
             differ = differ.saturating_add(1);
         }
     }
-    writeln!(out, "{} rows, {differ} differ", rows.len())?;
+    writeln!(out, "{sort}: {} rows, {differ} differ", rows.len())?;
     Ok(differ == 0 && !rows.is_empty())
 }
 
@@ -72,13 +96,26 @@ fn run_one<R: RowRunner, W: Write>(
     runner: &mut R,
     out: &mut W,
 ) -> io::Result<bool> {
+    let mut answers = Answers::new(alloc);
+    let ran = runner.run_row(alloc, row, &mut answers);
+    tell_one(alloc, row, runner.inputs(), ran, &answers.items, out)
+}
+
+/// Tells what differs of a row that was run, or why it was not.
+fn tell_one<W: Write>(
+    alloc: Global,
+    row: Row<'_>,
+    inputs: &[&str],
+    ran: Result<(), RowFault>,
+    answers: &[Answer],
+    out: &mut W,
+) -> io::Result<bool> {
     let name = row
         .get("name")
         .and_then(Value::as_str)
         .unwrap_or("a row without a name");
-    let mut answers = Answers::new(alloc);
-    match runner.run_row(alloc, row, &mut answers) {
-        Ok(()) => told(alloc, name, row, runner.inputs(), &answers.items, out),
+    match ran {
+        Ok(()) => told(alloc, name, row, inputs, answers, out),
         Err(fault) => {
             writeln!(out, "{name}: {fault}")?;
             Ok(false)

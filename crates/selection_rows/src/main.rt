@@ -1,22 +1,29 @@
-//! Selections over the records, choices, tables and listings of `rows.json`, compared with what each
-//! has to answer and to ask.
+//! Selections over records, choices, tables and listings, and runs of the program `test_select` on
+//! files and words, compared with what each has to answer, ask and print.
 #![tactic(auto)]
 
-mod binaries;
-mod features;
-mod question;
-mod selecting;
-mod selection_rows;
-mod switching;
+mod runs;
+mod selections;
 
-use crate::selection_rows::SelectionRows;
+use crate::runs::ProgramRows;
+use crate::selections::SelectionRows;
 use row_program::run_rows;
 use std::process::ExitCode;
 use std::{fs, io};
 
 fn main(rt: HostRuntime) -> io::Result<ExitCode> {
-    let file = fs::read(&rt, "rows.json")?;
+    let selections = fs::read(&rt, "selections.json")?;
+    let runs = fs::read(&rt, "runs.json")?;
+    let alloc = rt.alloc();
     let mut out = rt.stdout();
-    let same = run_rows(rt.alloc(), &file, &mut SelectionRows, &mut out)?;
+    let mut same = true;
+    same &= run_rows(
+        alloc,
+        "selections",
+        &selections,
+        &mut SelectionRows,
+        &mut out,
+    )?;
+    same &= run_rows(alloc, "runs", &runs, &mut ProgramRows, &mut out)?;
     Ok(ExitCode::from(if same { 0 } else { 1 }))
 }

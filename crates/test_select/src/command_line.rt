@@ -7,31 +7,131 @@ use std::alloc::{AllocError, Global};
 
 /// The program's command, with a subcommand for each thing that it does.
 pub(crate) fn command<'a>(alloc: Global) -> Result<Command<'a>, AllocError> {
-    Command::new(alloc, "test_select")
-        .bin_name("test_select")?
-        .version("0.1.0")
-        .about("Says which Rust tests run under chosen features and filter texts")
-        .after_help(STATUSES)
-        .subcommand_required(true)
-        .arg_required_else_help(true)
-        .subcommand(tests_command(alloc)?)?
-        .subcommand(account_command(alloc)?)?
-        .subcommand(check_command(alloc)?)?
-        .subcommand(explain_command(alloc)?)?
-        .subcommand(order_command(alloc)?)
+    let mut command = program(alloc)?;
+    for subcommand in &SUBCOMMANDS {
+        command = with_subcommand(command, subcommand.command(alloc))?;
+    }
+    Ok(command)
 }
 
-fn tests_command<'a>(alloc: Global) -> Result<Command<'a>, AllocError> {
-    Command::new(alloc, "tests")
-        .about("Prints the tests that run")
-        .after_help(TESTS_HELP)
-        .arg(record_option(alloc))?
-        .arg(listings_option(alloc))?
-        .arg(choice_option(alloc))?
-        .arg(table_option(alloc))?
-        .arg(declared_flag(alloc))?
-        .arg(plain_flag(alloc))?
-        .arg(filter_words(alloc))
+/// The command without its subcommands.
+fn program<'a>(alloc: Global) -> Result<Command<'a>, AllocError> {
+    let named = Command::new(alloc, "test_select").bin_name("test_select")?;
+    Ok(
+        named
+            .version("0.1.0")
+            .about("Says which Rust tests run under chosen features and filter texts")
+            .after_help(STATUSES)
+            .subcommand_required(true)
+            .arg_required_else_help(true),
+    )
+}
+
+fn with_subcommand<'a>(
+    command: Command<'a>,
+    subcommand: Result<Command<'a>, AllocError>,
+) -> Result<Command<'a>, AllocError> {
+    command.subcommand(subcommand?)
+}
+
+/// A thing that the program does: its name, what it does, its help, and the words that it takes.
+struct Subcommand {
+    name: &'static str,
+    about: &'static str,
+    help: &'static str,
+    words: &'static [Word],
+}
+
+impl Subcommand {
+    fn command<'a>(&self, alloc: Global) -> Result<Command<'a>, AllocError> {
+        let mut command = Command::new(alloc, self.name)
+            .about(self.about)
+            .after_help(self.help);
+        for word in self.words {
+            command = command.arg(word.argument(alloc))?;
+        }
+        Ok(command)
+    }
+}
+
+/// The subcommands, in the order of the help.
+const SUBCOMMANDS: [Subcommand; 5] = [
+    Subcommand {
+        name: "tests",
+        about: "Prints the tests that run",
+        help: TESTS_HELP,
+        words: &[
+            Word::Record,
+            Word::Listings,
+            Word::Choice,
+            Word::Table,
+            Word::Declared,
+            Word::Plain,
+            Word::Filter,
+        ],
+    },
+    Subcommand {
+        name: "account",
+        about: "Prints an account of the features that are on",
+        help: ACCOUNT_HELP,
+        words: &[Word::Record, Word::Choice, Word::Table],
+    },
+    Subcommand {
+        name: "check",
+        about: "Checks an account of the features that are on, or an explanation of one",
+        help: CHECK_HELP,
+        words: &[Word::Record, Word::Choice, Word::Table, Word::Account],
+    },
+    Subcommand {
+        name: "explain",
+        about: "Prints why a feature is on",
+        help: EXPLAIN_HELP,
+        words: &[
+            Word::Record,
+            Word::Choice,
+            Word::Table,
+            Word::Package,
+            Word::Feature,
+        ],
+    },
+    Subcommand {
+        name: "order",
+        about: "Prints the packages that are on, dependencies first",
+        help: ORDER_HELP,
+        words: &[Word::Record, Word::Choice, Word::Table],
+    },
+];
+
+/// A word that a subcommand takes.
+#[derive(Clone, Copy)]
+enum Word {
+    Record,
+    Listings,
+    Choice,
+    Table,
+    Account,
+    Package,
+    Feature,
+    Declared,
+    Plain,
+    Filter,
+}
+
+impl Word {
+    fn argument<'a>(self, alloc: Global) -> Arg<'a> {
+        match self {
+            Word::Record => record_option(alloc),
+            Word::Listings => listings_option(alloc),
+            Word::Choice => choice_option(alloc),
+            Word::Table => table_option(alloc),
+            Word::Account => account_option(alloc),
+            Word::Package => package_argument(alloc),
+            Word::Feature => feature_argument(alloc),
+            Word::Declared => declared_flag(alloc),
+            Word::Plain => plain_flag(alloc),
+            Word::Filter => filter_words(alloc),
+        }
+    }
 }
 
 /// What a question is asked of: the names of its files.
@@ -42,48 +142,10 @@ pub(crate) struct QuestionFiles<'a> {
     pub(crate) table: Option<&'a str>,
 }
 
-fn account_command<'a>(alloc: Global) -> Result<Command<'a>, AllocError> {
-    Command::new(alloc, "account")
-        .about("Prints an account of the features that are on")
-        .after_help(ACCOUNT_HELP)
-        .arg(record_option(alloc))?
-        .arg(choice_option(alloc))?
-        .arg(table_option(alloc))
-}
-
-fn check_command<'a>(alloc: Global) -> Result<Command<'a>, AllocError> {
-    Command::new(alloc, "check")
-        .about("Checks an account of the features that are on, or an explanation of one")
-        .after_help(CHECK_HELP)
-        .arg(record_option(alloc))?
-        .arg(choice_option(alloc))?
-        .arg(table_option(alloc))?
-        .arg(account_option(alloc))
-}
-
-fn explain_command<'a>(alloc: Global) -> Result<Command<'a>, AllocError> {
-    Command::new(alloc, "explain")
-        .about("Prints why a feature is on")
-        .after_help(EXPLAIN_HELP)
-        .arg(record_option(alloc))?
-        .arg(choice_option(alloc))?
-        .arg(table_option(alloc))?
-        .arg(package_argument(alloc))?
-        .arg(feature_argument(alloc))
-}
-
-fn order_command<'a>(alloc: Global) -> Result<Command<'a>, AllocError> {
-    Command::new(alloc, "order")
-        .about("Prints the packages that are on, dependencies first")
-        .after_help(ORDER_HELP)
-        .arg(record_option(alloc))?
-        .arg(choice_option(alloc))?
-        .arg(table_option(alloc))
-}
-
 fn record_option<'a>(alloc: Global) -> Arg<'a> {
     file_option(alloc, "record").required(true).help(
-        "The record of the workspace: its packages, links and members, as JSON",
+        "The record of the workspace: its packages, links and members, as JSON,
+made of what `cargo metadata` says of them; docs/FORMATS.md has its keys",
     )
 }
 
@@ -95,13 +157,15 @@ fn listings_option<'a>(alloc: Global) -> Arg<'a> {
 
 fn choice_option<'a>(alloc: Global) -> Arg<'a> {
     file_option(alloc, "choice").help(
-        "The features that are asked for, as JSON [default: the default features]",
+        "The features that are asked for, as JSON [default: the default features].
+A key that the format does not have is ignored, also a misspelt one",
     )
 }
 
 fn table_option<'a>(alloc: Global) -> Arg<'a> {
     file_option(alloc, "table").help(
-        "What holds on the platform, as JSON [default: nothing is known, and what is unknown counts]",
+        "The platform's answers: which `cfg(..)` and target names hold, as JSON
+[default: no answer is known, and what is unknown counts]",
     )
 }
 
@@ -146,7 +210,7 @@ fn plain_flag<'a>(alloc: Global) -> Arg<'a> {
     Arg::new(alloc, "plain")
         .long("plain")
         .action(ArgAction::SetTrue)
-        .help("Asks each available binary for its tests, also where no filter can hold of one")
+        .help("Asks each available binary for its tests, also where no filter can hold")
 }
 
 fn filter_words<'a>(alloc: Global) -> Arg<'a> {
@@ -228,53 +292,59 @@ const TESTS_HELP: &str = "Filters:
   group(NAME)      the tests of such groups of the record
   default()        the tests of the record's default filter
 
-NAME is =TEXT for the whole name, ~TEXT for a part of it, #TEXT for a glob, /TEXT/ for a pattern, or
-TEXT: a part of a test's name, a whole kind, and a glob for others. Filters are joined by `and`, `or`,
-`not` and `-`, and parentheses group them. Names of packages, binaries and groups have to match some.
-Tests run only in binaries whose required features are on, and where the default filter holds.
+NAME is =TEXT for the whole name, ~TEXT for a part of it, #TEXT for a glob, /TEXT/ for a pattern,
+or TEXT: a part of a test's name, a whole kind, and a glob for others. Filters are joined by `and`,
+`or`, `not` and `-` (not by `&&` or `||`), and parentheses group them. Names of packages, binaries
+and groups have to match some; a kind that no target has, as kind(foo), chooses no test. Tests run
+only in binaries whose required features are on, and where the default filter holds.
 
 Output: a line for each test, with the id of its binary, a space and its name. The lines ascend by
-binary and then name, and none stands there twice.
+binary and then name, and none stands there twice. Where no test runs there is no line.
 
-Exit status: 0 if the tests are printed; 1 if a file, the record, the choice, a filter or a listing
-is refused, or the output cannot be written, with the reasons on standard error; 2 for a bad command
+Exit status: 0 if the tests are printed, also if there are none; 1 if a file, the record, the
+choice, a filter or a listing is refused, or the output cannot be written, with the reasons on
+standard error, where `lister: ID` says that the listings have no binary ID; 2 for a bad command
 line.";
 
 const ACCOUNT_HELP: &str =
-    "Output: a line of JSON with the numbers of rules by which features are switched on, in an order in
-which each rule has its premises from earlier ones. Each is the lowest rule that may stand there. Rules
-are numbered from 0: those of the choice, then those of each package's features, then those of the
-features' entries, then those of the links.
+    "Output: a line of JSON with the numbers of rules, one for each feature that is on, in an order
+in which each rule has its premises from earlier ones. Each is the lowest rule that may stand there.
+A rule says that a feature is on, or that it is on where one or two others are. Rules are numbered
+from 0: those of the choice, then those by which a feature needs its package, then those of the
+features' entries, then those of the links. `check` reads such a line, and says if it is valid.
 
 Exit status: 0 if the account is printed; 1 if a file, the record or the choice is refused, or the
 output cannot be written, with the reasons on standard error; 2 for a bad command line.";
 
 const CHECK_HELP: &str =
     "Output: `accepted`, or `refused: ` and the first fault of the account: `unknown rule at P`,
-`repeated conclusion at P` or `missing premise at P`, where P counts its entries from 0, or `not closed
-at N`, where N is the lowest rule that is left out. A file with a goal is an explanation, and is refused,
-in place of the last, as `goal not reached`, or as `unused at P` where no later entry needs what the one
-at P concludes.
+`repeated conclusion at P` or `missing premise at P`, where P counts its entries from 0, or `not
+closed at N`, where N is the lowest rule that is left out. A file with a goal is an explanation, and
+is refused, in place of the last, as `goal not reached`, or as `unused at P` where no later entry
+needs what the one at P concludes.
 
-Exit status: 0 if the account or explanation is accepted; 1 if it or a file is refused, or the output
-cannot be written, with the reasons for the latter two on standard error; 2 for a bad command line.";
+Exit status: 0 if the account or explanation is accepted; 1 if it or a file is refused, or the
+output cannot be written, with the reasons for the latter two on standard error; 2 for a bad command
+line.";
 
 const EXPLAIN_HELP: &str =
-    "Output: a line of JSON with the feature as goal, and the numbers of the rules by which it is switched
-on: those of the account that the last of them rests on, in its order. Rules are numbered as for
-`account`. Or else `not on`.
+    "Output: a line of JSON with the feature as goal, and the numbers of the rules that switch it
+on: the last one concludes it, and each other one concludes what a later one needs. They stand in
+the order of the account, and are numbered as for `account`. Or else `not on`, also where there is
+no such package or feature.
 
-Exit status: 0 if the explanation is printed; 1 if the feature is not on, or a file, the record or the
-choice is refused, or the output cannot be written, with the reasons for the latter on standard error;
-2 for a bad command line.";
+Exit status: 0 if the explanation is printed; 1 if the feature is not on, or a file, the record or
+the choice is refused, or the output cannot be written, with the reasons for the latter on standard
+error; 2 for a bad command line.";
 
 const ORDER_HELP: &str =
-    "Output: a line for each package that is on, with its id, and none stands there twice. A package comes
-after all that it depends on by lines that are on, but for packages that depend on it in turn.
+    "Output: a line for each package that is on, with its id, and none stands there twice. A package
+comes after all that it depends on by lines that are on, but for packages that depend on it in turn.
 
 Exit status: 0 if the order is printed; 1 if a file, the record or the choice is refused, or the
 output cannot be written, with the reasons on standard error; 2 for a bad command line.";
 
-const STATUSES: &str =
-    "Exit status: 0 if all is done; 1 if it failed, with the reasons on standard error; 2 for a bad
+const STATUSES: &str = "A file may be /dev/stdin.
+
+Exit status: 0 if all is done; 1 if it failed, with the reasons on standard error; 2 for a bad
 command line.";

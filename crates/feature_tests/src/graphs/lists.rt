@@ -1,0 +1,45 @@
+//! Lists of features that are given up.
+
+use crate::graphs::graphs::{Question, answer_to, id_of};
+use guppy_feature_graph::{FeatureGraph, FeatureGraphData, FeatureList};
+use std::alloc::Global;
+use std::test::Fail;
+
+// How many ids a list gives from its end, and how many labels it has.
+fn counts_of(list: FeatureList<'_>, other: FeatureList<'_>) -> (usize, usize) {
+    let mut count: usize = 0;
+    for id in list.into_iter().rev() {
+        if id.is_base() {
+            count = count.saturating_add(10);
+        }
+        count = count.saturating_add(1);
+    }
+    (count, other.into_labels().len())
+}
+
+// Asks for both counts of the features of app.
+#[derive(Drop)]
+struct GivenUp;
+
+impl Question for GivenUp {
+    ghost use Rattle.std.specs.Prelude.{⊤};
+
+    type Answer = (usize, usize);
+
+    ghost can_ask = { λ _. ⊤ };
+
+    fn ask(&mut self, alloc: Global, data: &FeatureGraphData<'_>) -> Result<(usize, usize), Fail> {
+        let app = id_of(alloc, "app")?;
+        let graph = FeatureGraph::of(data);
+        let list = graph.all_features_for(alloc, &app)?;
+        let other = graph.all_features_for(alloc, &app)?;
+        Ok(counts_of(list, other))
+    }
+}
+
+#[test]
+fn given_up_from_the_end(rt: HostRuntime) -> Result<(), Fail> {
+    let counts = answer_to(rt.alloc(), &mut GivenUp)?;
+    assert_eq!(rt; counts, (13, 3));
+    Ok(())
+}

@@ -1,0 +1,8 @@
+//! Visitors and filters of feature graphs that keep a state, boxed ones, and closures.
+
+mod filters;
+mod graphs;
+mod lists;
+mod resolves;
+mod sets;
+mod visitors;

@@ -1,0 +1,180 @@
+ghost use Rattle.std.specs.Prelude.{IfOk};
+ghost use Rattle.nextest_filter_queries.specs.Groups.{AreKnown};
+
+use crate::compiled::contexts::{context_in, graph_in};
+use crate::compiled::queries::tell_answers;
+use crate::compiled::row_groups::known_groups;
+use guppy_package_graph::PackageGraph;
+use nextest_filtering::errors::{FiltersetError, FiltersetParseErrors, ParseSingleError};
+use nextest_filtering::{EvalContext, Filterset, FiltersetKind, KnownGroups, ParseContext};
+use row_program::{Answers, Row, RowFault, RowRunner};
+use serde_json::Value;
+use std::alloc::{AllocError, Global};
+
+/// Rows of one filter each: its `text` and its `kind` (test, archive, override or default), over the
+/// `record`, and over the packages under `context`; `groups` are known, and `default` is the filter
+/// that stands for `default()`. Asked are the `owners`, `binary_names`, `binary_kinds`, `platforms` or
+/// `test_names` that are listed, with `owner`, `binary_name`, `binary_kind`, `built_for` and
+/// `test_name` for the rest, of tests in the group `member_of`.
+#[derive(Drop)]
+pub(crate) struct CompiledRows;
+
+impl RowRunner for CompiledRows {
+    fn inputs(&self) -> &'static [&'static str] {
+        &[
+            "record",
+            "text",
+            "kind",
+            "context",
+            "groups",
+            "default",
+            "owners",
+            "binary_names",
+            "binary_kinds",
+            "platforms",
+            "test_names",
+            "owner",
+            "binary_name",
+            "binary_kind",
+            "built_for",
+            "test_name",
+            "member_of",
+        ]
+    }
+
+    fn run_row(
+        &mut self,
+        alloc: Global,
+        row: Row<'_>,
+        answers: &mut Answers,
+    ) -> Result<(), RowFault> {
+        let graph = graph_in(alloc, row)?;
+        tell_graph(alloc, row, &graph, answers)
+    }
+}
+
+fn tell_graph(
+    alloc: Global,
+    row: Row<'_>,
+    graph: &PackageGraph,
+    answers: &mut Answers,
+) -> Result<(), RowFault> {
+    let cx = context_in(alloc, row, graph)?;
+    tell_context(alloc, row, &cx, answers)
+}
+
+fn tell_context(
+    alloc: Global,
+    row: Row<'_>,
+    cx: &ParseContext<'_>,
+    answers: &mut Answers,
+) -> Result<(), RowFault> {
+    let groups = groups_in(alloc, row)?;
+    tell_groups(alloc, row, cx, &groups, answers)
+}
+
+/// The groups under `groups`.
+fn groups_in(alloc: Global, row: Row<'_>) -> Result<KnownGroups, RowFault>
+    ensures known { IfOk result AreKnown }
+{
+    let names = row.texts(alloc, "groups")?;
+    Ok(known_groups(alloc, &names)?)
+}
+
+fn tell_groups(
+    alloc: Global,
+    row: Row<'_>,
+    cx: &ParseContext<'_>,
+    groups: &KnownGroups,
+    answers: &mut Answers,
+) -> Result<(), RowFault>
+    requires known { AreKnown groups.now }
+{
+    let default = default_in(alloc, row, cx, groups)?;
+    match EvalContext::new(&default.compiled) {
+        Some(eval) => tell_filter(alloc, row, cx, groups, &eval, answers),
+        None => Err(RowFault::Key("default")),
+    }
+}
+
+fn tell_filter(
+    alloc: Global,
+    row: Row<'_>,
+    cx: &ParseContext<'_>,
+    groups: &KnownGroups,
+    eval: &EvalContext<'_>,
+    answers: &mut Answers,
+) -> Result<(), RowFault>
+    requires known { AreKnown groups.now }
+{
+    let input = String::from_str(alloc, row.text("text")?)?;
+    match Filterset::parse(alloc, input, cx, kind_in(row), groups) {
+        Ok(filter) => tell_parsed(alloc, row, &filter, eval, answers),
+        Err(FiltersetError::Parse(refused)) => answers.tell("faults", faults_text(alloc, &refused)),
+        Err(FiltersetError::Memory) => Err(RowFault::Memory),
+    }
+}
+
+/// Tells what a copy of the filter says.
+fn tell_parsed(
+    alloc: Global,
+    row: Row<'_>,
+    filter: &Filterset,
+    eval: &EvalContext<'_>,
+    answers: &mut Answers,
+) -> Result<(), RowFault> {
+    answers.push("faults", String::new(alloc))?;
+    let filter = filter.copy(alloc)?;
+    tell_answers(alloc, row, &filter.compiled, eval, answers)
+}
+
+/// The filter under `default`, compiled; all tests where there is none.
+fn default_in(
+    alloc: Global,
+    row: Row<'_>,
+    cx: &ParseContext<'_>,
+    groups: &KnownGroups,
+) -> Result<Filterset, RowFault> {
+    let text = match row.get("default").and_then(Value::as_str) {
+        Some(text) => text,
+        None => "all()",
+    };
+    let input = String::from_str(alloc, text)?;
+    match Filterset::parse(alloc, input, cx, FiltersetKind::DefaultFilter, groups) {
+        Ok(filter) => Ok(filter),
+        Err(FiltersetError::Parse(_)) => Err(RowFault::Key("default")),
+        Err(FiltersetError::Memory) => Err(RowFault::Memory),
+    }
+}
+
+fn kind_in(row: Row<'_>) -> FiltersetKind {
+    match row.get("kind").and_then(Value::as_str) {
+        Some("archive") => FiltersetKind::TestArchive,
+        Some("override") => FiltersetKind::OverrideFilter,
+        Some("default") => FiltersetKind::DefaultFilter,
+        _ => FiltersetKind::Test,
+    }
+}
+
+fn faults_text(alloc: Global, refused: &FiltersetParseErrors) -> Result<String, AllocError> {
+    let mut came = String::new(alloc);
+    for fault in &refused.errors {
+        if !came.is_empty() {
+            came.push_str("; ")?;
+        }
+        let told = fault_text(alloc, fault)?;
+        came.push_str(told.as_str())?;
+    }
+    Ok(came)
+}
+
+fn fault_text(alloc: Global, fault: &ParseSingleError) -> Result<String, AllocError> {
+    let span = fault.span();
+    let (offset, len) = (span.offset, span.len);
+    match fault {
+        ParseSingleError::BannedPredicate { reason, .. } => {
+            format!(in alloc; "{fault}: {reason} ({offset}, {len})")
+        }
+        _ => format!(in alloc; "{fault} ({offset}, {len})"),
+    }
+}

@@ -1,0 +1,3 @@
+//! Tests of `numbered_graph` on long graphs.
+
+mod long_graphs;

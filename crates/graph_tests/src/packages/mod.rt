@@ -1,0 +1,6 @@
+//! Visitors of package graphs that keep a state, sets of two graphs, and counted resolves.
+
+mod graphs;
+mod resolves;
+mod sets;
+mod visitors;

@@ -1,5 +1,0 @@
-//! Calls of the parts of a package graph that take memory, and what they print.
-#![tactic(auto)]
-
-#[cfg(test)]
-mod tests;

@@ -1,5 +1,0 @@
-use Rattle.std.proofs.lemmas.Str.{IsCharBoundary-start}
-use Rattle.nextest_filter_texts_rows.proofs.place_rows.read_pattern.Goals as goal
-
-pub pattern_from-requires-clause-boundary : goal.pattern_from-requires-clause-boundary
-pattern_from-requires-clause-boundary c = IsCharBoundary-start c.args.text.now c.utf8.text

@@ -1,0 +1,8 @@
+//! Small graphs whose reach, walks, listings, cycles, roots and sets were worked out by hand: each
+//! row of `graphs.json` is run through the public calls.
+
+mod graph_rows;
+mod node_lists;
+mod walked;
+
+pub(crate) use crate::graphs::graph_rows::GraphRows;

@@ -1,0 +1,166 @@
+//! Listers that fail, and what a lister is told.
+
+ghost use Rattle.std.specs.Prelude.{◌≡◌, ◌<◌, ◌++◌, ◌∷◌, [], ◌⊎◌, OnOk, OnErr, IfOk, codes};
+ghost use Rattle.list_facts.specs.Texts.{texts};
+ghost use Rattle.test_lister.specs.Listers.{largest};
+
+use crate::selections::three_packages::select_all;
+use std::alloc::{AllocError, Global};
+use std::process::Abort;
+use std::test::Fail;
+use test_select::{BinaryInfo, ListFault, Listing, SelectError, Selection, TestLister};
+
+/// Fails at one call, holds one test for each binary, and writes down what it is told of it.
+#[derive(Drop)]
+struct FailingLister {
+    alloc: Global,
+    asked: Vec<String>,
+    failures: u64,
+    fails_at: usize,
+    told: String,
+}
+
+impl TestLister for FailingLister {
+    ghost use Rattle.std.specs.Prelude.{◌∷◌, [], Some, codes};
+    ghost use Rattle.list_facts.specs.Texts.{texts};
+
+    ghost shown = { λ s. record {
+      asked = texts s.asked.items;
+      failures = s.failures;
+      listing_of = λ _. Some (codes "t" ∷ []);
+    } };
+
+    fn list(&mut self, binary: &BinaryInfo<'_>) -> Result<Listing, ListFault> {
+        let (alloc, failures, fails_at) = (self.alloc, self.failures, self.fails_at);
+        let _ = write_down(&mut self.told, binary);
+        let answer = one_test(alloc, &mut self.asked, failures, fails_at, binary.id);
+        if answer.is_err() {
+            self.failures = failures.saturating_add(1);
+        }
+        answer
+    }
+}
+
+fn write_down(told: &mut String, binary: &BinaryInfo<'_>) -> std::fmt::Result {
+    let (id, package_id, name) = (binary.id, binary.package_id, binary.name);
+    writeln!(
+        told,
+        "{id}, {package_id}, {name}, {:?}, {}",
+        binary.kind, binary.platform
+    )?;
+    Ok(())
+}
+
+fn one_test(
+    alloc: Global,
+    asked: &mut Vec<String>,
+    failures: u64,
+    fails_at: usize,
+    id: &str,
+) -> Result<Listing, ListFault>
+    ensures asks { OnOk result (texts asked.new.items ≡ texts asked.old.items ++ id.now ∷ []) }
+    ensures answers { IfOk result (λ v. (failures < largest) × (texts v.items ≡ codes "t" ∷ [])) }
+    ensures fails { OnErr result ((texts asked.new.items ≡ texts asked.old.items) ⊎ (texts asked.new.items ≡ texts asked.old.items ++ id.now ∷ [])) }
+{
+    let place = asked.len();
+    asked.push(String::from_str(alloc, id)?)?;
+    if failures == u64::MAX || place == fails_at {
+        return Err(ListFault);
+    }
+    let mut names = Vec::new(alloc);
+    names.push(String::from_str(alloc, "t")?)?;
+    Ok(names)
+}
+
+fn failing(alloc: Global, failures: u64, fails_at: usize) -> FailingLister {
+    FailingLister {
+        alloc,
+        asked: Vec::new(alloc),
+        failures,
+        fails_at,
+        told: String::new(alloc),
+    }
+}
+
+/// Asserts how a selection over the lister ends, with how many ids asked, and with which count.
+fn expect_end(
+    rt: &impl Abort,
+    mut lister: FailingLister,
+    refused: &str,
+    asked: usize,
+    failures: u64,
+) -> Result<(), Fail> {
+    let alloc = lister.alloc;
+    let end = end_text(alloc, select_all(alloc, &mut lister)?)?;
+    assert_eq!(rt; end.as_str(), refused);
+    assert_eq!(rt; lister.asked.len(), asked);
+    assert_eq!(rt; lister.failures, failures);
+    Ok(())
+}
+
+fn end_text(alloc: Global, answer: Result<Selection, SelectError>) -> Result<String, AllocError> {
+    match answer {
+        Ok(selection) => format!(in alloc; "{} chosen", selection.chosen().len()),
+        Err(error) => format!(in alloc; "{error}"),
+    }
+}
+
+/// At which call the lister fails, its count before, how the selection ends, how many ids were asked,
+/// and the count after.
+const ENDS: [(usize, u64, &str, usize, u64); 8] = [
+    (0, 0, "lister: a", 1, 1),
+    (1, 5, "lister: b-b", 2, 6),
+    (2, u64::MAX - 1, "lister: c", 3, u64::MAX),
+    (0, u64::MAX - 1, "lister: a", 1, u64::MAX),
+    (3, 5, "3 chosen", 3, 5),
+    (3, u64::MAX - 1, "3 chosen", 3, u64::MAX - 1),
+    (0, u64::MAX, "lister: a", 1, u64::MAX),
+    (3, u64::MAX, "lister: a", 1, u64::MAX),
+];
+
+#[test]
+fn a_lister_that_fails(rt: HostRuntime) -> Result<(), Fail> {
+    for (fails_at, before, refused, asked, after) in ENDS {
+        let lister = failing(rt.alloc(), before, fails_at);
+        expect_end(&rt, lister, refused, asked, after)?;
+    }
+    Ok(())
+}
+
+#[test]
+fn what_a_lister_is_told(rt: HostRuntime) -> Result<(), Fail> {
+    let mut lister = failing(rt.alloc(), 0, 3);
+    let answer = select_all(rt.alloc(), &mut lister)?;
+    assert!(rt; answer.is_ok());
+    let told = "a, a, a, Lib, target\nb-b, b 1.0.0, b_b, Lib, target\nc, c, c, Lib, target\n";
+    assert_eq!(rt; lister.told.as_str(), told);
+    Ok(())
+}
+
+/// Has no room for any id, and so no listing.
+#[derive(Drop)]
+struct FullLister {
+    failures: u64,
+}
+
+impl TestLister for FullLister {
+    ghost use Rattle.std.specs.Prelude.{[], None};
+
+    ghost shown = { λ s. record { asked = []; failures = s.failures; listing_of = λ _. None } };
+
+    fn list(&mut self, _: &BinaryInfo<'_>) -> Result<Listing, ListFault> {
+        self.failures = self.failures.saturating_add(1);
+        Err(ListFault)
+    }
+}
+
+#[test]
+fn a_lister_without_room(rt: HostRuntime) -> Result<(), Fail> {
+    for (before, after) in [(0, 1), (u64::MAX - 1, u64::MAX), (u64::MAX, u64::MAX)] {
+        let mut lister = FullLister { failures: before };
+        let answer = select_all(rt.alloc(), &mut lister)?;
+        assert!(rt; answer.is_err());
+        assert_eq!(rt; lister.failures, after);
+    }
+    Ok(())
+}

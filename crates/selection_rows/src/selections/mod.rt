@@ -1,0 +1,10 @@
+//! Selections over the records, choices, tables and listings of `selections.json`, compared with what each
+//! has to answer and to ask.
+
+mod binaries;
+mod features;
+mod selecting;
+mod selection_rows;
+mod switching;
+
+pub(crate) use crate::selections::selection_rows::SelectionRows;

@@ -1,0 +1,86 @@
+use crate::selections::binaries::tell_binaries;
+use crate::selections::selecting::tell_selection;
+use crate::selections::switching::tell_switching;
+use row_program::{Answers, Row, RowFault, RowRunner};
+use row_records::{Question, choice_in, record_in, table_in};
+use std::alloc::Global;
+use test_select::{FeatureChoice, LinkScope, WorkspaceRecord};
+
+/// Rows of selections. A row's `files` are `record.json`, and where it has them `choice.json`,
+/// `table.json`, `listings.json` and `switched.json`, and its `texts` the filter texts; where it has
+/// `plain`, each available binary is asked for. What comes, in one `scope` or else in both, is
+/// - `report`, the lines of the report; `refused`, the error; `asked`, the ids that were asked; and
+///   `failures`, the lister's count;
+/// - `binaries`, a line for each test binary;
+/// - `on`, the features that are on, or the error; and which `links` and `targets` of the record
+///   `switched.json` they switch on.
+#[derive(Drop)]
+pub(crate) struct SelectionRows;
+
+impl RowRunner for SelectionRows {
+    fn inputs(&self) -> &'static [&'static str] {
+        &["files", "texts", "scope", "plain"]
+    }
+
+    fn run_row(
+        &mut self,
+        alloc: Global,
+        row: Row<'_>,
+        answers: &mut Answers,
+    ) -> Result<(), RowFault> {
+        let record = record_in(alloc, row, "record.json")?;
+        run_on_record(alloc, row, &record, answers)
+    }
+}
+
+fn run_on_record(
+    alloc: Global,
+    row: Row<'_>,
+    record: &WorkspaceRecord,
+    answers: &mut Answers,
+) -> Result<(), RowFault> {
+    tell_binaries(alloc, record, answers)?;
+    let choice = choice_in(alloc, row)?;
+    run_on_choice(alloc, row, record, &choice, answers)
+}
+
+fn run_on_choice(
+    alloc: Global,
+    row: Row<'_>,
+    record: &WorkspaceRecord,
+    choice: &FeatureChoice,
+    answers: &mut Answers,
+) -> Result<(), RowFault> {
+    let table = table_in(alloc, row)?;
+    let question = Question {
+        record,
+        choice,
+        table: &table,
+    };
+    run_on_question(alloc, row, question, answers)
+}
+
+fn run_on_question(
+    alloc: Global,
+    row: Row<'_>,
+    question: Question<'_>,
+    answers: &mut Answers,
+) -> Result<(), RowFault> {
+    tell_switching(alloc, row, question, answers)?;
+    for scope in scopes_of(row)? {
+        tell_selection(alloc, row, question, *scope, answers)?;
+    }
+    Ok(())
+}
+
+/// The scopes in which the row selects.
+fn scopes_of(row: Row<'_>) -> Result<&'static [LinkScope], RowFault> {
+    if row.get("scope").is_none() {
+        return Ok(&[LinkScope::SwitchedOn, LinkScope::Declared]);
+    }
+    match row.text("scope")? {
+        "switched on" => Ok(&[LinkScope::SwitchedOn]),
+        "declared" => Ok(&[LinkScope::Declared]),
+        _ => Err(RowFault::Key("scope")),
+    }
+}
