@@ -11,13 +11,13 @@ use Rattle.nextest_filter_readiness.specs.Searches.{HasAt}
 use Rattle.nextest_filter_readiness.specs.Ready.{AreSuited, IsReady, IsSuited, Question, SayAlike}
 use Rattle.nextest_filter_readiness.specs.declared.ready_context.ReadyContext.{ReadyContext}
 
-iff_trans : {A B C : Type 0} → A ↔ B → B ↔ C → A ↔ C
+pub iff_trans : {A B C : Type 0} → A ↔ B → B ↔ C → A ↔ C
 iff_trans f g = (λ a. g.0 (f.0 a), λ c. f.1 (g.1 c))
 
 pub some_same : {X : Type 0} {x y : X} → Some x ≡ Some y → x ≡ y
 some_same {X} {x} {y} e = ap (λ o. unwrap_or o x) e
 
-no_some : {X : Type 0} {x : X} → None ≡ Some x → ⊥
+pub no_some : {X : Type 0} {x : X} → None ≡ Some x → ⊥
 no_some {X} {x} e = true≢false (sym (ap is_some e))
 
 pub has_parts : (all : List Re) (at : ℕ) (xs ys : List Re) → HasAt all at (xs ++ ys) → HasAt all at xs × HasAt all (at + length xs) ys

@@ -9,3 +9,24 @@ pub struct ReadyContext<'a> {
     /// Whether the default filter holds.
     pub default: bool,
 }
+
+impl<'a> ReadyContext<'a> {
+    ghost use Rattle.std.specs.Prelude.{◌≡◌};
+
+    /// The context of the binary's tests, in groups with these names.
+    pub fn new(
+        binary_query: BinaryQuery<'a>,
+        group_names: &'a [&'a str],
+        default: bool,
+    ) -> ReadyContext<'a>
+        ensures binary { result.binary_query ≡ binary_query.entry }
+        ensures names { result.group_names.now ≡ group_names.entry.now }
+        ensures default { result.default ≡ default }
+    {
+        ReadyContext {
+            binary_query,
+            group_names,
+            default,
+        }
+    }
+}

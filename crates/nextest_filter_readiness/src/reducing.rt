@@ -31,7 +31,7 @@ impl<'f> ReadyExpr<'f> {
 }
 
 /// The same, where the filter's searchers begin at a place, and the place behind them.
-fn reduced<'f>(
+pub(crate) fn reduced<'f>(
     alloc: Global,
     filter: &'f CompiledExpr,
     cx: &ReadyContext<'_>,

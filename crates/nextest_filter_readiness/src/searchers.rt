@@ -22,7 +22,7 @@ pub fn searchers_of<'f>(
     Ok(searchers)
 }
 
-fn push_searchers<'f>(
+pub(crate) fn push_searchers<'f>(
     alloc: Global,
     filter: &'f CompiledExpr,
     searchers: &mut Vec<Matcher<'f>>,
