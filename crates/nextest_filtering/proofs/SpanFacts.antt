@@ -1,6 +1,6 @@
 -- The faults of a filter that is read and not accepted lie within its text.
 use Rattle.std.proofs.Common.{◌≡◌, ℕ, All, List, [], ◌∷◌, ◌++◌, length, inl, inr, sym, subst}
-use Rattle.std.proofs.lemmas.List.Elements.{All-append}
+use Rattle.std.proofs.lemmas.List.Elements.{All-append, All-cons, All-nil}
 use Rattle.std.specs.Str.{IsUtf8}
 use Rattle.workspace_record.specs.Records.{Text}
 use Rattle.nextest_filter_matchers.specs.declared.source_span.SourceSpan.{SourceSpan}
@@ -55,44 +55,50 @@ module _ (n : ℕ) where
   filter_within (Parens' p x) h = filter_within x h
   filter_within (Set l) h = leaf_within l h
 
+  none : AreWithin n []
+  none = All-nil (LiesWithin n)
+
+  one : (fault : ParseSingleError) → LiesWithin n fault → AreWithin n (fault ∷ [])
+  one fault p = All-cons (LiesWithin n) fault [] p none
+
   ban_within : (k : FiltersetKind) (l : FilterLeaf) → IsIn n l → AreWithin n (ban_of k l)
-  ban_within kind.Test l p = tt
-  ban_within kind.TestArchive (Named names.Package test span) p = tt
-  ban_within kind.TestArchive (Named names.Deps test span) p = tt
-  ban_within kind.TestArchive (Named names.Rdeps test span) p = tt
-  ban_within kind.TestArchive (Named names.Kind test span) p = tt
-  ban_within kind.TestArchive (Named names.Binary test span) p = tt
-  ban_within kind.TestArchive (Named names.BinaryId test span) p = tt
-  ban_within kind.TestArchive (Named names.Test test span) p = (p, tt)
-  ban_within kind.TestArchive (Named names.Group test span) p = (p, tt)
-  ban_within kind.TestArchive (Platform platform span) p = tt
-  ban_within kind.TestArchive (Default span) p = tt
-  ban_within kind.TestArchive Everything p = tt
-  ban_within kind.TestArchive None p = tt
-  ban_within kind.OverrideFilter (Named names.Package test span) p = tt
-  ban_within kind.OverrideFilter (Named names.Deps test span) p = tt
-  ban_within kind.OverrideFilter (Named names.Rdeps test span) p = tt
-  ban_within kind.OverrideFilter (Named names.Kind test span) p = tt
-  ban_within kind.OverrideFilter (Named names.Binary test span) p = tt
-  ban_within kind.OverrideFilter (Named names.BinaryId test span) p = tt
-  ban_within kind.OverrideFilter (Named names.Test test span) p = tt
-  ban_within kind.OverrideFilter (Named names.Group test span) p = (p, tt)
-  ban_within kind.OverrideFilter (Platform platform span) p = tt
-  ban_within kind.OverrideFilter (Default span) p = tt
-  ban_within kind.OverrideFilter Everything p = tt
-  ban_within kind.OverrideFilter None p = tt
-  ban_within kind.DefaultFilter (Named names.Package test span) p = tt
-  ban_within kind.DefaultFilter (Named names.Deps test span) p = tt
-  ban_within kind.DefaultFilter (Named names.Rdeps test span) p = tt
-  ban_within kind.DefaultFilter (Named names.Kind test span) p = tt
-  ban_within kind.DefaultFilter (Named names.Binary test span) p = tt
-  ban_within kind.DefaultFilter (Named names.BinaryId test span) p = tt
-  ban_within kind.DefaultFilter (Named names.Test test span) p = tt
-  ban_within kind.DefaultFilter (Named names.Group test span) p = (p, tt)
-  ban_within kind.DefaultFilter (Platform platform span) p = tt
-  ban_within kind.DefaultFilter (Default span) p = (p, tt)
-  ban_within kind.DefaultFilter Everything p = tt
-  ban_within kind.DefaultFilter None p = tt
+  ban_within kind.Test l p = none
+  ban_within kind.TestArchive (Named names.Package test span) p = none
+  ban_within kind.TestArchive (Named names.Deps test span) p = none
+  ban_within kind.TestArchive (Named names.Rdeps test span) p = none
+  ban_within kind.TestArchive (Named names.Kind test span) p = none
+  ban_within kind.TestArchive (Named names.Binary test span) p = none
+  ban_within kind.TestArchive (Named names.BinaryId test span) p = none
+  ban_within kind.TestArchive (Named names.Test test span) p = one _ p
+  ban_within kind.TestArchive (Named names.Group test span) p = one _ p
+  ban_within kind.TestArchive (Platform platform span) p = none
+  ban_within kind.TestArchive (Default span) p = none
+  ban_within kind.TestArchive Everything p = none
+  ban_within kind.TestArchive None p = none
+  ban_within kind.OverrideFilter (Named names.Package test span) p = none
+  ban_within kind.OverrideFilter (Named names.Deps test span) p = none
+  ban_within kind.OverrideFilter (Named names.Rdeps test span) p = none
+  ban_within kind.OverrideFilter (Named names.Kind test span) p = none
+  ban_within kind.OverrideFilter (Named names.Binary test span) p = none
+  ban_within kind.OverrideFilter (Named names.BinaryId test span) p = none
+  ban_within kind.OverrideFilter (Named names.Test test span) p = none
+  ban_within kind.OverrideFilter (Named names.Group test span) p = one _ p
+  ban_within kind.OverrideFilter (Platform platform span) p = none
+  ban_within kind.OverrideFilter (Default span) p = none
+  ban_within kind.OverrideFilter Everything p = none
+  ban_within kind.OverrideFilter None p = none
+  ban_within kind.DefaultFilter (Named names.Package test span) p = none
+  ban_within kind.DefaultFilter (Named names.Deps test span) p = none
+  ban_within kind.DefaultFilter (Named names.Rdeps test span) p = none
+  ban_within kind.DefaultFilter (Named names.Kind test span) p = none
+  ban_within kind.DefaultFilter (Named names.Binary test span) p = none
+  ban_within kind.DefaultFilter (Named names.BinaryId test span) p = none
+  ban_within kind.DefaultFilter (Named names.Test test span) p = none
+  ban_within kind.DefaultFilter (Named names.Group test span) p = one _ p
+  ban_within kind.DefaultFilter (Platform platform span) p = none
+  ban_within kind.DefaultFilter (Default span) p = one _ p
+  ban_within kind.DefaultFilter Everything p = none
+  ban_within kind.DefaultFilter None p = none
 
   bans_in : (k : FiltersetKind) (f : Formula FilterLeaf) → EachLeaf (IsIn n) f → AreWithin n (bans k f)
   bans_in k (negation a) h = bans_in k a h
@@ -101,18 +107,18 @@ module _ (n : ℕ) where
   bans_in k (leaf l) h = ban_within k l h
 
   no_match_within : (l : FilterLeaf) → IsIn n l → AreWithin n (no_match l)
-  no_match_within (Named names.Package test span) p = (p, tt)
-  no_match_within (Named names.Deps test span) p = (p, tt)
-  no_match_within (Named names.Rdeps test span) p = (p, tt)
-  no_match_within (Named names.Kind test span) p = tt
-  no_match_within (Named names.Binary test span) p = (p, tt)
-  no_match_within (Named names.BinaryId test span) p = (p, tt)
-  no_match_within (Named names.Test test span) p = tt
-  no_match_within (Named names.Group test span) p = (p, tt)
-  no_match_within (Platform platform span) p = tt
-  no_match_within (Default span) p = tt
-  no_match_within Everything p = tt
-  no_match_within None p = tt
+  no_match_within (Named names.Package test span) p = one _ p
+  no_match_within (Named names.Deps test span) p = one _ p
+  no_match_within (Named names.Rdeps test span) p = one _ p
+  no_match_within (Named names.Kind test span) p = none
+  no_match_within (Named names.Binary test span) p = one _ p
+  no_match_within (Named names.BinaryId test span) p = one _ p
+  no_match_within (Named names.Test test span) p = none
+  no_match_within (Named names.Group test span) p = one _ p
+  no_match_within (Platform platform span) p = none
+  no_match_within (Default span) p = none
+  no_match_within Everything p = none
+  no_match_within None p = none
 
   unmatched_in : (cx : ContextValue) (groups : KnownGroups) (f : Formula FilterLeaf) (faults : List ParseSingleError) → EachLeaf (IsIn n) f → AreUnmatched cx groups f faults → AreWithin n faults
   unmatched_in cx groups (negation a) faults h u = unmatched_in cx groups a faults h u
@@ -120,7 +126,7 @@ module _ (n : ℕ) where
       subst (AreWithin n) (sym e) (All-append (LiesWithin n) xs ys (unmatched_in cx groups a xs h.0 u) (unmatched_in cx groups b ys h.1 v))
   unmatched_in cx groups (both a b) faults h (xs, ys, u, v, e) =
       subst (AreWithin n) (sym e) (All-append (LiesWithin n) xs ys (unmatched_in cx groups a xs h.0 u) (unmatched_in cx groups b ys h.1 v))
-  unmatched_in cx groups (leaf l) faults h (inl m) = subst (AreWithin n) (sym m.1) tt
+  unmatched_in cx groups (leaf l) faults h (inl m) = subst (AreWithin n) (sym m.1) none
   unmatched_in cx groups (leaf l) faults h (inr m) = subst (AreWithin n) (sym m.1) (no_match_within l h)
 
 module _ (text : Text) (utf8 : IsUtf8 text) (parsed : ParsedExpr SourceSpan) (reads : ReadsWhole text (tree_of parsed)) where
