@@ -1,0 +1,2 @@
+pub mod ReadyFacts
+pub mod ReducingFacts

@@ -1,0 +1,14 @@
+//! Compiled filters made ready for the tests of one binary: what the binary decides is worked out once,
+//! and what is left asks a test's name alone, without memory.
+
+#![tactic(auto)]
+
+mod joining;
+mod ready_context;
+mod ready_expr;
+mod reducing;
+mod searchers;
+
+pub use crate::ready_context::ReadyContext;
+pub use crate::ready_expr::ReadyExpr;
+pub use crate::searchers::searchers_of;
