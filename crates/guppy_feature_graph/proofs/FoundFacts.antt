@@ -1,6 +1,6 @@
 -- Features found by their ids, and those that are not there.
-use Rattle.std.proofs.Common.{◌≡◌, ◌↔◌, ℕ, ◌<◌, ◌≤◌, length, Bool, true, false, not, List, [], All, Contains, map, refl, sym, subst, arith}
-use Rattle.std.proofs.lemmas.List.Elements.{All-contains}
+use Rattle.std.proofs.Common.{◌≡◌, ◌↔◌, ℕ, ◌<◌, ◌≤◌, length, Bool, true, false, not, List, [], ◌∷◌, All, Contains, map, refl, sym, subst, arith}
+use Rattle.std.proofs.lemmas.List.Elements.{All-cons, All-contains, All-head, All-nil, All-tail}
 use Rattle.std.proofs.lemmas.List.Folds.{list_any_at}
 use Rattle.std.proofs.lemmas.List.Sums.{prefix_len-le-length, prefix_len_stops}
 use Rattle.list_facts.proofs.Membership.{Contains-map, Contains-map_cases}
@@ -28,6 +28,13 @@ known nodes f lt = list_any_at (feature_eq f) nodes (number_of nodes f) (base_of
 
 pub is_unknown : (g : FeatureGraphValue) (f : FeatureValue) (n count : ℕ) → n ≡ number_of g.nodes f → count ≡ length g.nodes → count ≤ n → IsUnknown g f
 is_unknown g f n count number counted h = not_there g.nodes f (subst (λ k. length g.nodes ≤ k) number (subst (λ k. k ≤ n) counted h))
+
+-- features whose numbers all lie within the graph are there
+pub all_known : (g : FeatureGraphValue) (fs : List FeatureValue) (numbers : List ℕ) → numbers ≡ map (number_of g.nodes) fs → All (λ n. n < length g.nodes) numbers → All (λ f. is_node g.nodes f ≡ true) fs
+all_known g [] numbers are within = All-nil (λ f. is_node g.nodes f ≡ true)
+all_known g (f ∷ fs) numbers are within =
+    let all = subst (All (λ n. n < length g.nodes)) are within in
+    All-cons (λ f. is_node g.nodes f ≡ true) f fs (known g.nodes f (All-head (λ n. n < length g.nodes) (number_of g.nodes f) (map (number_of g.nodes) fs) all)) (all_known g fs (map (number_of g.nodes) fs) refl (All-tail (λ n. n < length g.nodes) (number_of g.nodes f) (map (number_of g.nodes) fs) all))
 
 -- the numbers of features are the nodes that they name
 pub named : (g : FeatureGraphValue) (fs : List FeatureValue) (numbers : List ℕ) → numbers ≡ map (number_of g.nodes) fs → All (λ n. n < length g.nodes) numbers → (v : ℕ) → Contains numbers v ↔ IsNamed g fs v

@@ -1,5 +1,5 @@
 -- Features found by their id.
-use Rattle.std.specs.Prelude.{◌≡◌, ◌⊎◌, ℕ, ◌<◌, Bool, false, List, Any, Result, Ok, Err, length}
+use Rattle.std.specs.Prelude.{◌≡◌, ◌⊎◌, ℕ, ◌<◌, Bool, true, false, List, All, Any, Result, Ok, Err, length}
 use Rattle.numbered_graph.specs.Sets.{has}
 use Rattle.workspace_record.specs.Features.{FeatureValue}
 use Rattle.guppy_row_parts.specs.declared.error.Error.{Error}
@@ -35,6 +35,10 @@ FindsMembership g included f (Err error) = IsUnknown g f × (error ≡ UnknownFe
 -- the node is one of the features
 abbrev pub IsNamed : FeatureGraphValue → List FeatureValue → ℕ → Type 0
 IsNamed g fs node = Any (λ f. IsNumber g f node) fs
+
+-- each of the features is one of the graph
+abbrev pub AreKnown : FeatureGraphValue → List FeatureValue → Type 0
+AreKnown g fs = All (λ f. is_node g.nodes f ≡ true) fs
 
 -- memory ran out, or one of the features is unknown
 abbrev pub IsMissing : FeatureGraphValue → List FeatureValue → Error → Type 0

@@ -2,7 +2,7 @@
 
 ghost use Rattle.std.specs.Prelude.{◌≡◌, IfErr, IfOk, length, map, replicate, true, false};
 ghost use Rattle.guppy_feature_ids.specs.IdViews.{id_view};
-ghost use Rattle.guppy_feature_graph.specs.Finding.{IsMissing, IsNamed};
+ghost use Rattle.guppy_feature_graph.specs.Finding.{AreKnown, IsMissing, IsNamed};
 ghost use Rattle.guppy_feature_graph.specs.Sets.{IsSetOf};
 ghost use Rattle.guppy_feature_graph.specs.Views.{feature_graph_of};
 
@@ -38,6 +38,7 @@ impl<'g> FeatureGraph<'g> {
         feature_ids: &[FeatureId<'_>],
     ) -> Result<FeatureSet<'g>, Error>
         ensures named { IfOk result (IsSetOf (feature_graph_of self.now) (IsNamed (feature_graph_of self.now) (map id_view feature_ids.now))) }
+        ensures known { IfOk result (λ _. AreKnown (feature_graph_of self.now) (map id_view feature_ids.now)) }
         ensures refused { IfErr result (IsMissing (feature_graph_of self.now) (map id_view feature_ids.now)) }
     {
         let set = set_of_features(alloc, *self, feature_ids)?;

@@ -1,6 +1,7 @@
-//! Parts of a set that a callback chooses.
+//! Parts of a set that a callback chooses. A callback that is lent is seen again after the call; one that is handed
+//! over is not, so the calls that take it say only that it was asked so.
 
-ghost use Rattle.std.specs.Prelude.{◌≡◌, ℕ, Bool, List, Option, Some, true, false, Contains, IfOk};
+ghost use Rattle.std.specs.Prelude.{◌≡◌, ℕ, Bool, List, Option, Some, true, false, Contains, IfOk, OnErr};
 ghost use Rattle.guppy_feature_graph.specs.Filters.{AreAsked};
 ghost use Rattle.guppy_feature_graph.specs.Sets.{IsSetOf};
 
@@ -17,7 +18,7 @@ impl<'g> FeatureSet<'g> {
         &self,
         alloc: Global,
         direction: DependencyDirection,
-        callback: F,
+        mut callback: F,
     ) -> Result<FeatureSet<'g>, AllocError>
     where
         F: Drop,
@@ -25,7 +26,22 @@ impl<'g> FeatureSet<'g> {
         ensures kept { IfOk result (λ s. (asked : List (ℕ × Bool)) × (last : F) × AreAsked F.FnMut self.now direction callback asked last
             × IsSetOf self.now.graph (λ v. Contains asked (v, true)) s) }
     {
-        let (accepted, _) = self.partition(alloc, direction, callback)?;
+        self.filter_lent(alloc, direction, &mut callback)
+    }
+
+    /// The same by a callback that is lent. Where memory is refused, it was not asked.
+    pub fn filter_lent<F: FnMut(FeatureMetadata<'_>) -> bool>(
+        &self,
+        alloc: Global,
+        direction: DependencyDirection,
+        callback: &mut F,
+    ) -> Result<FeatureSet<'g>, AllocError>
+        requires { F.IsAlwaysCallable callback.old }
+        ensures kept { IfOk result (λ s. (asked : List (ℕ × Bool)) × AreAsked F.FnMut self.now direction callback.old asked callback.new
+            × IsSetOf self.now.graph (λ v. Contains asked (v, true)) s) }
+        ensures err { OnErr result (callback.new ≡ callback.old) }
+    {
+        let (accepted, _) = self.partition_lent(alloc, direction, callback)?;
         Ok(accepted)
     }
 
@@ -44,7 +60,23 @@ impl<'g> FeatureSet<'g> {
             × IsSetOf self.now.graph (λ v. Contains asked (v, true)) parts.0
             × IsSetOf self.now.graph (λ v. Contains asked (v, false)) parts.1) }
     {
-        let (accepted, refused) = choose(alloc, self, direction, &mut callback)?;
+        self.partition_lent(alloc, direction, &mut callback)
+    }
+
+    /// The same by a callback that is lent. Where memory is refused, it was not asked.
+    pub fn partition_lent<F: FnMut(FeatureMetadata<'_>) -> bool>(
+        &self,
+        alloc: Global,
+        direction: DependencyDirection,
+        callback: &mut F,
+    ) -> Result<(FeatureSet<'g>, FeatureSet<'g>), AllocError>
+        requires { F.IsAlwaysCallable callback.old }
+        ensures parts { IfOk result (λ parts. (asked : List (ℕ × Bool)) × AreAsked F.FnMut self.now direction callback.old asked callback.new
+            × IsSetOf self.now.graph (λ v. Contains asked (v, true)) parts.0
+            × IsSetOf self.now.graph (λ v. Contains asked (v, false)) parts.1) }
+        ensures err { OnErr result (callback.new ≡ callback.old) }
+    {
+        let (accepted, refused) = choose(alloc, self, direction, callback)?;
         let graph = *self.graph();
         Ok((
             FeatureSet::of(graph, accepted),
@@ -67,7 +99,23 @@ impl<'g> FeatureSet<'g> {
             × IsSetOf self.now.graph (λ v. Contains asked (v, Some true)) parts.0
             × IsSetOf self.now.graph (λ v. Contains asked (v, Some false)) parts.1) }
     {
-        let (first, second) = choose_some(alloc, self, direction, &mut callback)?;
+        self.filter_partition_lent(alloc, direction, &mut callback)
+    }
+
+    /// The same by a callback that is lent. Where memory is refused, it was not asked.
+    pub fn filter_partition_lent<F: FnMut(FeatureMetadata<'_>) -> Option<bool>>(
+        &self,
+        alloc: Global,
+        direction: DependencyDirection,
+        callback: &mut F,
+    ) -> Result<(FeatureSet<'g>, FeatureSet<'g>), AllocError>
+        requires { F.IsAlwaysCallable callback.old }
+        ensures parts { IfOk result (λ parts. (asked : List (ℕ × Option Bool)) × AreAsked F.FnMut self.now direction callback.old asked callback.new
+            × IsSetOf self.now.graph (λ v. Contains asked (v, Some true)) parts.0
+            × IsSetOf self.now.graph (λ v. Contains asked (v, Some false)) parts.1) }
+        ensures err { OnErr result (callback.new ≡ callback.old) }
+    {
+        let (first, second) = choose_some(alloc, self, direction, callback)?;
         let graph = *self.graph();
         Ok((FeatureSet::of(graph, first), FeatureSet::of(graph, second)))
     }

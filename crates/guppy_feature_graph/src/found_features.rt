@@ -4,7 +4,7 @@ ghost use Rattle.std.specs.Prelude.{◌≡◌, ◌↔◌, ◌<◌, ℕ, All, IfE
 ghost use Rattle.numbered_graph.specs.Sets.{has};
 ghost use Rattle.guppy_feature_demands.specs.Nodes.{number_of};
 ghost use Rattle.guppy_feature_ids.specs.IdViews.{id_view};
-ghost use Rattle.guppy_feature_graph.specs.Finding.{IsMissing, IsNamed};
+ghost use Rattle.guppy_feature_graph.specs.Finding.{AreKnown, IsMissing, IsNamed};
 ghost use Rattle.guppy_feature_graph.specs.Views.{feature_graph_of};
 
 use crate::feature_graph::FeatureGraph;
@@ -21,6 +21,7 @@ pub(crate) fn set_of_features(
 ) -> Result<NodeSet, Error>
     ensures sized { IfOk result (λ set. length set ≡ length (feature_graph_of graph.entry).nodes) }
     ensures named { IfOk result (λ set. (v : ℕ) → IsTrue (has set v) ↔ IsNamed (feature_graph_of graph.entry) (map id_view feature_ids.now) v) }
+    ensures known { IfOk result (λ _. AreKnown (feature_graph_of graph.entry) (map id_view feature_ids.now)) }
     ensures refused { IfErr result (IsMissing (feature_graph_of graph.entry) (map id_view feature_ids.now)) }
 {
     let numbers = numbers_of(alloc, graph, feature_ids)?;

@@ -3,7 +3,7 @@
 ghost use Rattle.std.specs.Prelude.{IfErr, IfOk, map};
 ghost use Rattle.guppy_row_parts.specs.declared.dependency_direction.DependencyDirection.TheVariants.{Forward, Reverse};
 ghost use Rattle.guppy_feature_ids.specs.IdViews.{id_view};
-ghost use Rattle.guppy_feature_graph.specs.Finding.{IsMissing, IsNamed};
+ghost use Rattle.guppy_feature_graph.specs.Finding.{AreKnown, IsMissing, IsNamed};
 ghost use Rattle.guppy_feature_graph.specs.Queries.{IsQueryOf};
 ghost use Rattle.guppy_feature_graph.specs.Views.{feature_graph_of};
 
@@ -24,6 +24,7 @@ impl<'g> FeatureGraph<'g> {
         direction: DependencyDirection,
     ) -> Result<FeatureQuery<'g>, Error>
         ensures query { IfOk result (IsQueryOf (feature_graph_of self.now) direction (IsNamed (feature_graph_of self.now) (map id_view feature_ids.now))) }
+        ensures known { IfOk result (λ _. AreKnown (feature_graph_of self.now) (map id_view feature_ids.now)) }
         ensures refused { IfErr result (IsMissing (feature_graph_of self.now) (map id_view feature_ids.now)) }
     {
         let set = set_of_features(alloc, *self, feature_ids)?;
@@ -38,6 +39,7 @@ impl<'g> FeatureGraph<'g> {
         feature_ids: &[FeatureId<'_>],
     ) -> Result<FeatureQuery<'g>, Error>
         ensures query { IfOk result (IsQueryOf (feature_graph_of self.now) Forward (IsNamed (feature_graph_of self.now) (map id_view feature_ids.now))) }
+        ensures known { IfOk result (λ _. AreKnown (feature_graph_of self.now) (map id_view feature_ids.now)) }
         ensures refused { IfErr result (IsMissing (feature_graph_of self.now) (map id_view feature_ids.now)) }
     {
         self.query_directed(alloc, feature_ids, DependencyDirection::Forward)
@@ -50,6 +52,7 @@ impl<'g> FeatureGraph<'g> {
         feature_ids: &[FeatureId<'_>],
     ) -> Result<FeatureQuery<'g>, Error>
         ensures query { IfOk result (IsQueryOf (feature_graph_of self.now) Reverse (IsNamed (feature_graph_of self.now) (map id_view feature_ids.now))) }
+        ensures known { IfOk result (λ _. AreKnown (feature_graph_of self.now) (map id_view feature_ids.now)) }
         ensures refused { IfErr result (IsMissing (feature_graph_of self.now) (map id_view feature_ids.now)) }
     {
         self.query_directed(alloc, feature_ids, DependencyDirection::Reverse)

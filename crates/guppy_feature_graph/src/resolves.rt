@@ -72,7 +72,7 @@ impl<'g> FeatureQuery<'g> {
     pub fn resolve_with_fn<F: FnMut(&FeatureLinkContext<'_>, ConditionalLink<'_>) -> bool>(
         self,
         alloc: Global,
-        visitor_fn: F,
+        mut visitor_fn: F,
     ) -> Result<FeatureSet<'g>, AllocError>
     where
         F: Drop,
@@ -80,7 +80,43 @@ impl<'g> FeatureQuery<'g> {
         ensures graph { IfOk result (λ s. s.graph ≡ self.entry.graph) }
         ensures ok { IfOk result (λ s. (run : Run) × (last : F) × IsResolved self.entry run s.included × Chain (AsksClosure F.FnMut self.entry) visitor_fn run last) }
     {
+        self.resolve_with_fn_lent(alloc, &mut visitor_fn)
+    }
+
+    /// The same by a closure that is lent. Where memory is refused, it was not asked.
+    pub fn resolve_with_fn_lent<F: FnMut(&FeatureLinkContext<'_>, ConditionalLink<'_>) -> bool>(
+        self,
+        alloc: Global,
+        visitor_fn: &mut F,
+    ) -> Result<FeatureSet<'g>, AllocError>
+        requires { F.IsAlwaysCallable visitor_fn.old }
+        ensures graph { IfOk result (λ s. s.graph ≡ self.entry.graph) }
+        ensures ok { IfOk result (λ s. (run : Run) × IsResolved self.entry run s.included × Chain (AsksClosure F.FnMut self.entry) visitor_fn.old run visitor_fn.new) }
+        ensures err { OnErr result (visitor_fn.new ≡ visitor_fn.old) }
+    {
         resolve_fn_with_blank::<Brand, F>(alloc, self, visitor_fn, Blank::new(1))
+    }
+
+    /// The same by a closure that is lent, with a count of the looks that it takes.
+    pub fn resolve_with_fn_counted<
+        L: Ledger,
+        F: FnMut(&FeatureLinkContext<'_>, ConditionalLink<'_>) -> bool,
+    >(
+        self,
+        alloc: Global,
+        visitor_fn: &mut F,
+        looks: &mut Looks<L>,
+    ) -> Result<FeatureSet<'g>, AllocError>
+        requires { F.IsAlwaysCallable visitor_fn.old }
+        ensures graph { IfOk result (λ s. s.graph ≡ self.entry.graph) }
+        ensures ok { IfOk result (λ s. (run : Run) × IsResolved self.entry run s.included × Chain (AsksClosure F.FnMut self.entry) visitor_fn.old run visitor_fn.new) }
+        ensures err { OnErr result (visitor_fn.new ≡ visitor_fn.old) }
+        ensures looks { looks.new ≤ looks.old + most_looks self.entry.graph }
+    {
+        match resolve_by_closure(alloc, &self, visitor_fn, looks) {
+            Ok(included) => Ok(FeatureSet::of(*self.graph(), included)),
+            Err(refused) => Err(refused),
+        }
     }
 }
 
@@ -109,19 +145,17 @@ fn resolve_fn_with_blank<
 >(
     alloc: Global,
     query: FeatureQuery<'g>,
-    mut visitor_fn: F,
+    visitor_fn: &mut F,
     blank: Blank,
 ) -> Result<FeatureSet<'g>, AllocError>
-where
-    F: Drop,
     requires name { blank.name ≡ L.name }
     requires parts { blank.parts ≡ L.parts }
     requires some { 0 < blank.parts }
-    requires callable { F.IsAlwaysCallable visitor_fn }
+    requires callable { F.IsAlwaysCallable visitor_fn.old }
     ensures graph { IfOk result (λ s. s.graph ≡ query.entry.graph) }
-    ensures ok { IfOk result (λ s. (run : Run) × (last : F) × IsResolved query.entry run s.included × Chain (AsksClosure F.FnMut query.entry) visitor_fn run last) }
+    ensures ok { IfOk result (λ s. (run : Run) × IsResolved query.entry run s.included × Chain (AsksClosure F.FnMut query.entry) visitor_fn.old run visitor_fn.new) }
+    ensures err { OnErr result (visitor_fn.new ≡ visitor_fn.old) }
 {
     let mut looks = Looks::<L>::new(blank);
-    let included = resolve_by_closure::<L, F>(alloc, &query, &mut visitor_fn, &mut looks)?;
-    Ok(FeatureSet::of(*query.graph(), included))
+    query.resolve_with_fn_counted(alloc, visitor_fn, &mut looks)
 }

@@ -19,7 +19,7 @@ use Rattle.std.proofs.lemmas.Option.{get_or_from_slice_get, slice_get_within}
 use Rattle.workspace_record.specs.Records.{Member, Package, Text}
 use Rattle.guppy_package_table.specs.Tables.{TableValue, id_at, ids_of, member_of, member_path_at}
 use Rattle.guppy_package_graph.specs.Finding.{IsAt, IsMissing, IsUnknown}
-use Rattle.std.proofs.lemmas.List.Elements.{All-tail}
+use Rattle.std.proofs.lemmas.List.Elements.{All-cons, All-nil, All-tail}
 
 pub rest_within : (P : ℕ → Type 0) (before after : List ℕ) (r : Option ℕ) → MatchOption r ((before ≡ []) × (after ≡ [])) (λ x. before ≡ x ∷ after) → All P before → All P after
 rest_within P before after (Some x) is within = All-tail P x after (subst (All P) is within)
@@ -81,6 +81,13 @@ module _ {A : Type 0} (f : A → Option ℕ) (v : ℕ) where
   placed (x ∷ xs) (y ∷ ys) same (suc k, z, lt, is, e) =
       let rest = placed xs ys (at_tail (f x) (Some y) (map f xs) (map Some ys) same) (k, z, omega (arith, lt), is, e) in
       let lt = rest.1 in (suc rest.0, omega (arith, lt), rest.2)
+
+-- where all are found, each has a place
+pub each_found : {A : Type 0} (f : A → Option ℕ) (xs : List A) (ys : List ℕ) → map f xs ≡ map Some ys → All (λ x. (v : ℕ) × (f x ≡ Some v)) xs
+each_found f [] ys same = All-nil (λ x. (v : ℕ) × (f x ≡ Some v))
+each_found f (x ∷ xs) [] same = absurd (none_longer (f x) (map f xs) (sym same))
+each_found f (x ∷ xs) (y ∷ ys) same =
+    All-cons (λ x. (v : ℕ) × (f x ≡ Some v)) x xs (y, at_head (f x) (Some y) (map f xs) (map Some ys) same) (each_found f xs ys (at_tail (f x) (Some y) (map f xs) (map Some ys) same))
 
 -- the packages of an error
 pub missing_at : (g : TableValue) (ids : List Text) (k : ℕ) (id : Text) (error : Error) → k < length ids → get_or ids k id ≡ id → IsUnknown g id × (error ≡ UnknownPackageId) → IsMissing g ids error

@@ -1,5 +1,5 @@
 -- Packages found by their id.
-use Rattle.std.specs.Prelude.{◌≡◌, ◌⊎◌, ℕ, ◌<◌, Bool, List, Any, IsTrue, Result, Ok, Err, Some, None, length, position}
+use Rattle.std.specs.Prelude.{◌≡◌, ◌⊎◌, ℕ, ◌<◌, Bool, List, All, Any, IsTrue, Result, Ok, Err, Some, None, length, position}
 use Rattle.numbered_graph.specs.Sets.{has}
 use Rattle.std.specs.Str.{bytes_eq}
 use Rattle.workspace_record.specs.Records.{Text}
@@ -40,6 +40,10 @@ IsNamed g ids v = Any (λ id. IsAt g id v) ids
 -- the package at the place is called so
 abbrev pub HasName : TableValue → Text → ℕ → Type 0
 HasName g name v = (v < length g.packages) × IsTrue (bytes_eq (name_at g v) name)
+
+-- each of the ids is that of a package
+abbrev pub AreKnown : TableValue → List Text → Type 0
+AreKnown g ids = All (λ id. (v : ℕ) × IsAt g id v) ids
 
 -- memory ran out, or one of the ids is unknown
 abbrev pub IsMissing : TableValue → List Text → Error → Type 0

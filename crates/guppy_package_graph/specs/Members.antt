@@ -1,5 +1,5 @@
 -- Members found by path and by name.
-use Rattle.std.specs.Prelude.{◌≡◌, ◌⊎◌, ℕ, ◌<◌, List, Any, Option, Result, Ok, Err, Some, None, length}
+use Rattle.std.specs.Prelude.{◌≡◌, ◌⊎◌, ℕ, ◌<◌, List, All, Any, Option, Result, Ok, Err, Some, None, length}
 use Rattle.workspace_record.specs.Records.{Text}
 use Rattle.guppy_row_parts.specs.declared.error.Error.{Error}
 use Rattle.guppy_row_parts.specs.declared.error.Error.TheVariants.{Memory, UnknownWorkspaceName, UnknownWorkspacePath}
@@ -52,6 +52,13 @@ IsAtOneOf g paths v = Any (λ path. IsAtPath g path v) paths
 
 abbrev pub IsCalledOneOf : TableValue → List Text → ℕ → Type 0
 IsCalledOneOf g names v = Any (λ name. IsCalled g name v) names
+
+-- each of the paths, or of the names, is that of a member
+abbrev pub ArePathsKnown : TableValue → List Text → Type 0
+ArePathsKnown g paths = All (λ path. (v : ℕ) × IsAtPath g path v) paths
+
+abbrev pub AreNamesKnown : TableValue → List Text → Type 0
+AreNamesKnown g names = All (λ name. (v : ℕ) × IsCalled g name v) names
 
 -- memory ran out, or no member has one of the paths, or of the names
 abbrev pub IsMissingPath : TableValue → List Text → Error → Type 0

@@ -3,7 +3,7 @@
 ghost use Rattle.std.specs.Prelude.{◌≡◌, ◌↔◌, ℕ, ◌<◌, All, IfErr, IfOk, IsTrue, Some, length, map};
 ghost use Rattle.numbered_graph.specs.Sets.{has};
 ghost use Rattle.guppy_workspace_members.specs.Members.{member_at_path, member_called};
-ghost use Rattle.guppy_package_graph.specs.Members.{FindsNamePlace, FindsPathPlace, IsAtOneOf, IsCalledOneOf, IsMissingName, IsMissingPath};
+ghost use Rattle.guppy_package_graph.specs.Members.{AreNamesKnown, ArePathsKnown, FindsNamePlace, FindsPathPlace, IsAtOneOf, IsCalledOneOf, IsMissingName, IsMissingPath};
 
 use crate::package_graph::PackageGraph;
 use guppy_package_parts::Error;
@@ -79,6 +79,7 @@ pub(crate) fn set_at_paths(
 ) -> Result<NodeSet, Error>
     ensures sized { IfOk result (λ set. length set ≡ length graph.now.packages) }
     ensures named { IfOk result (λ set. (v : ℕ) → IsTrue (has set v) ↔ IsAtOneOf graph.now (map (λ path. path.now) paths.now) v) }
+    ensures known { IfOk result (λ _. ArePathsKnown graph.now (map (λ path. path.now) paths.now)) }
     ensures refused { IfErr result (IsMissingPath graph.now (map (λ path. path.now) paths.now)) }
 {
     let places = places_at_paths(alloc, graph, paths)?;
@@ -94,6 +95,7 @@ pub(crate) fn set_called(
 ) -> Result<NodeSet, Error>
     ensures sized { IfOk result (λ set. length set ≡ length graph.now.packages) }
     ensures named { IfOk result (λ set. (v : ℕ) → IsTrue (has set v) ↔ IsCalledOneOf graph.now (map (λ name. name.now) names.now) v) }
+    ensures known { IfOk result (λ _. AreNamesKnown graph.now (map (λ name. name.now) names.now)) }
     ensures refused { IfErr result (IsMissingName graph.now (map (λ name. name.now) names.now)) }
 {
     let places = places_called(alloc, graph, names)?;

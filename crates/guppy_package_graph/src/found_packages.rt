@@ -4,7 +4,7 @@ ghost use Rattle.std.specs.Prelude.{◌≡◌, ◌↔◌, ◌<◌, ℕ, All, IfE
 ghost use Rattle.std.specs.Str.{bytes_eq};
 ghost use Rattle.numbered_graph.specs.Sets.{has};
 ghost use Rattle.guppy_package_table.specs.Tables.{ids_of};
-ghost use Rattle.guppy_package_graph.specs.Finding.{HasName, IsMissing, IsNamed};
+ghost use Rattle.guppy_package_graph.specs.Finding.{AreKnown, HasName, IsMissing, IsNamed};
 ghost use Rattle.guppy_package_graph.specs.Workspaces.{IsMemberPlace};
 
 use crate::package_graph::PackageGraph;
@@ -21,6 +21,7 @@ pub(crate) fn set_of_ids(
 ) -> Result<NodeSet, Error>
     ensures sized { IfOk result (λ set. length set ≡ length graph.now.packages) }
     ensures named { IfOk result (λ set. (v : ℕ) → IsTrue (has set v) ↔ IsNamed graph.now (map (λ id. id.now) package_ids.now) v) }
+    ensures known { IfOk result (λ _. AreKnown graph.now (map (λ id. id.now) package_ids.now)) }
     ensures refused { IfErr result (IsMissing graph.now (map (λ id. id.now) package_ids.now)) }
 {
     let places = places_of(alloc, graph, package_ids)?;

@@ -67,3 +67,4 @@ pub use guppy_package_table::{
     BuildTargets, LinkDetails, NamedFeatures, PackageDetails, PackageGraphError,
 };
 pub use numbered_graph::Looks;
+pub use package_rules::RecordRule;

@@ -1,6 +1,6 @@
 //! The graph of packages, and what it says of each.
 
-ghost use Rattle.std.specs.Prelude.{◌≡◌, ◌<◌, IfErr, IfOk, Ok, length};
+ghost use Rattle.std.specs.Prelude.{◌≡◌, ◌↔◌, ◌<◌, IfErr, IfOk, IsTrue, Ok, length};
 ghost use Rattle.package_rules.specs.Kept.{AreKept};
 ghost use Rattle.guppy_package_table.specs.Refusals.{IsRefusal};
 ghost use Rattle.guppy_package_table.specs.Tables.{IsTableOf, id_at, ids_of, numbered_links};
@@ -122,6 +122,13 @@ impl PackageGraph {
         AllPackages::of(self)
     }
 
+    /// Whether both graphs have the same list of package ids.
+    pub fn same_packages(&self, other: &PackageGraph) -> bool
+        ensures same { IsTrue result ↔ (ids_of self.now.packages ≡ ids_of other.now.packages) }
+    {
+        same_ids(self.package_ids(), other.package_ids())
+    }
+
     /// How many packages there are.
     pub fn package_count(&self) -> usize
         ensures count { result ≡ length self.now.packages }
@@ -192,4 +199,10 @@ impl PackageGraph {
     {
         Ok(())
     }
+}
+
+fn same_ids(a: &[PackageId], b: &[PackageId]) -> bool
+    ensures { IsTrue result ↔ (a.now ≡ b.now) }
+{
+    a == b
 }

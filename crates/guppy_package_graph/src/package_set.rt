@@ -87,7 +87,7 @@ impl<'g> PackageSet<'g> {
     pub fn same_packages(&self, other: &PackageSet<'_>) -> bool
         ensures same { IsTrue result ↔ (ids_of self.now.graph.packages ≡ ids_of other.now.graph.packages) }
     {
-        same_ids(self.graph.table().ids(), other.graph.table().ids())
+        self.graph.same_packages(other.graph)
     }
 
     /// The packages that are in one of the two sets.
@@ -171,10 +171,4 @@ impl<'g> PackageSet<'g> {
         let table = self.graph.table();
         Listed::new(table.listing(), &self.included, direction_of(direction))
     }
-}
-
-fn same_ids(a: &[PackageId], b: &[PackageId]) -> bool
-    ensures { IsTrue result ↔ (a.now ≡ b.now) }
-{
-    a == b
 }

@@ -1,8 +1,8 @@
 //! Sets of the packages that are named, without their dependencies.
 
 ghost use Rattle.std.specs.Prelude.{◌≡◌, ℕ, IfErr, IfOk, length, map, replicate, true, false};
-ghost use Rattle.guppy_package_graph.specs.Finding.{HasName, IsMissing, IsNamed};
-ghost use Rattle.guppy_package_graph.specs.Members.{IsAtOneOf, IsCalledOneOf, IsMissingName, IsMissingPath};
+ghost use Rattle.guppy_package_graph.specs.Finding.{AreKnown, HasName, IsMissing, IsNamed};
+ghost use Rattle.guppy_package_graph.specs.Members.{AreNamesKnown, ArePathsKnown, IsAtOneOf, IsCalledOneOf, IsMissingName, IsMissingPath};
 ghost use Rattle.guppy_package_graph.specs.SetValues.{IsSetOf};
 ghost use Rattle.guppy_package_graph.specs.Workspaces.{IsMemberPlace};
 
@@ -38,6 +38,7 @@ impl PackageGraph {
         package_ids: &[&PackageId],
     ) -> Result<PackageSet<'_>, Error>
         ensures named { IfOk result (IsSetOf self.now (IsNamed self.now (map (λ id. id.now) package_ids.now))) }
+        ensures known { IfOk result (λ _. AreKnown self.now (map (λ id. id.now) package_ids.now)) }
         ensures refused { IfErr result (IsMissing self.now (map (λ id. id.now) package_ids.now)) }
     {
         let set = set_of_ids(alloc, self, package_ids)?;
@@ -59,6 +60,7 @@ impl PackageGraph {
         paths: &[&str],
     ) -> Result<PackageSet<'_>, Error>
         ensures named { IfOk result (IsSetOf self.now (IsAtOneOf self.now (map (λ path. path.now) paths.now))) }
+        ensures known { IfOk result (λ _. ArePathsKnown self.now (map (λ path. path.now) paths.now)) }
         ensures refused { IfErr result (IsMissingPath self.now (map (λ path. path.now) paths.now)) }
     {
         let members = set_at_paths(alloc, self, paths)?;
@@ -72,6 +74,7 @@ impl PackageGraph {
         names: &[&str],
     ) -> Result<PackageSet<'_>, Error>
         ensures named { IfOk result (IsSetOf self.now (IsCalledOneOf self.now (map (λ name. name.now) names.now))) }
+        ensures known { IfOk result (λ _. AreNamesKnown self.now (map (λ name. name.now) names.now)) }
         ensures refused { IfErr result (IsMissingName self.now (map (λ name. name.now) names.now)) }
     {
         let members = set_called(alloc, self, names)?;

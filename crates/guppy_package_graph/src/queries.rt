@@ -3,8 +3,8 @@
 ghost use Rattle.std.specs.Prelude.{◌≡◌, ◌∷◌, [], IfErr, IfOk, IsTrue, length, map};
 ghost use Rattle.numbered_graph.specs.Sets.{has};
 ghost use Rattle.guppy_row_parts.specs.declared.dependency_direction.DependencyDirection.TheVariants.{Forward, Reverse};
-ghost use Rattle.guppy_package_graph.specs.Finding.{IsMissing, IsNamed};
-ghost use Rattle.guppy_package_graph.specs.Members.{IsAtOneOf, IsCalledOneOf, IsMissingName, IsMissingPath};
+ghost use Rattle.guppy_package_graph.specs.Finding.{AreKnown, IsMissing, IsNamed};
+ghost use Rattle.guppy_package_graph.specs.Members.{AreNamesKnown, ArePathsKnown, IsAtOneOf, IsCalledOneOf, IsMissingName, IsMissingPath};
 ghost use Rattle.guppy_package_graph.specs.Queries.{IsQueryOf};
 ghost use Rattle.guppy_package_graph.specs.Workspaces.{IsMemberPlace};
 
@@ -25,6 +25,7 @@ impl PackageGraph {
         direction: DependencyDirection,
     ) -> Result<PackageQuery<'_>, Error>
         ensures query { IfOk result (IsQueryOf self.now direction (IsNamed self.now (map (λ id. id.now) package_ids.now))) }
+        ensures known { IfOk result (λ _. AreKnown self.now (map (λ id. id.now) package_ids.now)) }
         ensures refused { IfErr result (IsMissing self.now (map (λ id. id.now) package_ids.now)) }
     {
         let set = set_of_ids(alloc, self, package_ids)?;
@@ -39,6 +40,7 @@ impl PackageGraph {
         package_ids: &[&PackageId],
     ) -> Result<PackageQuery<'_>, Error>
         ensures query { IfOk result (IsQueryOf self.now Forward (IsNamed self.now (map (λ id. id.now) package_ids.now))) }
+        ensures known { IfOk result (λ _. AreKnown self.now (map (λ id. id.now) package_ids.now)) }
         ensures refused { IfErr result (IsMissing self.now (map (λ id. id.now) package_ids.now)) }
     {
         self.query_directed(alloc, package_ids, DependencyDirection::Forward)
@@ -51,6 +53,7 @@ impl PackageGraph {
         package_ids: &[&PackageId],
     ) -> Result<PackageQuery<'_>, Error>
         ensures query { IfOk result (IsQueryOf self.now Reverse (IsNamed self.now (map (λ id. id.now) package_ids.now))) }
+        ensures known { IfOk result (λ _. AreKnown self.now (map (λ id. id.now) package_ids.now)) }
         ensures refused { IfErr result (IsMissing self.now (map (λ id. id.now) package_ids.now)) }
     {
         self.query_directed(alloc, package_ids, DependencyDirection::Reverse)
@@ -72,6 +75,7 @@ impl PackageGraph {
         paths: &[&str],
     ) -> Result<PackageQuery<'_>, Error>
         ensures query { IfOk result (IsQueryOf self.now Forward (IsAtOneOf self.now (map (λ path. path.now) paths.now))) }
+        ensures known { IfOk result (λ _. ArePathsKnown self.now (map (λ path. path.now) paths.now)) }
         ensures refused { IfErr result (IsMissingPath self.now (map (λ path. path.now) paths.now)) }
     {
         let members = set_at_paths(alloc, self, paths)?;
@@ -86,6 +90,7 @@ impl PackageGraph {
         names: &[&str],
     ) -> Result<PackageQuery<'_>, Error>
         ensures query { IfOk result (IsQueryOf self.now Forward (IsCalledOneOf self.now (map (λ name. name.now) names.now))) }
+        ensures known { IfOk result (λ _. AreNamesKnown self.now (map (λ name. name.now) names.now)) }
         ensures refused { IfErr result (IsMissingName self.now (map (λ name. name.now) names.now)) }
     {
         let members = set_called(alloc, self, names)?;

@@ -83,13 +83,24 @@ impl<'g> PackageQuery<'g> {
         ensures graph { IfOk result (λ s. s.graph ≡ self.entry.graph) }
         ensures ok { IfOk result (λ s. (shown : Shown) × (last : F) × IsResolved self.entry shown s.included × Chain (AsksClosure F.FnMut self.entry) visitor_fn shown last) }
     {
-        let included = resolve_by_closure::<Brand, F>(
-            alloc,
-            &self,
-            &mut visitor_fn,
-            Blank::new(1),
-        )?;
-        Ok(PackageSet::of(self.graph(), included))
+        self.resolve_with_fn_lent(alloc, &mut visitor_fn)
+    }
+
+    /// The same by a closure that is lent. Where memory is refused, it was not asked.
+    pub fn resolve_with_fn_lent<F: FnMut(&PackageLinkContext<'_>, PackageLink<'_>) -> bool>(
+        self,
+        alloc: Global,
+        visitor_fn: &mut F,
+    ) -> Result<PackageSet<'g>, AllocError>
+        requires { F.IsAlwaysCallable visitor_fn.old }
+        ensures graph { IfOk result (λ s. s.graph ≡ self.entry.graph) }
+        ensures ok { IfOk result (λ s. (shown : Shown) × IsResolved self.entry shown s.included × Chain (AsksClosure F.FnMut self.entry) visitor_fn.old shown visitor_fn.new) }
+        ensures err { OnErr result (visitor_fn.new ≡ visitor_fn.old) }
+    {
+        match resolve_by_closure::<Brand, F>(alloc, &self, visitor_fn, Blank::new(1)) {
+            Ok(included) => Ok(PackageSet::of(self.graph(), included)),
+            Err(refused) => Err(refused),
+        }
     }
 }
 

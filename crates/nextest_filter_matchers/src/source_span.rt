@@ -1,8 +1,26 @@
+ghost use Rattle.std.specs.Prelude.{◌≡◌};
+
 /// Where a part of a text stands, in bytes.
 #[derive(Clone, Copy, Debug, PartialEq, Eq, Hash)]
 pub struct SourceSpan {
     pub offset: usize,
     pub len: usize,
+}
+
+impl SourceSpan {
+    /// The place of its first byte.
+    pub fn offset(&self) -> usize
+        ensures { result ≡ self.now.offset }
+    {
+        self.offset
+    }
+
+    /// How many bytes it covers.
+    pub fn len(&self) -> usize
+        ensures { result ≡ self.now.len }
+    {
+        self.len
+    }
 }
 
 impl From<(usize, usize)> for SourceSpan {

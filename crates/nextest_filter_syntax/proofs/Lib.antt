@@ -1,3 +1,4 @@
 pub mod OperatorFacts
 pub mod GrammarFacts
 pub mod StepFacts
+pub mod SpanFacts

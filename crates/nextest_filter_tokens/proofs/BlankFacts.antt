@@ -1,9 +1,9 @@
 -- Blanks are passed one at a time.
-use Rattle.std.proofs.Common.{◌≡◌, ℕ, zero, suc, ◌+◌, ◌-◌, ◌<◌, ◌≤◌, true, List, [], ◌∷◌, length, cond, refl, ◌∙◌, ap, arith}
-use Rattle.std.proofs.lemmas.Bool.{ne_eqb, eq-eqb, eqb-true, and_parts, ltb-true}
+use Rattle.std.proofs.Common.{◌≡◌, ℕ, zero, suc, ◌+◌, ◌-◌, ◌<◌, ◌≤◌, true, List, [], ◌∷◌, length, nat_eq, cond, refl, ◌∙◌, ap, arith}
+use Rattle.std.proofs.lemmas.Bool.{ne_eqb, eq-eqb, eqb-true, and_parts, ltb-true, cond_both}
 use Rattle.std.proofs.lemmas.Str.{IsCharBoundary-after_ascii}
 use Rattle.std.specs.Str.{IsUtf8, IsCharBoundary}
-use Rattle.nextest_filter_tokens.specs.Bytes.{blank_length, blanks_from, byte, has_word, is_byte}
+use Rattle.nextest_filter_tokens.specs.Bytes.{blank_length, blanks_from, byte, has_word, is_byte, skip}
 
 pub blanks_from-more : (text : List ℕ) (n i : ℕ) → 0 < n → (blank_length text i ≡ 0 → ⊥) → blanks_from text n i ≡ blanks_from text (n - 1) (i + blank_length text i)
 blanks_from-more text zero i h ne = absurd (omega arith)
@@ -36,3 +36,16 @@ boundary_after_byte text i c utf8 small h =
 
 pub byte_within : (text : List ℕ) (i c : ℕ) → is_byte text i c ≡ true → i < length text
 byte_within text i c h = ltb-true i (length text) (and_parts _ _ h).0
+
+pub blanks_rise : (text : List ℕ) (n i : ℕ) → i ≤ blanks_from text n i
+blanks_rise text zero i = omega arith
+blanks_rise text (suc n) i =
+    let same : i ≤ i = omega arith in
+    let more = blanks_rise text n (i + blank_length text i) in
+    let later : i ≤ blanks_from text n (i + blank_length text i) = omega (arith, more) in
+    cond_both (nat_eq (blank_length text i) 0) i (blanks_from text n (i + blank_length text i)) (λ k. i ≤ k) (λ _. same) (λ _. later)
+
+-- the place after blanks is no earlier one
+pub skip_rises : (text : List ℕ) (i : ℕ) → i ≤ skip text i
+unfolding skip
+skip_rises text i = blanks_rise text (length text) i

@@ -13,7 +13,7 @@ pub struct FaultList {
 }
 
 impl FaultList {
-    ghost use Rattle.std.specs.Prelude.{◌≡◌, ◌+◌, ◌≤◌, ◌<◌, ℕ, List, [], false, true, IfOk, OnOk, vec_len};
+    ghost use Rattle.std.specs.Prelude.{◌≡◌, ◌+◌, ◌≤◌, ◌<◌, ◌++◌, ◌∷◌, ℕ, List, [], false, true, IfOk, OnOk, vec_len};
     ghost use Rattle.nextest_filter_faults.specs.Faults.{is_refusal};
     ghost use Rattle.nextest_filter_tokens.specs.FaultLists.{AreOver, AreWithin, LiesOver, LiesWithin, others, refusals};
 
@@ -39,6 +39,8 @@ impl FaultList {
         ensures within { (n : ℕ) → AreWithin n self.old.list.items → LiesWithin n fault → AreWithin n self.new.list.items }
         ensures over { (text : List ℕ) → AreOver text self.old.list.items → LiesOver text fault → AreOver text self.new.list.items }
         ensures same_over { (text : List ℕ) → AreOver text self.old.list.items → is_refusal fault ≡ false → AreOver text self.new.list.items }
+        ensures added { OnOk result (self.old.is_closed ≡ false → self.new.list.items ≡ self.old.list.items ++ fault ∷ []) }
+        ensures closed { OnOk result (self.old.is_closed ≡ true → self.new ≡ self.old) }
     {
         if self.is_closed {
             return Ok(());

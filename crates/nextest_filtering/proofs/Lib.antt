@@ -2,6 +2,7 @@ pub mod ContextFacts
 pub mod PickFacts
 pub mod ReachFacts
 pub mod AcceptFacts
+pub mod SpanFacts
 pub mod ParseFacts
 pub mod SameFacts
 pub mod AlikeFacts

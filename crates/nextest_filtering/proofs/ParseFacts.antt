@@ -1,6 +1,7 @@
 -- What is answered for a text, by the steps in which it is looked at.
 use Rattle.std.proofs.Common.{rules, ◌≡◌, ◌∙◌, ◌↔◌, ◌<◌, ◌==◌, inl, inr, refl, sym, ap, subst, arith, ℕ, Bool, true, false, Option, Some, List, [], ◌∷◌, ◌++◌, length, Vec, Global, String}
 use Rattle.std.proofs.lemmas.Bool.Decides.{nat_tests}
+use Rattle.std.specs.Str.{IsUtf8}
 use Rattle.workspace_record.specs.Records.{Text}
 use Rattle.nextest_filter_matchers.specs.declared.source_span.SourceSpan.{SourceSpan}
 use Rattle.nextest_filter_faults.specs.declared.filterset_kind.FiltersetKind.{FiltersetKind}
@@ -21,6 +22,7 @@ use Rattle.nextest_filtering.specs.Acceptance.{AreUnmatched, bans}
 use Rattle.nextest_filtering.specs.Compiling.{AddsUnmatched}
 use Rattle.nextest_filtering.specs.Refusals.{IsRefused}
 use Rattle.nextest_filtering.proofs.AcceptFacts.{banned, unmatched}
+use Rattle.nextest_filtering.proofs.SpanFacts.{bans_within, unmatched_within}
 
 pub some_in : (n : ℕ) (b : Bool) → b ≡ (n == 0) → b ≡ false → 0 < n
 some_in n b e h = grind (arith, nat_tests)
@@ -45,7 +47,7 @@ read_as text lent o parsed e is (t, whole, part) =
     let same : t ≡ tree_of parsed = some_same t t (tree_of parsed) (sym part ∙ ap part_of is) in
     subst (λ xs. ReadsWhole xs (tree_of parsed)) e (subst (ReadsWhole lent) same whole)
 
-module _ (cx : ContextValue) (groups : KnownGroups) (kind : FiltersetKind) (text : Text) (parsed : ParsedExpr SourceSpan) (reads : ReadsWhole text (tree_of parsed)) (written : IsExprAsWritten parsed) (input : String Global) where
+module _ (cx : ContextValue) (groups : KnownGroups) (kind : FiltersetKind) (text : Text) (parsed : ParsedExpr SourceSpan) (reads : ReadsWhole text (tree_of parsed)) (written : IsExprAsWritten parsed) (utf8 : IsUtf8 text) (input : String Global) where
   pub refused_by_bans : (v : Vec ParseSingleError Global) → 0 < v.len → v.items ≡ bans kind (filter_of parsed) → IsRefused cx groups kind text (record { input = input; errors = v })
   refused_by_bans v some e = record {
     parsed = parsed;
@@ -53,6 +55,7 @@ module _ (cx : ContextValue) (groups : KnownGroups) (kind : FiltersetKind) (text
     as_written = written;
     not_accepted = banned cx groups kind (filter_of parsed) v.items e (subst (λ n. 0 < n) v.ok.0 some);
     some = some;
+    within = subst (AreWithin (length text)) (sym e) (bans_within text utf8 parsed reads kind);
     faults = inl e;
   }
 
@@ -63,6 +66,7 @@ module _ (cx : ContextValue) (groups : KnownGroups) (kind : FiltersetKind) (text
     as_written = written;
     not_accepted = unmatched cx groups kind (filter_of parsed) v.items u (subst (λ n. 0 < n) v.ok.0 some);
     some = some;
+    within = unmatched_within text utf8 parsed reads cx groups v.items u;
     faults = inr (e, u);
   }
 

@@ -1,8 +1,9 @@
 -- What is answered for a text that is no accepted filter.
-use Rattle.std.specs.Prelude.{◌≡◌, ◌⊎◌, ◌<◌, [], vec_len, string_bytes}
+use Rattle.std.specs.Prelude.{◌≡◌, ◌⊎◌, ◌<◌, [], length, vec_len, string_bytes}
 use Rattle.workspace_record.specs.Records.{Text}
 use Rattle.nextest_filter_matchers.specs.declared.source_span.SourceSpan.{SourceSpan}
 use Rattle.nextest_filter_faults.specs.declared.filterset_kind.FiltersetKind.{FiltersetKind}
+use Rattle.nextest_filter_tokens.specs.FaultLists.{AreWithin}
 use Rattle.nextest_filter_syntax.specs.AsWritten.{IsExprAsWritten}
 use Rattle.nextest_filter_syntax.specs.Trees.{tree_of}
 use Rattle.nextest_filter_syntax.specs.Grammar.{ReadsWhole}
@@ -18,16 +19,17 @@ use Rattle.nextest_filtering.specs.declared.refusals.FiltersetError.{FiltersetEr
 use Rattle.nextest_filtering.specs.declared.refusals.FiltersetError.TheVariants.{Parse, Memory}
 
 module _ (cx : ContextValue) (groups : KnownGroups) (kind : FiltersetKind) where
-  -- a filter is read that is not accepted: its faults are its bans, or else those of its leaves that match nothing
+  -- a filter is read that is not accepted: its faults lie within the text, and are its bans, or else those of its leaves that match nothing
   pub record IsRefused (text : Text) (refused : FiltersetParseErrors) : Type 0 where
     pub parsed : ParsedExpr SourceSpan
     pub reads : ReadsWhole text (tree_of parsed)
     pub as_written : IsExprAsWritten parsed
     pub not_accepted : IsAccepted cx groups kind (filter_of parsed) → ⊥
     pub some : 0 < vec_len refused.errors
+    pub within : AreWithin (length text) refused.errors.items
     pub faults : (refused.errors.items ≡ bans kind (filter_of parsed)) ⊎ ((bans kind (filter_of parsed) ≡ []) × AreUnmatched cx groups (filter_of parsed) refused.errors.items)
 
-  -- the text comes back with all faults of its reading, or a filter was read that is not accepted
+  -- the text comes back with faults of its reading, or a filter was read that is not accepted
   abbrev pub IsRefusal : Text → FiltersetError → Type 0
   IsRefusal text (Parse refused) =
       (string_bytes refused.input ≡ text) × (AreFaultsOf text (unread.Faults refused.errors) ⊎ IsRefused text refused)

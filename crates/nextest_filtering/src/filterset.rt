@@ -141,6 +141,7 @@ impl Filterset {
         groups: &dyn GroupLookup,
     ) -> Result<bool, AllocError>
         ensures holds { IfOk result (λ r. IsTrue r ↔ Passes (compiled_of cx.now.default_filter.now) (member groups.now (test_of query.now)) (test_of query.now) (compiled_of self.now.compiled)) }
+        ensures answers { has_leaf has_pattern (compiled_of self.now.compiled) ≡ false → has_leaf has_pattern (compiled_of cx.now.default_filter.now) ≡ false → (has_leaf is_group (compiled_of self.now.compiled) ≡ true → (m : NameTest) → ready groups.now (test_of query.now) m) → IsOk result }
     {
         self.compiled
             .matches_test_with_groups(alloc, query, cx, groups)

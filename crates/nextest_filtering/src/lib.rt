@@ -14,7 +14,7 @@ mod refusals;
 
 pub use crate::filterset::Filterset;
 pub use crate::parse_context::ParseContext;
-pub use nextest_filter_evaluation::{CompiledExpr, EvalContext, FiltersetLeaf};
+pub use nextest_filter_evaluation::{CompiledExpr, EvalContext, FiltersetLeaf, NoGroups};
 pub use nextest_filter_queries::{
     BinaryQuery, GroupLookup, KnownGroups, PackageId, RustBinaryId, RustTestBinaryKind,
     TestCaseName, TestQuery,

@@ -4,18 +4,22 @@ ghost use Rattle.nextest_filter_queries.specs.Groups.{AreKnown};
 use crate::compiled::contexts::{context_in, graph_in};
 use crate::compiled::queries::tell_answers;
 use crate::compiled::row_groups::known_groups;
+use crate::compiled::surface::{tell_filter_calls, tell_group_calls};
 use guppy_package_graph::PackageGraph;
 use nextest_filtering::errors::{FiltersetError, FiltersetParseErrors, ParseSingleError};
-use nextest_filtering::{EvalContext, Filterset, FiltersetKind, KnownGroups, ParseContext};
+use nextest_filtering::{
+    CompiledExpr, EvalContext, Filterset, FiltersetKind, KnownGroups, ParseContext,
+};
 use row_program::{Answers, Row, RowFault, RowRunner};
 use serde_json::Value;
 use std::alloc::{AllocError, Global};
 
 /// Rows of one filter each: its `text` and its `kind` (test, archive, override or default), over the
 /// `record`, and over the packages under `context`; `groups` are known, and `default` is the filter
-/// that stands for `default()`. Asked are the `owners`, `binary_names`, `binary_kinds`, `platforms` or
+/// that stands for `default()`, all tests where there is none. Asked are the `owners`, `binary_names`, `binary_kinds`, `platforms` or
 /// `test_names` that are listed, with `owner`, `binary_name`, `binary_kind`, `built_for` and
-/// `test_name` for the rest, of tests in the group `member_of`.
+/// `test_name` for the rest, of tests in the group `member_of`. Told is besides whether a group is
+/// called `group_name`, and whether the reference of filters names what stands under `word`.
 #[derive(Drop)]
 pub(crate) struct CompiledRows;
 
@@ -39,6 +43,8 @@ impl RowRunner for CompiledRows {
             "built_for",
             "test_name",
             "member_of",
+            "group_name",
+            "word",
         ]
     }
 
@@ -90,8 +96,27 @@ fn tell_groups(
 ) -> Result<(), RowFault>
     requires known { AreKnown groups.now }
 {
-    let default = default_in(alloc, row, cx, groups)?;
-    match EvalContext::new(&default.compiled) {
+    tell_group_calls(alloc, row, groups, answers)?;
+    match row.get("default").and_then(Value::as_str) {
+        Some(text) => {
+            let default = default_of(alloc, text, cx, groups)?;
+            tell_with_default(alloc, row, cx, groups, &default.compiled, answers)
+        }
+        None => tell_with_default(alloc, row, cx, groups, &CompiledExpr::ALL, answers),
+    }
+}
+
+fn tell_with_default(
+    alloc: Global,
+    row: Row<'_>,
+    cx: &ParseContext<'_>,
+    groups: &KnownGroups,
+    default: &CompiledExpr,
+    answers: &mut Answers,
+) -> Result<(), RowFault>
+    requires known { AreKnown groups.now }
+{
+    match EvalContext::new(default) {
         Some(eval) => tell_filter(alloc, row, cx, groups, &eval, answers),
         None => Err(RowFault::Key("default")),
     }
@@ -125,20 +150,17 @@ fn tell_parsed(
 ) -> Result<(), RowFault> {
     answers.push("faults", String::new(alloc))?;
     let filter = filter.copy(alloc)?;
-    tell_answers(alloc, row, &filter.compiled, eval, answers)
+    tell_filter_calls(alloc, row, &filter, answers)?;
+    tell_answers(alloc, row, &filter, eval, answers)
 }
 
-/// The filter under `default`, compiled; all tests where there is none.
-fn default_in(
+/// The filter that stands for `default()`.
+fn default_of(
     alloc: Global,
-    row: Row<'_>,
+    text: &str,
     cx: &ParseContext<'_>,
     groups: &KnownGroups,
 ) -> Result<Filterset, RowFault> {
-    let text = match row.get("default").and_then(Value::as_str) {
-        Some(text) => text,
-        None => "all()",
-    };
     let input = String::from_str(alloc, text)?;
     match Filterset::parse(alloc, input, cx, FiltersetKind::DefaultFilter, groups) {
         Ok(filter) => Ok(filter),

@@ -5,5 +5,6 @@ mod compiled_rows;
 mod contexts;
 mod queries;
 mod row_groups;
+mod surface;
 
 pub(crate) use crate::compiled::compiled_rows::CompiledRows;

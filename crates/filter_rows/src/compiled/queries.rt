@@ -1,8 +1,12 @@
 //! Binaries and tests that rows ask about.
 
+ghost use Rattle.std.specs.Prelude.{◌≡◌, false};
+ghost use Rattle.nextest_filter_evaluation.specs.Compiled.{compiled_of, is_group};
+ghost use Rattle.nextest_filter_evaluation.specs.Formulas.{has_leaf};
+
 use crate::compiled::row_groups::OneGroup;
 use nextest_filtering::{
-    BinaryQuery, BuildPlatform, CompiledExpr, EvalContext, PackageId, RustBinaryId,
+    BinaryQuery, BuildPlatform, EvalContext, Filterset, PackageId, RustBinaryId,
     RustTestBinaryKind, TestCaseName, TestQuery,
 };
 use row_program::{Answers, Row, RowFault};
@@ -32,13 +36,16 @@ fn text_or<'a>(row: Row<'a>, key: &str, default: &'a str) -> &'a str {
 pub(crate) fn tell_answers(
     alloc: Global,
     row: Row<'_>,
-    filter: &CompiledExpr,
+    filter: &Filterset,
     cx: &EvalContext<'_>,
     answers: &mut Answers,
 ) -> Result<(), RowFault> {
     let questions = questions_in(alloc, row)?;
     let group = text_or(row, "member_of", "@global");
     answers.tell("holds", holds_text(alloc, &questions, group, filter, cx))?;
+    if !filter.compiled.has_group_matchers() {
+        answers.tell("alone", alone_text(alloc, &questions, filter, cx))?;
+    }
     answers.tell("known", known_text(alloc, &questions, filter, cx))
 }
 
@@ -47,7 +54,7 @@ fn holds_text(
     alloc: Global,
     questions: &[Question<'_>],
     group: &str,
-    filter: &CompiledExpr,
+    filter: &Filterset,
     cx: &EvalContext<'_>,
 ) -> Result<String, AllocError> {
     let mut holds = String::new(alloc);
@@ -58,11 +65,28 @@ fn holds_text(
     Ok(holds)
 }
 
+/// The same, asked without groups.
+fn alone_text(
+    alloc: Global,
+    questions: &[Question<'_>],
+    filter: &Filterset,
+    cx: &EvalContext<'_>,
+) -> Result<String, AllocError>
+    requires groups { has_leaf is_group (compiled_of filter.now.compiled) ≡ false }
+{
+    let mut holds = String::new(alloc);
+    for question in questions {
+        let is_true = alone_of(alloc, *question, filter, cx)?;
+        push_word(&mut holds, if is_true { "true" } else { "false" })?;
+    }
+    Ok(holds)
+}
+
 /// What is known of each binary.
 fn known_text(
     alloc: Global,
     questions: &[Question<'_>],
-    filter: &CompiledExpr,
+    filter: &Filterset,
     cx: &EvalContext<'_>,
 ) -> Result<String, AllocError> {
     let mut known = String::new(alloc);
@@ -162,7 +186,7 @@ fn holds_of(
     alloc: Global,
     question: Question<'_>,
     group: &str,
-    filter: &CompiledExpr,
+    filter: &Filterset,
     cx: &EvalContext<'_>,
 ) -> Result<bool, AllocError> {
     let parts = Parts::of(alloc, question)?;
@@ -173,10 +197,26 @@ fn holds_of(
     filter.matches_test_with_groups(alloc, &query, cx, &OneGroup { alloc, group })
 }
 
+fn alone_of(
+    alloc: Global,
+    question: Question<'_>,
+    filter: &Filterset,
+    cx: &EvalContext<'_>,
+) -> Result<bool, AllocError>
+    requires groups { has_leaf is_group (compiled_of filter.now.compiled) ≡ false }
+{
+    let parts = Parts::of(alloc, question)?;
+    let query = TestQuery {
+        binary_query: parts.query(question),
+        test_name: &parts.test_name,
+    };
+    filter.matches_test(alloc, &query, cx)
+}
+
 fn known_of(
     alloc: Global,
     question: Question<'_>,
-    filter: &CompiledExpr,
+    filter: &Filterset,
     cx: &EvalContext<'_>,
 ) -> Result<Option<bool>, AllocError> {
     let parts = Parts::of(alloc, question)?;

@@ -21,6 +21,20 @@ pub(crate) const TRIANGLE: &str = r#"{
     "workspace": {"members": []}
 }"#;
 
+/// The same packages; a depends on b for its tests alone, and on c.
+pub(crate) const FOR_TESTS: &str = r#"{
+    "packages": [
+        {"id": "a", "name": "a", "version": "1.0.0"},
+        {"id": "b", "name": "b", "version": "1.0.0"},
+        {"id": "c", "name": "c", "version": "1.0.0"}
+    ],
+    "links": [
+        {"from": "a", "to": "b", "name": "b", "lines": [{"kind": "dev"}]},
+        {"from": "a", "to": "c", "name": "c", "lines": [{"kind": "dev"}, {}]}
+    ],
+    "workspace": {"members": []}
+}"#;
+
 /// The same packages, where c depends on a.
 pub(crate) const TURNED: &str = r#"{
     "packages": [

@@ -1,7 +1,7 @@
 ghost use Rattle.std.specs.Prelude.{◌≡◌, ◌<◌};
 
-use crate::packages::graphs::{TRIANGLE, graph_of, id_of};
-use crate::packages::visitors::{Alternates, Follows};
+use crate::packages::graphs::{FOR_TESTS, TRIANGLE, graph_of, id_of};
+use crate::packages::visitors::{Alternates, Follows, FollowsFirm};
 use guppy_package_graph::{
     PackageGraph, PackageLink, PackageLinkContext, PackageLinkVisitor, PackageQuery,
 };
@@ -29,7 +29,17 @@ fn included_by(
     direction: DependencyDirection,
     visitor: &mut dyn PackageLinkVisitor,
 ) -> Result<usize, Fail> {
-    let graph = graph_of(alloc, TRIANGLE)?;
+    included_of(alloc, TRIANGLE, start, direction, visitor)
+}
+
+fn included_of(
+    alloc: Global,
+    record: &str,
+    start: &str,
+    direction: DependencyDirection,
+    visitor: &mut dyn PackageLinkVisitor,
+) -> Result<usize, Fail> {
+    let graph = graph_of(alloc, record)?;
     included_in(alloc, &graph, start, direction, visitor)
 }
 
@@ -77,6 +87,15 @@ fn accepts_all(rt: HostRuntime) -> Result<(), Fail> {
 fn alternates(rt: HostRuntime) -> Result<(), Fail> {
     let mut visitor = Alternates { accepts: false };
     let included = included_by(rt.alloc(), "c", DependencyDirection::Reverse, &mut visitor)?;
+    assert_eq!(rt; included, 2);
+    Ok(())
+}
+
+#[test]
+fn answers_by_the_link(rt: HostRuntime) -> Result<(), Fail> {
+    let mut visitor = FollowsFirm;
+    let forward = DependencyDirection::Forward;
+    let included = included_of(rt.alloc(), FOR_TESTS, "a", forward, &mut visitor)?;
     assert_eq!(rt; included, 2);
     Ok(())
 }

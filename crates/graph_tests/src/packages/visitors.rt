@@ -1,4 +1,4 @@
-//! Visitors whose answers their state alone decides.
+//! Visitors whose answers their state decides, or the link that they are shown.
 
 use guppy_package_graph::{PackageLink, PackageLinkContext, PackageLinkVisitor};
 
@@ -41,5 +41,23 @@ impl PackageLinkVisitor for Alternates {
         let accepted = self.accepts;
         self.accepts = !accepted;
         accepted
+    }
+}
+
+/// Follows the links on which some line is normal or build.
+#[derive(Drop)]
+pub(crate) struct FollowsFirm;
+
+impl PackageLinkVisitor for FollowsFirm {
+    ghost use Rattle.std.specs.Prelude.{◌≡◌, Some, [], not, slice_get};
+    ghost use Rattle.workspace_record.specs.Records.{Link};
+    ghost use Rattle.guppy_package_table.specs.LinkRows.{is_dev_only};
+
+    ghost state = { λ _. [] };
+
+    ghost steps = { λ _ s x answer t. (row : Link) × (slice_get x.0.graph.links x.1 ≡ Some row) × (answer ≡ not (is_dev_only row)) × (s ≡ t) };
+
+    fn visit_link(&mut self, _cx: &PackageLinkContext<'_>, link: PackageLink<'_>) -> bool {
+        !link.dev_only()
     }
 }

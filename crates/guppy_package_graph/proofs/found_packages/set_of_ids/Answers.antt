@@ -4,7 +4,7 @@ use Rattle.list_facts.proofs.Lists.{map-map}
 use Rattle.numbered_graph.specs.Sets.{has}
 use Rattle.workspace_record.specs.Records.{Text}
 use Rattle.guppy_package_table.specs.Tables.{ids_of}
-use Rattle.guppy_package_graph.proofs.PlaceFacts.{named, placed}
+use Rattle.guppy_package_graph.proofs.PlaceFacts.{each_found, named, placed}
 use Rattle.guppy_package_graph.proofs.found_packages.set_of_ids.Goals as goal
 
 pub returns-clause-named : goal.returns-clause-named
@@ -14,3 +14,9 @@ returns-clause-named c = λ v.
     let found : map place ids ≡ map Some c.in_ok-places.places.items = map-map place (λ id. id.now) c.args.package_ids.now ∙ c.in_ok-places.ensures.found in
     let members : IsTrue (has c.in_ok-set.set v) ↔ Contains c.in_ok-places.places.items v = subst (λ xs. IsTrue (has c.in_ok-set.set v) ↔ Contains xs v) c.deref.ensures.value (c.in_ok-set.ensures.members v) in
     (λ h. named place v ids c.in_ok-places.places.items found (members.0 h), λ h. members.1 (placed place v ids c.in_ok-places.places.items found h))
+
+pub returns-clause-known : goal.returns-clause-known
+returns-clause-known c =
+    let place : Text → _ = λ id. position (bytes_eq id) (ids_of c.args.graph.now.packages) in
+    let ids = map (λ id. id.now) c.args.package_ids.now in
+    each_found place ids c.in_ok-places.places.items (map-map place (λ id. id.now) c.args.package_ids.now ∙ c.in_ok-places.ensures.found)

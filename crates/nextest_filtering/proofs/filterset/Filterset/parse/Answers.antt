@@ -1,4 +1,5 @@
 use Rattle.std.proofs.Common.{◌∙◌, ◌++◌, ap, inl, inr, refl, sym, string_bytes}
+use Rattle.std.proofs.lemmas.Str.{IsUtf8-string_bytes}
 use Rattle.nextest_filtering.specs.Acceptance.{bans}
 use Rattle.nextest_filtering.specs.Filters.{filter_of}
 use Rattle.nextest_filtering.proofs.AcceptFacts.{accepted, group_in_tests}
@@ -19,7 +20,7 @@ pub returns-then-not-is_empty-2-clause-refused : goal.returns-then-not-is_empty-
 returns-then-not-is_empty-2-clause-refused c =
     let f = filter_of c.in-Some.parsed in
     let reads = read_as (string_bytes c.args.input) _ c.in_ok-tree.tree c.in-Some.parsed c.as_str.ensures.value c.in-Some.is (c.in_ok-tree.ensures.exact.0 (none_in _ _ c.is_empty.ensures c.if-not-is_empty.false)) in
-    rw c.refused-then-not-is_empty-2.ensures (refl, inr (refused_by_bans c.args.cx.now c.args.known_groups.now c.args.kind _ c.in-Some.parsed reads (rw c.in-Some.is at c.in_ok-tree.ensures.as_written) c.args.input c.push_bans.new.errors (some_in _ _ c.is_empty-2.ensures c.if-not-is_empty-2.true) (c.in_ok-push_bans.ensures ∙ ap (λ xs. xs ++ bans c.args.kind f) c.new-bans.ensures.items)))
+    rw c.refused-then-not-is_empty-2.ensures (refl, inr (refused_by_bans c.args.cx.now c.args.known_groups.now c.args.kind _ c.in-Some.parsed reads (rw c.in-Some.is at c.in_ok-tree.ensures.as_written) (IsUtf8-string_bytes c.args.input) c.args.input c.push_bans.new.errors (some_in _ _ c.is_empty-2.ensures c.if-not-is_empty-2.true) (c.in_ok-push_bans.ensures ∙ ap (λ xs. xs ++ bans c.args.kind f) c.new-bans.ensures.items)))
 
 pub compile_expr-requires : goal.compile_expr-requires
 compile_expr-requires c =
@@ -35,7 +36,7 @@ returns-then-not-is_empty-3-clause-refused c =
     let none = ap (λ xs. xs ++ bans c.args.kind f) c.new-bans.ensures.items in
     let no_bans = sym (c.in_ok-push_bans.ensures ∙ none) ∙ no_items v.items v.len v.ok.0 (none_in _ _ c.is_empty-2.ensures c.if-not-is_empty-2.false) in
     let reads = read_as (string_bytes c.args.input) _ c.in_ok-tree.tree c.in-Some.parsed c.as_str.ensures.value c.in-Some.is (c.in_ok-tree.ensures.exact.0 (none_in _ _ c.is_empty.ensures c.if-not-is_empty.false)) in
-    rw c.refused-then-not-is_empty-3.ensures (refl, inr (refused_by_names c.args.cx.now c.args.known_groups.now c.args.kind _ c.in-Some.parsed reads (rw c.in-Some.is at c.in_ok-tree.ensures.as_written) c.args.input c.compile_expr.new.errors (some_in _ _ c.is_empty-3.ensures c.if-not-is_empty-3.true) no_bans (added_alone c.args.cx.now c.args.known_groups.now c.in-Some.parsed _ _ c.new-unmatched.ensures.items c.in_ok-compiled.ensures.faults)))
+    rw c.refused-then-not-is_empty-3.ensures (refl, inr (refused_by_names c.args.cx.now c.args.known_groups.now c.args.kind _ c.in-Some.parsed reads (rw c.in-Some.is at c.in_ok-tree.ensures.as_written) (IsUtf8-string_bytes c.args.input) c.args.input c.compile_expr.new.errors (some_in _ _ c.is_empty-3.ensures c.if-not-is_empty-3.true) no_bans (added_alone c.args.cx.now c.args.known_groups.now c.in-Some.parsed _ _ c.new-unmatched.ensures.items c.in_ok-compiled.ensures.faults)))
 
 pub returns-clause-accepted : goal.returns-clause-accepted
 returns-clause-accepted c =

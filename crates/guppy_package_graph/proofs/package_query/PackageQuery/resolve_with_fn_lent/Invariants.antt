@@ -1,4 +1,4 @@
-use Rattle.guppy_package_graph.proofs.package_query.PackageQuery.resolve_with_fn.Given as goal
+use Rattle.guppy_package_graph.proofs.package_query.PackageQuery.resolve_with_fn_lent.Given as goal
 
 -- the ledger of the blank
 abbrev pub ghosts-resolve_by_closure : goal.ghosts-resolve_by_closure
