@@ -188,7 +188,7 @@ module _ (member other : NameTest → Type 0) (default another : Type 0) (t : as
   leaf_alike All = same _
   leaf_alike compiled.None = same _
 
-  filter_alike : (f : Formula Leaf) → Holds (LeafHolds member default t) f ↔ Holds (LeafHolds other another t) f
+  pub filter_alike : (f : Formula Leaf) → Holds (LeafHolds member default t) f ↔ Holds (LeafHolds other another t) f
   filter_alike f = holds_alike _ _ f (each_of _ f leaf_alike)
 
 -- a first place is never denied

@@ -1,3 +1,4 @@
 pub mod FilteringFacts
 pub mod KnownFacts
 pub mod SomeFacts
+pub mod LendingFacts

@@ -1,9 +1,12 @@
 -- Compiled filters of a question, and what they say.
-use Rattle.std.specs.Prelude.{true, List, Contains, map}
+use Rattle.std.specs.Prelude.{◌↔◌, true, Bool, IsTrue, List, [], ◌∷◌, ◌++◌, Contains, codes, map}
+use Rattle.regex.specs.Patterns.{Re}
+use Rattle.workspace_record.specs.Records.{Text}
 use Rattle.nextest_filter_queries.specs.Queries as asked
 use Rattle.nextest_filter_evaluation.specs.Compiled.{Leaf, compiled_of}
 use Rattle.nextest_filter_evaluation.specs.Formulas.{Formula, SomeAnswersGive}
 use Rattle.nextest_filter_evaluation.specs.Meaning.{DefaultGives, DefaultHolds, MayBe, Passes}
+use Rattle.nextest_filter_readiness.specs.Questions.{AllSay, Lent, ReadyView}
 use Rattle.record_checks.specs.CompiledViews.{filters_view}
 use Rattle.record_checks.specs.Groups.{IsGroupMember}
 use Rattle.record_checks.specs.RecordFilters.{CompiledFilters}
@@ -32,3 +35,17 @@ Pass q t = SomePasses q.filters q.texts t × DefaultHolds q.filters.default t
 -- and some answers about the binary let it through both
 abbrev pub MayPass : CompiledQuestion → asked.Binary → Type 0
 MayPass q b = SomeMayPass q.filters.default q.texts b × DefaultGives q.filters.default b true
+
+-- the same filters, as they are lent: behind the groups' names that of the group for tests of no other
+abbrev pub lent_question : CompiledQuestion → Lent
+lent_question q = record {
+  default = q.filters.default;
+  names = map (λ g. g.0) q.filters.groups ++ codes "@global" ∷ [];
+  groups = map (λ g. g.1) q.filters.groups;
+  texts = q.texts;
+}
+
+-- for each test of the binary an answer to what is ready is one to the question
+abbrev pub IsReadyFor : List Re → CompiledQuestion → asked.Binary → ReadyView → Type 0
+IsReadyFor patterns q b r =
+    (name : Text) (answer : Bool) → (IsTrue answer ↔ AllSay patterns r name) → IsTrue answer ↔ Pass q (record { binary = b; name = name })

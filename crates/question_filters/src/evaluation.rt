@@ -1,60 +1,15 @@
-//! What the filters of a question say of tests and of binaries.
+//! What the filters of a question say of binaries.
 
 ghost use Rattle.std.specs.Prelude.{◌↔◌, true, IfOk, IsTrue, map};
 ghost use Rattle.nextest_filter_evaluation.specs.Compiled.{compiled_of};
 ghost use Rattle.nextest_filter_evaluation.specs.Formulas.{SomeAnswersGive};
-ghost use Rattle.nextest_filter_evaluation.specs.Meaning.{DefaultGives, DefaultHolds, MayBe};
-ghost use Rattle.nextest_filter_queries.specs.Queries.{binary_of, test_of};
-ghost use Rattle.record_checks.specs.CompiledViews.{filters_view};
-ghost use Rattle.question_filters.specs.QuestionFilters.{MayPass, Pass, SomeMayPass, SomePasses, question_view};
+ghost use Rattle.nextest_filter_evaluation.specs.Meaning.{DefaultGives, MayBe};
+ghost use Rattle.nextest_filter_queries.specs.Queries.{binary_of};
+ghost use Rattle.question_filters.specs.QuestionFilters.{MayPass, SomeMayPass, question_view};
 
 use crate::question_filters::QuestionFilters;
-use nextest_filtering::{BinaryQuery, CompiledExpr, EvalContext, TestQuery};
-use record_checks::{GroupTable, RecordFilters};
+use nextest_filtering::{BinaryQuery, CompiledExpr, EvalContext};
 use std::alloc::{AllocError, Global};
-
-/// Whether some text's filter and the default filter hold of the test.
-pub fn pass(
-    alloc: Global,
-    filters: &QuestionFilters,
-    test: &TestQuery<'_>,
-) -> Result<bool, AllocError>
-    ensures { IfOk result (λ r. IsTrue r ↔ Pass (question_view filters.now) (test_of test.now)) }
-{
-    if !default_holds(alloc, &filters.filters, test)? {
-        return Ok(false);
-    }
-    some_passes(alloc, &filters.filters, &filters.texts, test)
-}
-
-fn default_holds(
-    alloc: Global,
-    filters: &RecordFilters,
-    test: &TestQuery<'_>,
-) -> Result<bool, AllocError>
-    ensures { IfOk result (λ r. IsTrue r ↔ DefaultHolds (filters_view filters.now).default (test_of test.now)) }
-{
-    let cx = filters.eval_context();
-    cx.default_filter.matches_test(alloc, test, &cx)
-}
-
-fn some_passes(
-    alloc: Global,
-    filters: &RecordFilters,
-    texts: &[CompiledExpr],
-    test: &TestQuery<'_>,
-) -> Result<bool, AllocError>
-    ensures { IfOk result (λ r. IsTrue r ↔ SomePasses (filters_view filters.now) (map compiled_of texts.now) (test_of test.now)) }
-{
-    let table = GroupTable::new(alloc, filters);
-    let cx = filters.eval_context();
-    for text in texts {
-        if text.matches_test_by(alloc, test, &cx, &table)? {
-            return Ok(true);
-        }
-    }
-    Ok(false)
-}
 
 /// Whether some answers about its tests let the binary through some text's filter and the default
 /// filter.

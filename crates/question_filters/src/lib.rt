@@ -3,10 +3,12 @@
 
 mod evaluation;
 mod filtering;
+mod lending;
 mod question_filters;
 mod scope;
 
-pub use crate::evaluation::{may_pass, pass};
+pub use crate::evaluation::may_pass;
 pub use crate::filtering::filters_over;
+pub use crate::lending::lent_filters;
 pub use crate::question_filters::QuestionFilters;
 pub use crate::scope::LinkScope;

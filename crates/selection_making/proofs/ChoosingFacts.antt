@@ -1,5 +1,6 @@
 -- Tests chosen from listings, one binary after another.
-use Rattle.std.proofs.Common.{◌≡◌, ◌↔◌, ◌⊎◌, inl, inr, ⊎_elim, ℕ, zero, suc, ◌+◌, ◌<◌, List, [], ◌∷◌, ◌++◌, length, get_or, take, map, refl, sym, ◌∙◌, ap, subst, Contains, Some, Option, String, Vec, string_bytes, add-one, arith}
+use Rattle.std.proofs.Common.{◌≡◌, ◌↔◌, ◌⊎◌, inl, inr, ⊎_elim, ℕ, zero, suc, ◌+◌, ◌<◌, List, [], ◌∷◌, ◌++◌, length, get_or, take, map, refl, sym, ◌∙◌, ap, subst, Contains, Some, Option, String, Vec, string_bytes, add-one, arith, drop, take_all}
+use Rattle.std.proofs.lemmas.List.{append-nil, drop_all, length-map}
 use Rattle.std.specs.Global.{Global}
 use Rattle.std.specs.List.{zip}
 use Rattle.list_facts.specs.Ascending.{IsAscendingOf, pair_cmp}
@@ -47,6 +48,13 @@ begun_all old new told ids answers same h = subst (λ all. AskedSome old all new
 
 some_exact : {X : Type 0} {x y : X} → Some x ≡ Some y → x ≡ y
 some_exact e = cc
+
+-- elements that were lent and are seen as before
+pub lent_back : {X Y : Type 0} (f : X → Y) (old new : List X) (n : ℕ) → n ≡ length old → map f new ≡ map f old → map f (take n (new ++ drop (length new) old)) ≡ map f old
+lent_back f old new n count same =
+    let size : length new ≡ length old = sym (length-map new f) ∙ ap length same ∙ length-map old f in
+    let whole : new ++ drop (length new) old ≡ new = ap (λ ys. new ++ ys) (drop_all (length new) old (omega arith)) ∙ append-nil new in
+    ap (λ ys. map f (take n ys)) whole ∙ ap (map f) (take_all n new (omega arith)) ∙ same
 
 -- tests with more names of which the filters hold
 module _ (filters : CompiledQuestion) (b : asked.Binary) (id : Text) where

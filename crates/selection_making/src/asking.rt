@@ -1,24 +1,27 @@
 //! Asking for the tests of the planned binaries, and choosing from the answers.
 
-ghost use Rattle.std.specs.Prelude.{◌≡◌, ◌↔◌, ◌<◌, ◌∷◌, [], IfOk, IsTrue, OnOk, length, map};
+ghost use Rattle.std.specs.Prelude.{◌≡◌, ◌∷◌, [], IfOk, OnOk, length, map};
 ghost use Rattle.list_facts.specs.Texts.{texts, pair_of};
 ghost use Rattle.record_rules.specs.BinaryView.{binary_view};
-ghost use Rattle.selection_making.specs.AskedViews.{binary_in};
 ghost use Rattle.selection_making.specs.Choosing.{AreListed, CarriesOut, IsTestOf, ids_of};
 ghost use Rattle.selection_making.specs.Kept.{Adds};
 ghost use Rattle.selection_making.specs.Passing.{IsPassing};
 ghost use Rattle.selection_making.specs.Plans.{PassesIn};
-ghost use Rattle.question_filters.specs.QuestionFilters.{Pass, question_view};
+ghost use Rattle.nextest_filter_queries.specs.Queries.{Binary};
+ghost use Rattle.nextest_filter_readiness.specs.Questions.{lent_of, lent_searches, ready_view};
+ghost use Rattle.question_filters.specs.QuestionFilters.{CompiledQuestion, IsReadyFor, lent_question, question_view};
+ghost use Rattle.regex.specs.Strings.{matcher_pattern};
 ghost use Rattle.selection_making.specs.Told.{told_by, told_of};
 
 use crate::asked_queries::AskedBinary;
 use crate::plan::Plan;
 use crate::selection::Selection;
 use list_facts::sorted_pairs;
-use nextest_filtering::{TestCaseName, TestQuery};
-use question_filters::{QuestionFilters, pass};
+use nextest_filter_readiness::{LentFilters, ReadyFilters};
+use question_filters::lent_filters;
 use record_checks::SelectError;
 use record_rules::binaries::{TestBinary, platform_of};
+use regex::Matcher;
 use std::alloc::{AllocError, Global};
 use test_lister::{AskError, BinaryInfo, Listing, TestLister, ask_each};
 
@@ -75,75 +78,67 @@ fn choose(
     requires { length listings.now ≡ length plan.now.asked.items }
     ensures { IfOk result (λ v. AreListed (PassesIn (question_view plan.now.filters)) plan.now.asked.items listings.now (map pair_of v.items)) }
 {
+    let filters = lent_filters(alloc, &plan.filters)?;
+    let mut searchers = filters.searchers(alloc)?;
     let mut chosen = Vec::new(alloc);
     for (place, names) in listings.iter().enumerate() {
-        push_chosen(alloc, &plan.filters, &plan.asked[place], names, &mut chosen)?;
+        let binary = &plan.asked[place];
+        push_chosen(alloc, &filters, &mut searchers, binary, names, &mut chosen)?;
     }
     sorted_pairs(chosen)
 }
 
-fn push_chosen(
+fn push_chosen<'f>(
     alloc: Global,
-    filters: &QuestionFilters,
+    filters: &LentFilters<'f>,
+    searchers: &mut [Matcher<'f>],
     binary: &TestBinary<'_>,
     names: &[String],
     chosen: &mut Vec<(String, String)>,
 ) -> Result<(), AllocError>
-    ensures { OnOk result (Adds (IsTestOf (PassesIn (question_view filters.now)) (binary_view binary.now) names.now) (map pair_of chosen.old.items) (map pair_of chosen.new.items)) }
+    requires patterns { map matcher_pattern searchers.old ≡ lent_searches (lent_of filters.now) }
+    ensures added { (q : CompiledQuestion) → lent_of filters.now ≡ lent_question q → OnOk result (Adds (IsTestOf (PassesIn q) (binary_view binary.now) names.now) (map pair_of chosen.old.items) (map pair_of chosen.new.items)) }
+    ensures same { map matcher_pattern searchers.new ≡ map matcher_pattern searchers.old }
 {
     let asked = AskedBinary::of(alloc, binary)?;
-    push_passing(alloc, filters, &asked, binary.id.as_str(), names, chosen)
+    let ready = ReadyFilters::new(alloc, filters, asked.query())?;
+    push_passing(alloc, &ready, searchers, binary.id.as_str(), names, chosen)
 }
 
 /// The tests with these names of which the filters hold, each under the binary's id.
-fn push_passing(
+fn push_passing<'f>(
     alloc: Global,
-    filters: &QuestionFilters,
-    asked: &AskedBinary<'_>,
+    ready: &ReadyFilters<'f>,
+    searchers: &mut [Matcher<'f>],
     id: &str,
     names: &[String],
     chosen: &mut Vec<(String, String)>,
 ) -> Result<(), AllocError>
-    ensures { OnOk result (Adds (IsPassing (question_view filters.now) (binary_in asked.now) id.now (texts names.now)) (map pair_of chosen.old.items) (map pair_of chosen.new.items)) }
+    ensures added { (q : CompiledQuestion) (b : Binary) → IsReadyFor (map matcher_pattern searchers.old) q b (ready_view ready.now) → OnOk result (Adds (IsPassing q b id.now (texts names.now)) (map pair_of chosen.old.items) (map pair_of chosen.new.items)) }
+    ensures same { map matcher_pattern searchers.new ≡ map matcher_pattern searchers.old }
 {
     for name in names {
-        push_if_passing(alloc, filters, asked, id, name.as_str(), chosen)?;
+        push_if_passing(alloc, ready, searchers, id, name.as_str(), chosen)?;
     }
     Ok(())
 }
 
-fn push_if_passing(
+fn push_if_passing<'f>(
     alloc: Global,
-    filters: &QuestionFilters,
-    asked: &AskedBinary<'_>,
+    ready: &ReadyFilters<'f>,
+    searchers: &mut [Matcher<'f>],
     id: &str,
     name: &str,
     chosen: &mut Vec<(String, String)>,
 ) -> Result<(), AllocError>
-    ensures { OnOk result (Adds (IsPassing (question_view filters.now) (binary_in asked.now) id.now (name.now ∷ [])) (map pair_of chosen.old.items) (map pair_of chosen.new.items)) }
+    ensures added { (q : CompiledQuestion) (b : Binary) → IsReadyFor (map matcher_pattern searchers.old) q b (ready_view ready.now) → OnOk result (Adds (IsPassing q b id.now (name.now ∷ [])) (map pair_of chosen.old.items) (map pair_of chosen.new.items)) }
+    ensures same { map matcher_pattern searchers.new ≡ map matcher_pattern searchers.old }
 {
-    if passes(alloc, filters, asked, name)? {
+    if ready.hold(searchers, name) {
         let id = String::from_str(alloc, id)?;
         chosen.push((id, String::from_str(alloc, name)?))?;
     }
     Ok(())
-}
-
-fn passes(
-    alloc: Global,
-    filters: &QuestionFilters,
-    asked: &AskedBinary<'_>,
-    name: &str,
-) -> Result<bool, AllocError>
-    ensures { IfOk result (λ r. IsTrue r ↔ Pass (question_view filters.now) (record { binary = binary_in asked.now; name = name.now })) }
-{
-    let test_name = TestCaseName::new(String::from_str(alloc, name)?);
-    let binary_query = asked.query();
-    let test = TestQuery {
-        binary_query,
-        test_name: &test_name,
-    };
-    pass(alloc, filters, &test)
 }
 
 fn ids(alloc: Global, asked: &[TestBinary<'_>]) -> Result<Vec<String>, AllocError>

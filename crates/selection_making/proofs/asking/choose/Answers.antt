@@ -1,4 +1,5 @@
-use Rattle.std.proofs.Common.{◌<◌, [], length, map, take, take_all, subst, arith}
+use Rattle.std.proofs.Common.{◌<◌, [], length, map, take, take_all, subst, arith, ap, ◌∙◌, rules}
+use Rattle.regex.specs.Strings.{matcher_pattern}
 use Rattle.list_facts.specs.Texts.{pair_of}
 use Rattle.record_checks.proofs.ContextFacts.{if_ok_so}
 use Rattle.record_rules.specs.Binaries.{Binary}
@@ -7,7 +8,7 @@ use Rattle.selection_making.specs.Choosing.{IsListed}
 use Rattle.selection_making.specs.Kept.{Adds}
 use Rattle.selection_making.specs.Plans.{PassesIn}
 use Rattle.question_filters.specs.QuestionFilters.{question_view}
-use Rattle.selection_making.proofs.ChoosingFacts.{listed_all, listed_more}
+use Rattle.selection_making.proofs.ChoosingFacts.{lent_back, listed_all, listed_more}
 use Rattle.selection_making.proofs.asking.choose.Goals as goal
 
 pub loop-place-preserved : goal.loop-place-preserved
@@ -17,7 +18,10 @@ loop-place-preserved c =
     let listings = c.args.listings.now in
     let i = c.loop-place.place in
     let within : i < length asked = omega (arith, c.loop-place-test.true, c.requires) in
-    listed_more holds asked listings i c.index.result.now c.deref.result.now c.index-listings-place.result [] (map pair_of c.loop-place.chosen.items) (map pair_of c.push_chosen.new.chosen.items) within c.loop-place-test.true c.index.ensures c.deref.ensures.value c.index-listings-place.is c.loop-place.invariant c.in_ok-push_chosen.ensures
+    record {
+      patterns = lent_back matcher_pattern c.loop-place.searchers.items c.push_chosen.new.searchers c.loop-place.searchers.len (search rules) (c.in_ok-push_chosen.ensures.same ∙ ap (map matcher_pattern) c.deref_mut.ensures.value) ∙ c.loop-place.invariant.patterns;
+      listed = listed_more holds asked listings i c.index-binary.result.now c.deref.result.now c.index-listings-place.result [] (map pair_of c.loop-place.chosen.items) (map pair_of c.push_chosen.new.chosen.items) within c.loop-place-test.true c.index-binary.ensures c.deref.ensures.value c.index-listings-place.is c.loop-place.invariant.listed (c.in_ok-push_chosen.ensures.added (question_view c.args.plan.now.filters) c.in_ok-filters.ensures.lent);
+    }
 
 pub returns : goal.returns
 returns c =
@@ -26,6 +30,6 @@ returns c =
     let listings = c.args.listings.now in
     let i = c.loop-place.place in
     let found = map pair_of c.loop-place.chosen.items in
-    let one : Adds (IsListed holds (take i asked) listings) [] found = subst (λ ls. Adds (IsListed holds (take i asked) ls) [] found) (take_all i listings c.loop-place-test.false) c.loop-place.invariant in
+    let one : Adds (IsListed holds (take i asked) listings) [] found = subst (λ ls. Adds (IsListed holds (take i asked) ls) [] found) (take_all i listings c.loop-place-test.false) c.loop-place.invariant.listed in
     let all : Adds (IsListed holds asked listings) [] found = subst (λ bs. Adds (IsListed holds bs listings) [] found) (take_all i asked (omega (arith, c.loop-place-test.false, c.requires))) one in
     if_ok_so _ _ c.sorted_pairs.result (λ v ascending. listed_all holds asked listings found (map pair_of v.items) all ascending) c.sorted_pairs.ensures

@@ -1,5 +1,7 @@
-use Rattle.std.proofs.Common.{[], map, take}
+use Rattle.std.proofs.Common.{◌≡◌, [], map, take}
+use Rattle.regex.specs.Strings.{matcher_pattern}
 use Rattle.list_facts.specs.Texts.{pair_of}
+use Rattle.nextest_filter_readiness.specs.Questions.{lent_of, lent_searches}
 use Rattle.selection_making.specs.Choosing.{IsListed}
 use Rattle.selection_making.specs.Kept.{Adds}
 use Rattle.selection_making.specs.Plans.{PassesIn}
@@ -7,5 +9,7 @@ use Rattle.question_filters.specs.QuestionFilters.{question_view}
 use Rattle.selection_making.proofs.asking.choose.Given as goal
 
 abbrev pub invariant-loop-place : goal.invariant-loop-place
-invariant-loop-place l =
-    Adds (IsListed (PassesIn (question_view l.plan.filters)) (take l.place l.plan.asked.items) (take l.place l.listings)) [] (map pair_of l.chosen.items)
+invariant-loop-place l = record {
+  patterns : map matcher_pattern l.searchers.items ≡ lent_searches (lent_of l.filters);
+  listed : Adds (IsListed (PassesIn (question_view l.plan.filters)) (take l.place l.plan.asked.items) (take l.place l.listings)) [] (map pair_of l.chosen.items);
+}

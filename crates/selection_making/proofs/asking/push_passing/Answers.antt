@@ -1,17 +1,21 @@
-use Rattle.std.proofs.Common.{map, sym, subst, take_all, List, String}
+use Rattle.std.proofs.Common.{◌∙◌, map, sym, subst, take_all, List, String}
 use Rattle.std.specs.Global.{Global}
 use Rattle.list_facts.specs.Texts.{pair_of, texts}
-use Rattle.selection_making.specs.AskedViews.{binary_in}
+use Rattle.nextest_filter_readiness.specs.Questions.{ready_view}
 use Rattle.selection_making.specs.Kept.{Adds}
 use Rattle.selection_making.specs.Passing.{IsPassing}
-use Rattle.question_filters.specs.QuestionFilters.{question_view}
+use Rattle.question_filters.specs.QuestionFilters.{IsReadyFor}
 use Rattle.selection_making.proofs.ChoosingFacts.{one_name_more}
 use Rattle.selection_making.proofs.asking.push_passing.Goals as goal
 
 pub loop-name-preserved : goal.loop-name-preserved
 loop-name-preserved c =
-    one_name_more (question_view c.args.filters.now) (binary_in c.args.asked.now) c.args.id.now c.args.names.now c.loop-name.name-index c.name-item.result c.name-item.result c.as_str.result.now (map pair_of c.args.chosen.now.items) (map pair_of c.loop-name.chosen.items) (map pair_of c.push_if_passing.new.chosen.items) c.loop-name-test.true c.name-item.is (sym c.as_str.ensures.value) c.loop-name.invariant c.in_ok-push_if_passing.ensures
+    let was = c.loop-name.invariant in
+    record {
+      same = c.in_ok-push_if_passing.ensures.same ∙ was.same;
+      added = λ q b is. one_name_more q b c.args.id.now c.args.names.now c.loop-name.name-index c.name-item.result c.name-item.result c.as_str.result.now (map pair_of c.args.chosen.now.items) (map pair_of c.loop-name.chosen.items) (map pair_of c.push_if_passing.new.chosen.items) c.loop-name-test.true c.name-item.is (sym c.as_str.ensures.value) (was.added q b is) (c.in_ok-push_if_passing.ensures.added q b (subst (λ ps. IsReadyFor ps q b (ready_view c.args.ready.now)) (sym was.same) is));
+    }
 
-pub returns : goal.returns
-returns c =
-    subst (λ (ns : List (String Global)). Adds (IsPassing (question_view c.args.filters.now) (binary_in c.args.asked.now) c.args.id.now (texts ns)) (map pair_of c.args.chosen.now.items) (map pair_of c.loop-name.chosen.items)) (take_all c.loop-name.name-index c.args.names.now c.loop-name-test.false) c.loop-name.invariant
+pub returns-clause-added : goal.returns-clause-added
+returns-clause-added c q b is =
+    subst (λ (ns : List (String Global)). Adds (IsPassing q b c.args.id.now (texts ns)) (map pair_of c.args.chosen.now.items) (map pair_of c.loop-name.chosen.items)) (take_all c.loop-name.name-index c.args.names.now c.loop-name-test.false) (c.loop-name.invariant.added q b is)
