@@ -1,0 +1,3 @@
+pub mod RunFacts
+pub mod ReadingFacts
+pub mod SpecFacts
