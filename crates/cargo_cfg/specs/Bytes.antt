@@ -1,19 +1,20 @@
 -- The bytes of a text by their places.
 use Rattle.std.specs.Prelude.{ℕ, ◌+◌, Bool, ◌&&◌, ◌||◌, not, List, [], ◌∷◌, length, drop, nat_eq, nat_lt, nat_le, slice_index_or, Option, Some, None, if◌then◌else◌}
 use Rattle.cargo_cfg.specs.declared.bytes.Run.{Run}
-use Rattle.cargo_cfg.specs.declared.bytes.Run.TheVariants.{Blanks, Word, Quoted, Triple}
+use Rattle.cargo_cfg.specs.declared.bytes.Run.TheVariants.{Blanks, Word, Quoted, Triple, Line}
 
 -- a letter of ASCII, a digit or `_`
 abbrev pub is_word_byte : ℕ → Bool
 is_word_byte c =
     (nat_le 48 c && nat_le c 57) || (nat_le 65 c && nat_le c 90) || nat_eq c 95 || (nat_le 97 c && nat_le c 122)
 
--- the bytes of a run: blanks are spaces, and quoted is all but the quote
+-- the bytes of a run: blanks are spaces, and quoted is all but the quote, and a line all but its end
 abbrev pub passes : Run → ℕ → Bool
 passes Blanks c = nat_eq c 32
 passes Word c = is_word_byte c
 passes Quoted c = not (nat_eq c 34)
 passes Triple c = is_word_byte c || nat_eq c 45 || nat_eq c 46
+passes Line c = not (nat_eq c 10)
 
 -- how many bytes at the front of a text are of the run
 abbrev pub front : Run → List ℕ → ℕ

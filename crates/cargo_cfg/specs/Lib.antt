@@ -4,3 +4,5 @@ pub mod Settings
 pub mod Expressions
 pub mod Grammar
 pub mod Specs
+pub mod Printed
+pub mod TableAnswers

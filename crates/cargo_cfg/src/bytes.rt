@@ -8,6 +8,7 @@ pub(crate) enum Run {
     Word,
     Quoted,
     Triple,
+    Line,
 }
 
 /// Whether a letter of ASCII, a digit or `_`.
@@ -26,6 +27,7 @@ fn passes(run: Run, byte: u8) -> bool
         Run::Word => is_word_byte(byte),
         Run::Quoted => byte != b'"',
         Run::Triple => is_word_byte(byte) || byte == b'-' || byte == b'.',
+        Run::Line => byte != b'\n',
     }
 }
 

@@ -7,8 +7,12 @@ mod fault;
 mod head;
 mod reading;
 mod setting;
+mod settings;
 mod spec;
+mod table;
 
 pub use crate::fault::{SpecFault, Wanted};
 pub use crate::setting::CfgSetting;
+pub use crate::settings::{SettingsError, read_settings};
 pub use crate::spec::spec_holds;
+pub use crate::table::{TableError, table_of};

@@ -48,7 +48,5 @@ pub(crate) fn has_name(settings: &[CfgSetting], name: &[u8]) -> bool
 pub(crate) fn has_pair(settings: &[CfgSetting], name: &[u8], value: &[u8]) -> bool
     ensures { result ≡ list_any (spec.is_pair name.now value.now) settings.now }
 {
-    settings
-        .iter()
-        .any(|setting| is_pair(setting, name, value))
+    settings.iter().any(|setting| is_pair(setting, name, value))
 }
