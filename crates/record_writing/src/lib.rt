@@ -2,9 +2,9 @@
 #![tactic(auto)]
 
 mod choice;
+mod link;
 mod object;
 mod package;
-mod link;
 mod record;
 mod table;
 mod text;

@@ -90,7 +90,10 @@ fn push_target(alloc: Global, out: &mut String, target: &TargetRecord) -> Result
     let members = [
         ("kind", Member::Text(kind_name(target.kind))),
         ("name", Member::Text(target.name.as_str())),
-        ("required_features", Member::Texts(&target.required_features)),
+        (
+            "required_features",
+            Member::Texts(&target.required_features),
+        ),
         ("tested", Member::Flag(target.tested)),
         ("path", Member::Text(target.info.path.as_str())),
         ("edition", Member::Text(target.info.edition.as_str())),

@@ -31,7 +31,11 @@ fn push_default_filter(
     out: &mut String,
     filter: &Option<String>,
 ) -> Result<(), AllocError> {
-    push_more(alloc, out, &[("default_filter", Member::OptionalText(filter))])
+    push_more(
+        alloc,
+        out,
+        &[("default_filter", Member::OptionalText(filter))],
+    )
 }
 
 fn push_workspace(
@@ -41,8 +45,14 @@ fn push_workspace(
 ) -> Result<(), AllocError> {
     let members = [
         ("root", Member::Text(workspace.root.as_str())),
-        ("target_directory", Member::Text(workspace.target_directory.as_str())),
-        ("build_directory", Member::OptionalText(&workspace.build_directory)),
+        (
+            "target_directory",
+            Member::Text(workspace.target_directory.as_str()),
+        ),
+        (
+            "build_directory",
+            Member::OptionalText(&workspace.build_directory),
+        ),
         ("default_members", Member::Texts(&workspace.default_members)),
     ];
     push_members(alloc, out, &members)?;

@@ -17,6 +17,10 @@ fn push_answers(alloc: Global, out: &mut String, table: &PlatformTable) -> Resul
         out.push_str(if *answer { ":true" } else { ":false" })?;
     }
     out.push_str("\n},\"unknown_counts\":")?;
-    out.push_str(if table.unknown_counts { "true}\n" } else { "false}\n" })?;
+    out.push_str(if table.unknown_counts {
+        "true}\n"
+    } else {
+        "false}\n"
+    })?;
     Ok(())
 }
