@@ -1,0 +1,14 @@
+//! Records, choices and tables, written as the files that `record_files` reads.
+#![tactic(auto)]
+
+mod choice;
+mod link;
+mod object;
+mod package;
+mod record;
+mod table;
+mod text;
+
+pub use crate::choice::choice_text;
+pub use crate::record::record_text;
+pub use crate::table::table_text;
