@@ -96,14 +96,16 @@ impl CompiledExpr {
                 Ok(!x)
             }
             CompiledExpr::Union(x, y) => {
-                let x = x.value_of(alloc, query, groups, default)?;
-                let y = y.value_of(alloc, query, groups, default)?;
-                Ok(x || y)
+                if x.value_of(alloc, query, groups, default)? {
+                    return Ok(true);
+                }
+                y.value_of(alloc, query, groups, default)
             }
             CompiledExpr::Intersection(x, y) => {
-                let x = x.value_of(alloc, query, groups, default)?;
-                let y = y.value_of(alloc, query, groups, default)?;
-                Ok(x && y)
+                if !x.value_of(alloc, query, groups, default)? {
+                    return Ok(false);
+                }
+                y.value_of(alloc, query, groups, default)
             }
             CompiledExpr::Set(leaf) => leaf_holds(alloc, leaf, query, groups, default),
         }

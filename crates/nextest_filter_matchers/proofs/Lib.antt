@@ -1,4 +1,3 @@
-pub mod PlaceFacts
+pub mod WalkFacts
 pub mod ReadingFacts
-pub mod SuitFacts
 pub mod PrintFacts

@@ -1,5 +1,5 @@
 -- Globs, and which texts they match.
-use Rattle.std.specs.Prelude.{◌≡◌, ℕ, ◌+◌, ◌<◌, ◌≤◌, Bool, true, ◌⊎◌, ◌&&◌, not, List, length, nat_eq, nat_le, slice_index_or}
+use Rattle.std.specs.Prelude.{◌≡◌, ℕ, ◌+◌, ◌<◌, ◌≤◌, Bool, true, ◌⊎◌, ◌&&◌, not, List, [], ◌∷◌, length, nat_eq, nat_le, slice_index_or}
 use Rattle.std.specs.List.{list_any}
 
 -- what one character may be; of a class, whether it is the complement, and its ranges
@@ -69,3 +69,8 @@ module _ (text : List ℕ) where
 -- the glob matches the whole text, given by its characters
 abbrev pub GlobMatches : Glob → List ℕ → Type 0
 GlobMatches glob text = Suits text glob 0 (length text)
+
+-- the glob whose tokens are these characters
+abbrev pub spelled : List ℕ → Glob
+spelled [] = Empty
+spelled (c ∷ text) = Then (Single (One (Character c))) (spelled text)

@@ -7,7 +7,7 @@ use Rattle.std.proofs.Common.{refl, sym, ap, subst}
 use Rattle.std.proofs.lemmas.Bool.{false≢true, and_parts, and_from}
 use Rattle.std.proofs.lemmas.Bool.{eqb-true, eq-eqb}
 use Rattle.nextest_filter_matchers.specs.declared.glob_error.GlobError.{GlobError}
-use Rattle.nextest_filter_matchers.specs.Globs.{Glob, Token, CharacterSet, Empty, Single, Then, Either, One, AnyText, LeadingDirectories, InnerDirectories, TrailingDirectories, Character, Any, Class}
+use Rattle.nextest_filter_matchers.specs.Globs.{Glob, Token, CharacterSet, Empty, Single, Then, Either, One, AnyText, LeadingDirectories, InnerDirectories, TrailingDirectories, Character, Any, Class, spelled}
 
 abbrev pub DecidesEquality : {X : Type 0} → (X → X → Bool) → Type 0
 DecidesEquality {X} E = (x y : X) → Decides (E x y) (x ≡ y)
@@ -117,6 +117,19 @@ from_read r glob e = subst (λ s. is_read_as s glob ≡ true) (sym e) ((globs_de
 pub to_read : (r : Result Glob GlobError) (glob : Glob) → is_read_as r glob ≡ true → r ≡ Ok glob
 to_read (Ok read) glob h = ap Ok ((globs_decide read glob).0 h)
 to_read (Err error) glob h = absurd (false≢true h)
+
+-- the glob's tokens are the characters of its text, where it is said to be plain
+abbrev pub is_plainly : Bool → List ℕ → Glob → Bool
+is_plainly true text glob = glob_eq glob (spelled text)
+is_plainly false text glob = true
+
+pub to_spelled : (is_plain : Bool) (text : List ℕ) (glob : Glob) → is_plain ≡ true → is_plainly is_plain text glob ≡ true → glob ≡ spelled text
+to_spelled true text glob e h = (globs_decide glob (spelled text)).0 h
+to_spelled false text glob e h = absurd (false≢true e)
+
+pub from_spelled : (is_plain : Bool) (text : List ℕ) (glob : Glob) → (is_plain ≡ true → glob ≡ spelled text) → is_plainly is_plain text glob ≡ true
+from_spelled true text glob h = (globs_decide glob (spelled text)).1 (h refl)
+from_spelled false text glob h = refl
 
 -- what tells matchers apart: `implicit` for texts alone, globs by their tokens, patterns by their text
 pub data Identity : Type 0 where

@@ -1,6 +1,6 @@
 pub mod Globs
 pub mod GlobViews
-pub mod Places
+pub mod Walks
 pub mod GlobReading
 pub mod ReadingViews
 pub mod Matchers

@@ -1,14 +1,15 @@
-ghost use Rattle.std.specs.Prelude.{◌≡◌, ◌↔◌, IfOk, IsTrue, string_bytes, true};
+ghost use Rattle.std.specs.Prelude.{◌≡◌, ◌≤◌, ◌↔◌, IfOk, IsTrue, string_bytes, true};
 ghost use Rattle.std.specs.Str.{chars};
 ghost use Rattle.nextest_filter_matchers.specs.GlobReading.{read_glob};
 ghost use Rattle.nextest_filter_matchers.specs.GlobViews.{glob_of};
-ghost use Rattle.nextest_filter_matchers.specs.Identities.{is_read_as};
+ghost use Rattle.nextest_filter_matchers.specs.Globs.{GlobMatches};
+ghost use Rattle.nextest_filter_matchers.specs.Identities.{is_plainly, is_read_as};
+ghost use Rattle.nextest_filter_matchers.specs.Walks.{room as room_of};
 
-use crate::glob_between::suits_whole;
 use crate::glob_error::GlobError;
 use crate::glob_pattern::Pattern;
-use crate::glob_places::{characters_of, leads_to_the_end};
 use crate::glob_reading::read_pattern;
+use crate::glob_walk::walks_through;
 use std::alloc::{AllocError, Global};
 use std::fmt;
 
@@ -17,25 +18,37 @@ use std::fmt;
 pub struct GenericGlob {
     text: String,
     pattern: Pattern,
-    alloc: Global,
+    /// Whether the tokens are the text's characters.
+    is_plain: bool,
+    /// How many flags a walk takes.
+    room: usize,
     ghost has_tokens: { is_read_as (read_glob (chars (string_bytes text))) (glob_of pattern) ≡ true },
+    ghost is_spelled: { is_plainly is_plain (chars (string_bytes text)) (glob_of pattern) ≡ true },
+    ghost has_room: { room_of (glob_of pattern) ≤ room },
+    ghost fits: { room ≤ 65536 },
 }
 
 impl GenericGlob {
     ghost use Rattle.nextest_filter_matchers.specs.Globs.{GlobMatches};
     ghost use Rattle.nextest_filter_matchers.specs.Matchers.{glob_text, tokens_of, is_glob_read};
 
-    /// Reads a glob, or says why the text is none.
+    /// Reads a glob, or says why the text is none. One whose walk takes more flags than are set aside
+    /// for it is refused as one for which there is no memory.
     pub fn new(alloc: Global, text: String) -> Result<Result<GenericGlob, GlobError>, AllocError>
         ensures { IfOk result (λ r. is_glob_read (string_bytes text) r) }
     {
         let characters = characters_of(alloc, text.as_str())?;
         match read_pattern(alloc, &characters)? {
-            Ok(pattern) => Ok(Ok(GenericGlob {
-                text,
-                pattern,
-                alloc,
-            })),
+            Ok(pattern) => {
+                let is_plain = pattern.spells(&characters);
+                let room = pattern.room().ok_or(AllocError)?;
+                Ok(Ok(GenericGlob {
+                    text,
+                    pattern,
+                    is_plain,
+                    room,
+                }))
+            }
             Err(error) => Ok(Err(error)),
         }
     }
@@ -47,15 +60,14 @@ impl GenericGlob {
         self.text.as_str()
     }
 
-    /// Whether the glob matches the whole text, in time of its tokens times the text's characters
-    /// where there is memory for sets of places.
+    /// Whether the glob matches the whole text, in time of its tokens times the text's characters.
     pub fn is_match(&self, text: &str) -> bool
         ensures { IsTrue result ↔ GlobMatches (tokens_of self.now) (chars text.now) }
     {
-        match leads_to_the_end(self.alloc, &self.pattern, text) {
-            Ok(matches) => matches,
-            Err(_) => suits_whole(&self.pattern, text),
+        if self.is_plain {
+            return self.text.as_str() == text;
         }
+        walks_through(&self.pattern, self.room, text)
     }
 
     /// An equal glob in memory of its own.
@@ -68,9 +80,18 @@ impl GenericGlob {
         Ok(GenericGlob {
             text,
             pattern,
-            alloc,
+            is_plain: self.is_plain,
+            room: self.room,
         })
     }
+}
+
+/// The characters of a text.
+fn characters_of(alloc: Global, text: &str) -> Result<Vec<char>, AllocError>
+    ensures { IfOk result (λ v. v.items ≡ chars text.now) }
+{
+    let characters: Vec<char> = text.chars().collect(alloc)?;
+    Ok(characters)
 }
 
 impl PartialEq for GenericGlob {

@@ -1,4 +1,6 @@
+ghost use Rattle.std.specs.List.{list_any};
 ghost use Rattle.std.specs.Prelude.{◌≡◌, IfOk};
+ghost use Rattle.nextest_filter_matchers.specs.Globs.{is_in_range, is_in_set};
 ghost use Rattle.nextest_filter_matchers.specs.GlobViews.{glob_of, set_of, token_of};
 ghost use Rattle.nextest_filter_matchers.specs.Identities.{glob_eq, set_eq, token_eq};
 
@@ -41,6 +43,20 @@ pub(crate) enum Pattern {
 }
 
 impl CharacterSet {
+    /// Whether the character is one of the set.
+    pub(crate) fn has(&self, c: char) -> bool
+        ensures { result ≡ is_in_set (set_of self.now) c }
+    {
+        match self {
+            CharacterSet::Character(d) => c == *d,
+            CharacterSet::Any => true,
+            CharacterSet::Class {
+                is_complement,
+                ranges,
+            } => is_within(ranges.as_slice(), c) != *is_complement,
+        }
+    }
+
     /// Whether both are made of the same ranges in the same order, or are the same otherwise.
     fn is_same(&self, other: &CharacterSet) -> bool
         ensures { result ≡ set_eq (set_of self.now) (set_of other.now) }
@@ -81,6 +97,12 @@ impl CharacterSet {
             }
         }
     }
+}
+
+fn is_within(ranges: &[(char, char)], c: char) -> bool
+    ensures { result ≡ list_any (is_in_range c) ranges.now }
+{
+    ranges.iter().any(|(low, high)| *low <= c && c <= *high)
 }
 
 impl Token {

@@ -5,11 +5,10 @@
 
 mod escaped;
 mod generic_glob;
-mod glob_between;
 mod glob_error;
 mod glob_pattern;
-mod glob_places;
 mod glob_reading;
+mod glob_walk;
 pub mod laws;
 mod name_matcher;
 mod source_span;

@@ -76,7 +76,7 @@ module _ (text : List ℕ) where
       subst (IsLeafIn (length text)) (sym from.is) (named_in n 40 41 from.inner from.end j from.opens from.closes)
   leaf_in i j l (Says word n) ends from =
       let low = ends.0 in
-      let high = ends.1.0 in
+      let high = ends.1 in
       subst (IsLeafIn (length text)) (sym from.is) (nullary_in word i j (omega (arith, low, high)) (stands_in from.end 41 j from.closes).1)
   leaf_in i j l (Negates op n) ends from = absurd from
   leaf_in i j l (Opens n) ends from = absurd from

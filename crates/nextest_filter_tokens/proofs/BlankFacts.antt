@@ -1,5 +1,5 @@
 -- Blanks are passed one at a time.
-use Rattle.std.proofs.Common.{◌≡◌, ℕ, zero, suc, ◌+◌, ◌-◌, ◌<◌, ◌≤◌, true, List, [], ◌∷◌, length, cond, refl, ◌∙◌, ap, arith}
+use Rattle.std.proofs.Common.{◌≡◌, ℕ, zero, suc, ◌+◌, ◌-◌, ◌<◌, ◌≤◌, true, List, [], ◌∷◌, length, nat_eq, cond, refl, ◌∙◌, ap, arith}
 use Rattle.std.proofs.lemmas.Bool.{ne_eqb, eq-eqb, eqb-true, and_parts, ltb-true, cond_both}
 use Rattle.std.proofs.lemmas.Str.{IsCharBoundary-after_ascii}
 use Rattle.std.specs.Str.{IsUtf8, IsCharBoundary}
@@ -40,7 +40,10 @@ byte_within text i c h = ltb-true i (length text) (and_parts _ _ h).0
 pub blanks_rise : (text : List ℕ) (n i : ℕ) → i ≤ blanks_from text n i
 blanks_rise text zero i = omega arith
 blanks_rise text (suc n) i =
-    cond_both _ _ _ (λ k. i ≤ k) (λ _. omega arith) (λ _. let more = blanks_rise text n (i + blank_length text i) in omega (arith, more))
+    let same : i ≤ i = omega arith in
+    let more = blanks_rise text n (i + blank_length text i) in
+    let later : i ≤ blanks_from text n (i + blank_length text i) = omega (arith, more) in
+    cond_both (nat_eq (blank_length text i) 0) i (blanks_from text n (i + blank_length text i)) (λ k. i ≤ k) (λ _. same) (λ _. later)
 
 -- the place after blanks is no earlier one
 pub skip_rises : (text : List ℕ) (i : ℕ) → i ≤ skip text i

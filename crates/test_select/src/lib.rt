@@ -8,6 +8,7 @@ mod explanations;
 mod failure;
 mod file_source;
 mod inputs;
+pub mod laws;
 mod order;
 mod program;
 mod selections;
@@ -17,20 +18,23 @@ pub use crate::order::{package_order, write_order};
 pub use crate::program::run;
 pub use feature_account::{
     Feature, FeatureChoice, FeatureRecord, GroupRecord, Label, LineKind, LineRecord, LinkRecord,
-    MemberRecord, PackageInfo, PackageRecord, PlatformTable, Standard, TargetInfo, TargetKind,
-    TargetRecord, Verdict, WorkspaceInfo, WorkspaceRecord, check_account, check_explanation,
+    MemberRecord, PackageInfo, PackageRecord, PlatformTable, Premises, Rule, Standard, TargetInfo,
+    TargetKind, TargetRecord, Verdict, WorkspaceInfo, WorkspaceRecord, check_account,
+    check_explanation, rules,
 };
+pub use graph_switching::{dependency_order, switched_on};
+pub use line_verdicts::LineVerdict;
 pub use question_filters::LinkScope;
 pub use record_checks::{
-    Account, FeaturesOn, GroupTable, ParseSingleError, RecordError, RecordRule, SelectError,
-    SourceSpan, WriteAccountError, account, check_record, explain, features_on, write_account,
-    write_explanation,
+    Account, FeaturesOn, GroupFilter, GroupTable, ParseSingleError, RecordError, RecordFilters,
+    RecordRule, SelectError, SourceSpan, WriteAccountError, account, check_record, context_over,
+    declared_graph, explain, features_on, record_filters, write_account, write_explanation,
 };
 pub use record_files::{
     AccountFile, Field, Key, ReadError, read_account, read_choice, read_listings, read_record,
     read_table,
 };
-pub use selection_making::{Selection, laws, select, select_plain, write_report};
+pub use selection_making::{Selection, select, select_plain, write_report};
 pub use test_lister::{
     BinaryInfo, BuildPlatform, FileLister, ListFault, Listing, ListingFault, TestLister,
 };

@@ -1,0 +1,3 @@
+pub mod ReadyFacts
+pub mod ReducingFacts
+pub mod QuestionFacts

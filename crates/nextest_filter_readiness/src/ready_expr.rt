@@ -1,0 +1,74 @@
+//! What is still asked of a test, where its binary is known.
+
+ghost use Rattle.std.specs.Prelude.{◌≡◌, ◌↔◌, IsTrue, Some, map, slice_get, true};
+ghost use Rattle.regex.specs.Strings.{matcher_pattern};
+ghost use Rattle.nextest_filter_evaluation.specs.Formulas.{Holds};
+ghost use Rattle.nextest_filter_readiness.specs.Ready.{IsFound, Says, ready_of};
+
+use nextest_filter_matchers::GenericGlob;
+use regex::Matcher;
+
+/// A filter made ready for the tests of one binary.
+#[derive(Drop)]
+pub enum ReadyExpr<'f> {
+    /// All tests of the binary, or none.
+    Known(bool),
+    Not(Box<ReadyExpr<'f>>),
+    Union(Box<ReadyExpr<'f>>, Box<ReadyExpr<'f>>),
+    Intersection(Box<ReadyExpr<'f>>, Box<ReadyExpr<'f>>),
+    /// The test of this name.
+    Equal(&'f str),
+    /// Tests whose names contain the text.
+    Contains(&'f str),
+    /// Tests whose names the glob matches.
+    Glob(&'f GenericGlob),
+    /// Tests in whose names the pattern of the searcher at the place is found.
+    Pattern(usize),
+    /// Tests of groups, by a flag for each.
+    Groups(Vec<bool>),
+}
+
+impl<'f> ReadyExpr<'f> {
+    /// Whether the filter holds of the test with the name, whose group is at the place. No more is asked
+    /// than the answer takes.
+    pub fn holds(&self, searchers: &mut [Matcher<'f>], group: usize, name: &str) -> bool
+        ensures holds { IsTrue result ↔ Holds (Says (map matcher_pattern searchers.old) group name.now) (ready_of self.now) }
+        ensures same { map matcher_pattern searchers.new ≡ map matcher_pattern searchers.old }
+    {
+        match self {
+            ReadyExpr::Known(value) => *value,
+            ReadyExpr::Not(x) => !x.holds(searchers, group, name),
+            ReadyExpr::Union(x, y) => {
+                x.holds(searchers, group, name) || y.holds(searchers, group, name)
+            }
+            ReadyExpr::Intersection(x, y) => {
+                x.holds(searchers, group, name) && y.holds(searchers, group, name)
+            }
+            ReadyExpr::Equal(text) => *text == name,
+            ReadyExpr::Contains(text) => name.contains(*text),
+            ReadyExpr::Glob(glob) => glob.is_match(name),
+            ReadyExpr::Pattern(place) => is_found(searchers, *place, name),
+            ReadyExpr::Groups(flags) => is_set(flags, group),
+        }
+    }
+}
+
+fn is_found<'f>(searchers: &mut [Matcher<'f>], place: usize, name: &str) -> bool
+    ensures found { IsTrue result ↔ IsFound (map matcher_pattern searchers.old) place name.now }
+    ensures same { map matcher_pattern searchers.new ≡ map matcher_pattern searchers.old }
+{
+    if place >= searchers.len() {
+        return false;
+    }
+    searchers[place].is_match(name)
+}
+
+/// Whether the flag at the place is set.
+fn is_set(flags: &[bool], place: usize) -> bool
+    ensures { IsTrue result ↔ (slice_get flags.now place ≡ Some true) }
+{
+    match flags.get(place) {
+        Some(flag) => *flag,
+        None => false,
+    }
+}
