@@ -1,10 +1,10 @@
 -- Lines that list tests, one after the other.
-use Rattle.std.proofs.Common.{◌≡◌, ◌++◌, ◌∷◌, [], ◌==◌, ◌+◌, ◌<◌, ℕ, List, Bool, true, false, true≢false, not, Bor, Global, Option, Some, None, IfSome, IfNone, String, is_some, length, get_or, map, take, string_bytes, sym, ap, refl, ◌∙◌, subst, codes, arith}
+use Rattle.std.proofs.Common.{◌≡◌, ◌++◌, ◌∷◌, [], ◌==◌, ◌+◌, ◌<◌, ℕ, List, Bool, true, false, true≢false, Bor, Global, Option, Some, None, IfSome, IfNone, String, is_some, length, get_or, map, take, string_bytes, sym, ap, refl, ◌∙◌, subst, codes, arith}
 use Rattle.std.proofs.lemmas.Bool.Decides.{nat_tests}
 use Rattle.std.proofs.lemmas.List.{append-nil, map-append}
 use Rattle.list_facts.proofs.Lists.{map-take_more}
 use Rattle.workspace_record.specs.Records.{Text}
-use Rattle.cargo_listings.specs.Terse.{IsStray, ListTests, Takes, nothing, test, benchmark, empty}
+use Rattle.cargo_listings.specs.Terse.{ListTests, Takes, nothing, test, benchmark, empty}
 
 -- lines behind lines list the tests of both
 pub list_more : (xs ys ns ms : List Text) → ListTests xs ns → ListTests ys ms → ListTests (xs ++ ys) (ns ++ ms)

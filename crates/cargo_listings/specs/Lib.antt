@@ -1,1 +1,2 @@
 pub mod Terse
+pub mod Nextest

@@ -1,5 +1,5 @@
 -- What a test program prints when it is asked for its tests with `--list --format terse`.
-use Rattle.std.specs.Prelude.{◌≡◌, ℕ, ◌<◌, Bool, true, false, List, [], ◌∷◌, ◌++◌, length, get_or, codes}
+use Rattle.std.specs.Prelude.{◌≡◌, ◌<◌, Bool, true, false, List, [], ◌∷◌, ◌++◌, length, get_or, codes}
 use Rattle.workspace_record.specs.Records.{Text}
 use Rattle.cargo_listings.specs.declared.terse.TerseFault.{TerseFault}
 use Rattle.cargo_listings.specs.declared.terse.TerseFault.TheVariants.{NoTest, Memory}

@@ -1,8 +1,9 @@
-//! Records, choices and tables, written as the files that `record_files` reads.
+//! Records, choices, tables and listings, written as the files that `record_files` reads.
 #![tactic(auto)]
 
 mod choice;
 mod link;
+mod listings;
 mod object;
 mod package;
 mod record;
@@ -10,5 +11,6 @@ mod table;
 mod text;
 
 pub use crate::choice::choice_text;
+pub use crate::listings::listings_text;
 pub use crate::record::record_text;
 pub use crate::table::table_text;

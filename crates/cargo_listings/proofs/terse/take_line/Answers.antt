@@ -1,4 +1,4 @@
-use Rattle.std.proofs.Common.{◌∙◌, map, string_bytes}
+use Rattle.std.proofs.Common.{map, string_bytes}
 use Rattle.cargo_listings.proofs.TerseFacts.{pushed, takes_if_benchmark, takes_rest, takes_test}
 use Rattle.cargo_listings.proofs.terse.take_line.Goals as goal
 
