@@ -1,6 +1,6 @@
 //! Filter texts, compiled.
 
-ghost use Rattle.std.specs.Prelude.{◌≡◌, ◌↔◌, ◌<◌, Bool, Some, false, IfErr, IfOk, IsOk, IsTrue, codes, string_bytes, vec_len};
+ghost use Rattle.std.specs.Prelude.{◌≡◌, ◌↔◌, ◌<◌, Bool, Some, true, false, IfErr, IfOk, IsOk, IsTrue, codes, string_bytes, vec_len};
 ghost use Rattle.std.specs.Str.Iter.{HasSubslice};
 ghost use Rattle.nextest_filter_faults.specs.declared.filterset_kind.FiltersetKind.TheVariants.{Test};
 ghost use Rattle.nextest_filter_syntax.specs.Grammar.{ReadsWhole};
