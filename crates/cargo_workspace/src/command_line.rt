@@ -53,7 +53,7 @@ impl Subcommand {
 }
 
 /// The subcommands, in the order of the help.
-const SUBCOMMANDS: [Subcommand; 3] = [
+const SUBCOMMANDS: [Subcommand; 4] = [
     Subcommand {
         name: "record",
         about: "Prints the record of a workspace",
@@ -122,6 +122,33 @@ const SUBCOMMANDS: [Subcommand; 3] = [
                 name: "all-features",
                 shape: Shape::Flag,
                 help: "Asks for all features of all members",
+            },
+        ],
+    },
+    Subcommand {
+        name: "listings",
+        about: "Prints the listings of the test binaries of a record",
+        help: LISTINGS_HELP,
+        words: &[
+            Word {
+                name: "record",
+                shape: Shape::Option,
+                help: "The record whose binaries are listed",
+            },
+            Word {
+                name: "built",
+                shape: Shape::Flag,
+                help: "Leaves out binaries without a list",
+            },
+            Word {
+                name: "nextest",
+                shape: Shape::Flag,
+                help: "LISTS is what `cargo nextest list --message-format json` printed",
+            },
+            Word {
+                name: "lists",
+                shape: Shape::File,
+                help: "A folder with what each binary printed for `--list --format terse`",
             },
         ],
     },
@@ -199,6 +226,13 @@ of the member.
 
 Exit status: 0 if the choice is printed; 1 if the record or a name is refused, with the reason and
 near names on standard error; 2 for a bad command line.";
+
+const LISTINGS_HELP: &str =
+    "Output: the listings, as JSON: under each binary's id the names of its tests, in their order.
+Benchmarks are left out. In the folder the list of a binary has the binary's id as its path.
+
+Exit status: 0 if the listings are printed; 1 if the record or a list is refused, with the binary's
+id on standard error; 2 for a bad command line.";
 
 const STATUSES: &str = "A file may be /dev/stdin.
 

@@ -1,6 +1,7 @@
 //! The conversions, each from the bytes of its files to the text of the one that is made.
 
 use crate::failure::Failure;
+use crate::lists::{Listings, binary_ids, folder_listings, nextest_listings};
 use crate::refusal::Refusal;
 use cargo_cfg::{CfgSetting, read_settings, table_of};
 use cargo_choice::{FeatureWords, choice_of};
@@ -8,7 +9,7 @@ use cargo_metadata::read_metadata;
 use cargo_record::{Wanted, record_of};
 use clap::ArgMatches;
 use record_files::read_record;
-use record_writing::{choice_text, record_text, table_text};
+use record_writing::{choice_text, listings_text, record_text, table_text};
 use std::alloc::{AllocGlobal, Global};
 use std::fs;
 use std::io::ErrorKind;
@@ -24,6 +25,7 @@ pub(crate) fn converted<'a, R: Files + AllocGlobal>(
         Some(("record", asked)) => record_made(rt, asked),
         Some(("table", asked)) => table_made(rt, asked),
         Some(("choice", asked)) => choice_made(rt, asked),
+        Some(("listings", asked)) => listings_made(rt, asked),
         _ => Ok(String::new(rt.alloc())),
     }
 }
@@ -105,6 +107,27 @@ fn choice_from(alloc: Global, bytes: &[u8], words: FeatureWords<'_>) -> Result<S
     let record = read_record(alloc, bytes)?;
     let choice = choice_of(alloc, &record, words)?;
     Ok(choice_text(alloc, &choice)?)
+}
+
+fn listings_made<'a, R: Files + AllocGlobal>(
+    rt: &R,
+    asked: &ArgMatches<'a>,
+) -> Result<String, Failure<'a>> {
+    let name = required(asked, "record");
+    let bytes = bytes_in(rt, name)?;
+    let ids = accepted(name, binary_ids(rt.alloc(), &bytes))?;
+    let (lists, built) = (required(asked, "lists"), asked.get_flag("built"));
+    if asked.get_flag("nextest") {
+        let bytes = bytes_in(rt, lists)?;
+        let listings = nextest_listings(rt.alloc(), &bytes, &ids, built);
+        return accepted(lists, text_of_listings(rt.alloc(), listings));
+    }
+    let listings = folder_listings(rt, lists, &ids, built);
+    accepted(lists, text_of_listings(rt.alloc(), listings))
+}
+
+fn text_of_listings(alloc: Global, listings: Result<Listings, Refusal>) -> Result<String, Refusal> {
+    Ok(listings_text(alloc, &listings?)?)
 }
 
 /// The value of a required word, without which `clap` takes no command line.

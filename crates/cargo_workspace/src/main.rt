@@ -5,6 +5,7 @@
 mod command_line;
 mod conversions;
 mod failure;
+mod lists;
 mod refusal;
 
 use crate::command_line::command;

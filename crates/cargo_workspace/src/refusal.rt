@@ -5,7 +5,7 @@ use cargo_choice::ChoiceFault;
 use cargo_metadata::MetadataError;
 use cargo_record::RecordFault;
 use record_files::ReadError;
-use std::alloc::AllocError;
+use std::alloc::{AllocError, AllocFailed};
 use std::fmt;
 
 /// Why a file is refused.
@@ -18,6 +18,14 @@ pub(crate) enum Refusal {
     Choice(ChoiceFault),
     /// The file of a record cannot be read.
     File(ReadError),
+    /// The list of nextest is no JSON.
+    NoJson,
+    /// There is no list of the tests of a binary.
+    NoList(String),
+    /// The file of a binary's list cannot be read, or is no text.
+    UnreadList(String),
+    /// A line of a binary's list, by its place, is no test's.
+    StrayLine(String, usize),
     Memory,
 }
 
@@ -33,8 +41,30 @@ impl fmt::Display for Refusal {
             Refusal::Table(error) => write!(f, "{error}: write it as Cargo's manual says"),
             Refusal::Choice(fault) => write!(f, "{fault}"),
             Refusal::File(error) => write!(f, "{error}: run `cargo_workspace record`"),
+            Refusal::NoJson => f.write_str(
+                "not JSON: run `cargo nextest list --message-format json`",
+            ),
             Refusal::Memory => f.write_str("out of memory"),
+            _ => write_list_fault(f, self),
         }
+    }
+}
+
+fn write_list_fault<W: fmt::Write>(f: &mut fmt::Formatter<W>, refusal: &Refusal) -> fmt::Result {
+    match refusal {
+        Refusal::NoList(id) => write!(
+            f,
+            "binary {id} has no list: run it with `--list --format terse`, or give --built",
+        ),
+        Refusal::UnreadList(id) => write!(
+            f,
+            "binary {id}: its list cannot be read: run it with `--list --format terse`",
+        ),
+        Refusal::StrayLine(id, place) => write!(
+            f,
+            "binary {id}: its list has a line that is no test, behind {place} others: run it with `--list --format terse`",
+        ),
+        _ => Ok(()),
     }
 }
 
@@ -76,6 +106,12 @@ impl From<ReadError> for Refusal {
 
 impl From<AllocError> for Refusal {
     fn from(_: AllocError) -> Refusal {
+        Refusal::Memory
+    }
+}
+
+impl<T: Drop> From<AllocFailed<T>> for Refusal {
+    fn from(_: AllocFailed<T>) -> Refusal {
         Refusal::Memory
     }
 }
