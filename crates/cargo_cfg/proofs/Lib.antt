@@ -1,0 +1,5 @@
+pub mod RunFacts
+pub mod ReadingFacts
+pub mod SpecFacts
+pub mod PrintedFacts
+pub mod TableFacts

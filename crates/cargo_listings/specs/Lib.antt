@@ -1,0 +1,2 @@
+pub mod Terse
+pub mod Nextest

@@ -1,0 +1,8 @@
+-- What is missing or of the wrong kind.
+use Rattle.workspace_record.specs.Records.{Text}
+use Rattle.cargo_metadata.specs.declared.key.Key.{Key}
+
+-- a fault: at a key, or of a target with a kind that is not known, by its package, its name and the kind
+pub data Fault : Type 0 where
+  at_key : Key → Fault
+  unknown_kind : Text → Text → Text → Fault

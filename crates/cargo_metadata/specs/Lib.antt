@@ -1,0 +1,11 @@
+pub mod Keys
+pub mod Faults
+pub mod Outcomes
+pub mod Values
+pub mod Files
+pub mod Folders
+pub mod Details
+pub mod Dependencies
+pub mod Packages
+pub mod Resolved
+pub mod Metadata

@@ -1,0 +1,76 @@
+//! The whole record.
+
+ghost use Rattle.std.specs.Prelude.{◌≡◌, IfOk, map};
+ghost use Rattle.cargo_record.specs.Kept as spec;
+
+use crate::fault::RecordFault;
+use crate::lines::links_of;
+use crate::members::{Wanted, workspace_of};
+use crate::packages::kept_rows;
+use cargo_metadata::Metadata;
+use std::alloc::Global;
+use workspace_record::{LinkRecord, PackageRecord, WorkspaceInfo, WorkspaceRecord};
+
+/// The record of a workspace, of which these members are asked about. It has the packages that Cargo
+/// lists, in order, without those targets that require a feature of another package, and a line for
+/// each dependency that was resolved.
+pub fn record_of(
+    alloc: Global,
+    metadata: &Metadata,
+    wanted: Wanted<'_>,
+) -> Result<WorkspaceRecord, RecordFault>
+    ensures packages { IfOk result (λ w. w.packages ≡ map spec.kept_row metadata.now.packages) }
+{
+    check_format(metadata)?;
+    let workspace = workspace_of(alloc, metadata, wanted)?;
+    let packages = kept_rows(alloc, &metadata.packages)?;
+    with_links(alloc, metadata, without_links(alloc, packages, workspace))
+}
+
+fn check_format(metadata: &Metadata) -> Result<(), RecordFault> {
+    if metadata.format == Some(1) {
+        Ok(())
+    } else {
+        Err(RecordFault::Format)
+    }
+}
+
+fn without_links(
+    alloc: Global,
+    packages: Vec<PackageRecord>,
+    workspace: WorkspaceInfo,
+) -> WorkspaceRecord
+    ensures packages { result.packages ≡ packages.items }
+    ensures workspace { result.workspace ≡ workspace }
+{
+    WorkspaceRecord {
+        packages,
+        links: Vec::new(alloc),
+        workspace,
+        groups: Vec::new(alloc),
+        default_filter: None,
+    }
+}
+
+fn with_links(
+    alloc: Global,
+    metadata: &Metadata,
+    rows: WorkspaceRecord,
+) -> Result<WorkspaceRecord, RecordFault>
+    ensures packages { IfOk result (λ w. w.packages ≡ rows.packages) }
+    ensures workspace { IfOk result (λ w. w.workspace ≡ rows.workspace) }
+{
+    links_of(alloc, &rows, metadata).map(|links| linked(rows, links))
+}
+
+fn linked(rows: WorkspaceRecord, links: Vec<LinkRecord>) -> WorkspaceRecord
+    ensures { result ≡ record rows { links = links.items } }
+{
+    WorkspaceRecord {
+        packages: rows.packages,
+        links,
+        workspace: rows.workspace,
+        groups: rows.groups,
+        default_filter: rows.default_filter,
+    }
+}

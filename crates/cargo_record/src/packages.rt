@@ -1,0 +1,92 @@
+//! The packages of the record.
+
+ghost use Rattle.std.specs.Prelude.{◌≡◌, IfOk, filter, map, string_bytes};
+ghost use Rattle.std.specs.List.{list_all};
+ghost use Rattle.cargo_record.specs.Kept as spec;
+
+use cargo_metadata::DeclaringPackage;
+use std::alloc::{AllocError, Global};
+use workspace_record::{FeatureRecord, PackageRecord, TargetRecord};
+
+/// The packages, in order, each with just those targets whose required features are all of its own.
+pub(crate) fn kept_rows(
+    alloc: Global,
+    packages: &[DeclaringPackage],
+) -> Result<Vec<PackageRecord>, AllocError>
+    ensures { IfOk result (λ v. v.items ≡ map spec.kept_row packages.now) }
+{
+    let mut rows = Vec::with_capacity(alloc, packages.len())?;
+    for package in packages {
+        rows.push(kept_row(alloc, &package.row)?)?;
+    }
+    Ok(rows)
+}
+
+fn kept_row(alloc: Global, row: &PackageRecord) -> Result<PackageRecord, AllocError>
+    ensures { IfOk result (λ p. p ≡ spec.kept row.now) }
+{
+    let targets = own_targets(alloc, &row.features, &row.targets)?;
+    Ok(with_targets(row.copy(alloc)?, targets))
+}
+
+fn with_targets(row: PackageRecord, targets: Vec<TargetRecord>) -> PackageRecord
+    ensures { result ≡ record row { targets = targets.items } }
+{
+    PackageRecord {
+        id: row.id,
+        name: row.name,
+        version: row.version,
+        features: row.features,
+        optional: row.optional,
+        targets,
+        info: row.info,
+    }
+}
+
+fn own_targets(
+    alloc: Global,
+    features: &[FeatureRecord],
+    targets: &[TargetRecord],
+) -> Result<Vec<TargetRecord>, AllocError>
+    ensures { IfOk result (λ v. v.items ≡ filter (spec.requires_own features.now) targets.now) }
+{
+    let mut own = Vec::new(alloc);
+    for target in targets {
+        if requires_own(features, target) {
+            own.push(target.copy(alloc)?)?;
+        }
+    }
+    Ok(own)
+}
+
+/// Whether each required feature of a target is one of these.
+pub(crate) fn requires_own(features: &[FeatureRecord], target: &TargetRecord) -> bool
+    ensures { result ≡ spec.requires_own features.now target.now }
+{
+    are_features(features, &target.required_features)
+}
+
+fn are_features(features: &[FeatureRecord], names: &[String]) -> bool
+    ensures { result ≡ list_all (λ s. spec.is_feature features.now (string_bytes s)) names.now }
+{
+    names.iter().all(|name| is_feature(features, name.as_str()))
+}
+
+/// The first required feature of a target that is none of these.
+pub(crate) fn foreign_feature<'a>(
+    features: &[FeatureRecord],
+    target: &'a TargetRecord,
+) -> Option<&'a str> {
+    for name in &target.required_features {
+        if !is_feature(features, name.as_str()) {
+            return Some(name.as_str());
+        }
+    }
+    None
+}
+
+fn is_feature(features: &[FeatureRecord], name: &str) -> bool
+    ensures { result ≡ spec.is_feature features.now name.now }
+{
+    features.iter().any(|feature| feature.name.as_str() == name)
+}

@@ -1,0 +1,16 @@
+//! Records, choices, tables and listings, written as the files that `record_files` reads.
+#![tactic(auto)]
+
+mod choice;
+mod link;
+mod listings;
+mod object;
+mod package;
+mod record;
+mod table;
+mod text;
+
+pub use crate::choice::choice_text;
+pub use crate::listings::listings_text;
+pub use crate::record::record_text;
+pub use crate::table::table_text;
