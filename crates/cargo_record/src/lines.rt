@@ -1,6 +1,10 @@
 //! The links of the record, with their lines.
 
-ghost use Rattle.std.specs.Prelude.{◌<◌, IfSome, length};
+ghost use Rattle.std.specs.Prelude.{◌<◌, ◌≡◌, ◌↔◌, Contains, IfOk, IfSome, IsTrue, OnOk, [], ◌∷◌, length, nat_eq};
+ghost use Rattle.workspace_record.specs.Kinds.{line_kind_index};
+ghost use Rattle.workspace_record.specs.declared.kinds.LineKind.TheVariants as kind;
+ghost use Rattle.cargo_metadata.specs.Dependencies.{name_of};
+ghost use Rattle.cargo_record.specs.Lines.{AreLines, AreLinesOf, IsLink, IsLinkAt, IsOneMore, IsPushed, TakesUp, counts, line_rows, row_of};
 
 use crate::fault::RecordFault;
 use crate::fitting::{Resolution, resolved_to};
@@ -16,12 +20,15 @@ pub(crate) fn links_of(
     alloc: Global,
     rows: &WorkspaceRecord,
     metadata: &Metadata,
-) -> Result<Vec<LinkRecord>, RecordFault> {
+) -> Result<Vec<LinkRecord>, RecordFault>
+    ensures { IfOk result (λ links. AreLinesOf rows.now metadata.now (line_rows links.items)) }
+{
     let Some(nodes) = &metadata.nodes else {
         return Err(RecordFault::NoResolve);
     };
     let index = RecordIndex::of(alloc, rows)?;
-    all_links(alloc, &index, &metadata.packages, nodes)
+    let links = all_links(alloc, &index, &metadata.packages, nodes)?;
+    Ok(links)
 }
 
 fn all_links(
@@ -29,17 +36,14 @@ fn all_links(
     index: &RecordIndex<'_>,
     packages: &[DeclaringPackage],
     nodes: &[ResolvedPackage],
-) -> Result<Vec<LinkRecord>, RecordFault> {
+) -> Result<Vec<LinkRecord>, RecordFault>
+    ensures { IfOk result (λ links. AreLines index.now packages.now nodes.now (line_rows links.items)) }
+{
     let mut links = Vec::new(alloc);
     for (place, package) in packages.iter().enumerate() {
         check_targets(alloc, index, package)?;
-        push_links(
-            alloc,
-            &mut links,
-            index,
-            package,
-            node_at(alloc, nodes, place, package)?,
-        )?;
+        let node = node_at(alloc, nodes, place, package)?;
+        push_links(alloc, &mut links, index, package, node)?;
     }
     Ok(links)
 }
@@ -50,7 +54,9 @@ fn node_at<'a>(
     nodes: &'a [ResolvedPackage],
     place: usize,
     package: &DeclaringPackage,
-) -> Result<&'a ResolvedPackage, RecordFault> {
+) -> Result<&'a ResolvedPackage, RecordFault>
+    ensures { IfOk result (λ n. Contains nodes.entry.now n.now × (n.now.id ≡ «package».now.row.id)) }
+{
     let id = package.row.id.as_str();
     match nodes.get(place) {
         Some(node) if node.id.as_str() == id => Ok(node),
@@ -87,23 +93,76 @@ fn foreign(
     Ok(RecordFault::ForeignFeature(id, name, feature))
 }
 
-/// Adds the links of a package.
+/// Adds the lines of a package's dependencies.
 fn push_links(
     alloc: Global,
     links: &mut Vec<LinkRecord>,
     index: &RecordIndex<'_>,
     package: &DeclaringPackage,
     node: &ResolvedPackage,
-) -> Result<(), RecordFault> {
+) -> Result<(), RecordFault>
+    ensures { OnOk result (TakesUp index.now «package».now node.now «package».now.dependencies (line_rows links.old.items) (line_rows links.new.items)) }
+{
+    push_each(alloc, links, index, package, node, &package.dependencies)?;
+    Ok(())
+}
+
+/// Adds the lines of these dependencies of a package.
+fn push_each(
+    alloc: Global,
+    links: &mut Vec<LinkRecord>,
+    index: &RecordIndex<'_>,
+    package: &DeclaringPackage,
+    node: &ResolvedPackage,
+    dependencies: &[Dependency],
+) -> Result<(), RecordFault>
+    ensures { OnOk result (TakesUp index.now «package».now node.now dependencies.now (line_rows links.old.items) (line_rows links.new.items)) }
+{
     let start = links.len();
-    let is_member = index.is_member(package.row.id.as_str());
-    for dependency in &package.dependencies {
-        if is_member || dependency.line.kind != LineKind::Dev {
-            let found = resolved_to(alloc, index, dependency, &node.dependencies)?;
-            push_resolved(alloc, links, start, package, dependency, is_member, found)?;
-        }
+    for dependency in dependencies {
+        push_dependency(alloc, links, start, index, package, node, dependency)?;
     }
     Ok(())
+}
+
+/// Adds the line of a dependency, if it counts.
+fn push_dependency(
+    alloc: Global,
+    links: &mut Vec<LinkRecord>,
+    start: usize,
+    index: &RecordIndex<'_>,
+    package: &DeclaringPackage,
+    node: &ResolvedPackage,
+    dependency: &Dependency,
+) -> Result<(), RecordFault>
+    ensures { OnOk result (TakesUp index.now «package».now node.now (dependency.now ∷ []) (line_rows links.old.items) (line_rows links.new.items)) }
+{
+    let id = id_of(package);
+    if !counts(index, id, dependency) {
+        return Ok(());
+    }
+    let found = resolved_to(alloc, index, dependency, &node.dependencies)?;
+    push_resolved(alloc, links, start, index, id, dependency, found)?;
+    Ok(())
+}
+
+fn id_of(package: &DeclaringPackage) -> &str
+    ensures { result.now ≡ «package».entry.now.row.id }
+{
+    package.row.id.as_str()
+}
+
+/// Whether Cargo resolves a dependency of a package: those for development are a member's alone.
+fn counts(index: &RecordIndex<'_>, id: &str, dependency: &Dependency) -> bool
+    ensures { result ≡ counts index.now id.now dependency.now }
+{
+    index.is_member(id) || !is_for_development(dependency)
+}
+
+fn is_for_development(dependency: &Dependency) -> bool
+    ensures { result ≡ nat_eq (line_kind_index dependency.now.line.kind) (line_kind_index kind.Dev) }
+{
+    dependency.line.kind == LineKind::Dev
 }
 
 /// Adds the line of a dependency to what it was resolved to.
@@ -111,21 +170,30 @@ fn push_resolved(
     alloc: Global,
     links: &mut Vec<LinkRecord>,
     start: usize,
-    package: &DeclaringPackage,
+    index: &RecordIndex<'_>,
+    id: &str,
     dependency: &Dependency,
-    is_member: bool,
     found: Resolution<'_>,
-) -> Result<(), RecordFault> {
-    let id = package.row.id.as_str();
+) -> Result<(), RecordFault>
+    ensures { OnOk result (IsPushed index.now id.now dependency.now found.entry (line_rows links.old.items) (line_rows links.new.items)) }
+{
     match found {
         Resolution::To(to) => Ok(push_line(alloc, links, start, id, to, dependency)?),
         Resolution::Several => Err(ambiguous(alloc, id, dependency.name())?),
-        Resolution::Nothing if !dependency.line.optional => {
+        Resolution::Nothing if !is_optional(dependency) => {
             Err(no_dependency(alloc, id, dependency.name())?)
         }
-        Resolution::Nothing if is_member => Err(no_optional(alloc, id, dependency.name())?),
+        Resolution::Nothing if index.is_member(id) => {
+            Err(no_optional(alloc, id, dependency.name())?)
+        }
         Resolution::Nothing => Ok(()),
     }
+}
+
+fn is_optional(dependency: &Dependency) -> bool
+    ensures { result ≡ dependency.now.line.optional }
+{
+    dependency.line.optional
 }
 
 fn ambiguous(alloc: Global, id: &str, name: &str) -> Result<RecordFault, AllocError> {
@@ -154,28 +222,38 @@ fn push_line(
     from: &str,
     to: &str,
     dependency: &Dependency,
-) -> Result<(), AllocError> {
-    match place_of(links, start, to, dependency.name()) {
+) -> Result<(), AllocError>
+    ensures { OnOk result (IsOneMore (line_rows links.old.items) (row_of from.now to.now dependency.now) (line_rows links.new.items)) }
+{
+    match place_of(links, start, from, to, dependency.name()) {
         Some(place) => {
+            let line = dependency.line.copy(alloc)?;
             let link = &mut links[place];
-            link.lines.push(dependency.line.copy(alloc)?)?;
+            link.lines.push(line)?;
         }
         None => links.push(new_link(alloc, from, to, dependency)?)?,
     }
     Ok(())
 }
 
-/// The place of the link with this name to this package, from a place on.
-fn place_of(links: &[LinkRecord], start: usize, to: &str, name: &str) -> Option<usize>
-    ensures { IfSome result (λ place. place < length links.now) }
+/// The place of the link with this name between two packages, from a place on.
+fn place_of(links: &[LinkRecord], start: usize, from: &str, to: &str, name: &str) -> Option<usize>
+    ensures within { IfSome result (λ place. place < length links.now) }
+    ensures is { IfSome result (λ place. IsLinkAt links.now place from.now to.now name.now) }
 {
     for place in start..links.len() {
         let link = &links[place];
-        if link.to.as_str() == to && link.name.as_str() == name {
+        if is_link(link, from, to, name) {
             return Some(place);
         }
     }
     None
+}
+
+fn is_link(link: &LinkRecord, from: &str, to: &str, name: &str) -> bool
+    ensures { IsTrue result ↔ IsLink link.now from.now to.now name.now }
+{
+    link.name.as_str() == name && link.to.as_str() == to && link.from.as_str() == from
 }
 
 /// A link with the line of a dependency.
@@ -184,7 +262,10 @@ fn new_link(
     from: &str,
     to: &str,
     dependency: &Dependency,
-) -> Result<LinkRecord, AllocError> {
+) -> Result<LinkRecord, AllocError>
+    ensures is { IfOk result (λ l. IsLink l from.now to.now (name_of dependency.now)) }
+    ensures lines { IfOk result (λ l. l.lines ≡ dependency.now.line ∷ []) }
+{
     let from = String::from_str(alloc, from)?;
     let to = String::from_str(alloc, to)?;
     let name = String::from_str(alloc, dependency.name())?;

@@ -1,7 +1,8 @@
 //! The whole record.
 
-ghost use Rattle.std.specs.Prelude.{◌≡◌, IfOk, map};
+ghost use Rattle.std.specs.Prelude.{◌≡◌, [], IfOk, map};
 ghost use Rattle.cargo_record.specs.Kept as spec;
+ghost use Rattle.cargo_record.specs.Lines.{AreLinesOf, line_rows, unlinked};
 
 use crate::fault::RecordFault;
 use crate::lines::links_of;
@@ -20,6 +21,7 @@ pub fn record_of(
     wanted: Wanted<'_>,
 ) -> Result<WorkspaceRecord, RecordFault>
     ensures packages { IfOk result (λ w. w.packages ≡ map spec.kept_row metadata.now.packages) }
+    ensures lines { IfOk result (λ w. AreLinesOf (unlinked w) metadata.now (line_rows w.links)) }
 {
     check_format(metadata)?;
     let workspace = workspace_of(alloc, metadata, wanted)?;
@@ -41,7 +43,7 @@ fn without_links(
     workspace: WorkspaceInfo,
 ) -> WorkspaceRecord
     ensures packages { result.packages ≡ packages.items }
-    ensures workspace { result.workspace ≡ workspace }
+    ensures links { result.links ≡ [] }
 {
     WorkspaceRecord {
         packages,
@@ -57,10 +59,12 @@ fn with_links(
     metadata: &Metadata,
     rows: WorkspaceRecord,
 ) -> Result<WorkspaceRecord, RecordFault>
+    requires { rows.links ≡ [] }
     ensures packages { IfOk result (λ w. w.packages ≡ rows.packages) }
-    ensures workspace { IfOk result (λ w. w.workspace ≡ rows.workspace) }
+    ensures lines { IfOk result (λ w. AreLinesOf (unlinked w) metadata.now (line_rows w.links)) }
 {
-    links_of(alloc, &rows, metadata).map(|links| linked(rows, links))
+    let links = links_of(alloc, &rows, metadata)?;
+    Ok(linked(rows, links))
 }
 
 fn linked(rows: WorkspaceRecord, links: Vec<LinkRecord>) -> WorkspaceRecord
