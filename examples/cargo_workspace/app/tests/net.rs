@@ -1,0 +1,4 @@
+#[test]
+fn get() {
+    assert_eq!(app::words().len(), 3);
+}

@@ -1,0 +1,4 @@
+#[test]
+fn lanes() {
+    assert_eq!(util::lanes(), 8);
+}

@@ -1,0 +1,4 @@
+//! A package for one platform.
+
+#[test]
+fn four() {}
