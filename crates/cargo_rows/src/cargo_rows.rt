@@ -1,4 +1,6 @@
-use crate::made::{Made, choice_made, record_made, spec_told, table_made};
+use crate::made::{
+    Made, choice_made, nextest_made, record_made, spec_told, table_made, terse_made,
+};
 use cargo_cfg::{CfgSetting, SettingsError, read_settings};
 use cargo_choice::FeatureWords;
 use cargo_record::Wanted;
@@ -7,7 +9,8 @@ use row_program::{Answers, Row, RowFault, RowRunner, file_text};
 use std::alloc::Global;
 use workspace_record::WorkspaceRecord;
 
-/// Rows of conversions. A row's `kind` says what is made: `spec`, `table`, `record` or `choice`. What
+/// Rows of conversions. A row's `kind` says what is made: `spec`, `table`, `record`, `choice`, or the listings of one
+/// binary by `terse` or `nextest`. What
 /// comes is the file that is `made`, or of a spec its answer, and else why it is `refused`.
 #[derive(Drop)]
 pub(crate) struct CargoRows;
@@ -25,6 +28,9 @@ impl RowRunner for CargoRows {
             "record",
             "features",
             "flags",
+            "id",
+            "printed",
+            "list",
         ]
     }
 
@@ -46,6 +52,8 @@ fn made_of(alloc: Global, row: Row<'_>) -> Result<Made, RowFault> {
         "table" => table_of(alloc, row),
         "record" => record_of(alloc, row),
         "choice" => choice_of(alloc, row),
+        "terse" => Ok(terse_made(alloc, row.text("id")?, row.text("printed")?)?),
+        "nextest" => nextest_of(alloc, row),
         _ => Err(RowFault::Key("kind")),
     }
 }
@@ -105,6 +113,13 @@ fn choice_of(alloc: Global, row: Row<'_>) -> Result<Made, RowFault> {
         all_features: flags.contains(&"all-features"),
     };
     Ok(choice_made(alloc, &record, words)?)
+}
+
+fn nextest_of(alloc: Global, row: Row<'_>) -> Result<Made, RowFault> {
+    match row.get("list") {
+        Some(list) => Ok(nextest_made(alloc, row.text("id")?, list)?),
+        None => Err(RowFault::Key("list")),
+    }
 }
 
 fn record_in(alloc: Global, row: Row<'_>) -> Result<WorkspaceRecord, RowFault> {

@@ -2,10 +2,12 @@
 
 use cargo_cfg::{CfgSetting, spec_holds};
 use cargo_choice::FeatureWords;
+use cargo_listings::{TerseFault, nextest_tests, terse_tests};
 use cargo_metadata::{Metadata, read_metadata};
 use cargo_record::{Wanted, record_of};
 use record_files::read_record;
-use record_writing::{choice_text, record_text, table_text};
+use record_writing::{choice_text, listings_text, record_text, table_text};
+use serde_json::Value;
 use std::alloc::{AllocError, Global};
 use std::fmt::Display;
 use workspace_record::WorkspaceRecord;
@@ -99,4 +101,28 @@ pub(crate) fn choice_made(
         Ok(choice) => Ok(Made::of(alloc, choice_text(alloc, &choice)?)),
         Err(fault) => Made::refused(alloc, &fault),
     }
+}
+
+/// The listings of one binary, of what it printed.
+pub(crate) fn terse_made(alloc: Global, id: &str, printed: &str) -> Result<Made, AllocError> {
+    match terse_tests(alloc, printed) {
+        Ok(tests) => listed(alloc, id, tests),
+        Err(TerseFault::NoTest(place)) => Made::refused(alloc, &place),
+        Err(TerseFault::Memory) => Err(AllocError),
+    }
+}
+
+/// The listings of one binary, of what nextest listed.
+pub(crate) fn nextest_made(alloc: Global, id: &str, list: &Value) -> Result<Made, AllocError> {
+    match nextest_tests(alloc, list, id)? {
+        Some(tests) => listed(alloc, id, tests),
+        None => Made::refused(alloc, &id),
+    }
+}
+
+fn listed(alloc: Global, id: &str, tests: Vec<String>) -> Result<Made, AllocError> {
+    let id = String::from_str(alloc, id)?;
+    let mut listings = Vec::new(alloc);
+    listings.push((id, tests))?;
+    Ok(Made::of(alloc, listings_text(alloc, &listings)?))
 }
