@@ -33,9 +33,10 @@ fn push_name(text: &mut String, known: &str) -> Result<(), AllocError> {
     text.push_str(if text.is_empty() {
         ": is it `"
     } else {
-        "`, or `"
+        ", or `"
     })?;
     text.push_str(known)?;
+    text.push_str("`")?;
     Ok(())
 }
 
