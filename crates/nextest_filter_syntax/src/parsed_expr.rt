@@ -17,7 +17,8 @@ pub enum ParsedExpr<S = SourceSpan> {
 
 impl<S: Copy> ParsedExpr<S> {
     ghost use Rattle.std.specs.Prelude.{◌≡◌, IfOk};
-    ghost use Rattle.nextest_filter_syntax.specs.Trees.{tree_of};
+    ghost use Rattle.nextest_filter_leaves.specs.Leaves.{leaf_of};
+    ghost use Rattle.nextest_filter_syntax.specs.Trees.{set_of, tree_of};
 
     /// An equal tree in memory of its own.
     pub fn copy(&self, alloc: Global) -> Result<ParsedExpr<S>, AllocError>
@@ -47,11 +48,17 @@ impl<S: Copy> ParsedExpr<S> {
                 let x = Box::new(alloc, x.copy(alloc)?)?;
                 Ok(ParsedExpr::Parens(x))
             }
-            ParsedExpr::Set(leaf) => {
-                let leaf = leaf.copy(alloc)?;
-                Ok(ParsedExpr::Set(leaf))
-            }
+            ParsedExpr::Set(leaf) => ParsedExpr::of_leaf(alloc, leaf),
         }
+    }
+
+    /// The filter of an equal leaf. It stands apart from the walk over the tree, whose steps take less of the
+    /// stack so.
+    fn of_leaf(alloc: Global, leaf: &ParsedLeaf<S>) -> Result<ParsedExpr<S>, AllocError>
+        ensures { IfOk result (λ c. tree_of c ≡ set_of (leaf_of leaf.now)) }
+    {
+        let leaf = leaf.copy(alloc)?;
+        Ok(ParsedExpr::Set(leaf))
     }
 }
 
