@@ -54,6 +54,7 @@ impl<S: Copy> ParsedExpr<S> {
 
     /// The filter of an equal leaf. It stands apart from the walk over the tree, whose steps take less of the
     /// stack so.
+    #[inline(never)]
     fn of_leaf(alloc: Global, leaf: &ParsedLeaf<S>) -> Result<ParsedExpr<S>, AllocError>
         ensures { IfOk result (λ c. tree_of c ≡ set_of (leaf_of leaf.now)) }
     {

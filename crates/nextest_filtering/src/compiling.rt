@@ -64,6 +64,7 @@ pub(crate) fn compile_expr(
     }
 }
 
+#[inline(never)]
 fn compile_leaf(
     alloc: Global,
     leaf: &ParsedLeaf,
