@@ -1,2 +1,3 @@
 pub mod LinesOn
 pub mod DependencyOrders
+pub mod Laws

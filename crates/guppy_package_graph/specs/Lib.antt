@@ -1,5 +1,6 @@
 pub mod Directions
 pub mod Views
+pub mod Identity
 pub mod Finding
 pub mod Members
 pub mod Sources

@@ -2,20 +2,21 @@ ghost use Rattle.std.specs.Prelude.{◌<◌, All, length};
 
 use crate::package_graph::PackageGraph;
 use crate::package_ids::PackageIdsAt;
+use std::fmt;
 
 /// The cycles of a graph, each as the ids of its packages, from both ends.
 #[derive(Clone, Copy)]
-pub struct AllCycles<'a> {
-    graph: &'a PackageGraph,
+pub struct AllCycles<'g, 'a> {
+    graph: &'g PackageGraph,
     cycles: &'a [Vec<usize>],
     ghost in_range: { All (λ c. All (λ v. v < length graph.now.packages) c.items) cycles.now },
 }
 
-impl<'a> AllCycles<'a> {
+impl<'g, 'a> AllCycles<'g, 'a> {
     ghost use Rattle.std.specs.Prelude.{◌≡◌, map};
     ghost use Rattle.guppy_package_graph.specs.CycleViews.{cycles_graph_of, cycles_left};
 
-    pub(crate) fn of(graph: &'a PackageGraph, cycles: &'a [Vec<usize>]) -> AllCycles<'a>
+    pub(crate) fn of(graph: &'g PackageGraph, cycles: &'a [Vec<usize>]) -> AllCycles<'g, 'a>
         requires { All (λ c. All (λ v. v < length graph.now.packages) c.items) cycles.now }
         ensures graph { cycles_graph_of result ≡ graph.entry.now }
         ensures cycles { cycles_left result ≡ map (λ c. c.items) cycles.entry.now }
@@ -24,8 +25,8 @@ impl<'a> AllCycles<'a> {
     }
 }
 
-impl<'a> Iterator for AllCycles<'a> {
-    type Item = PackageIdsAt<'a>;
+impl<'g, 'a> Iterator for AllCycles<'g, 'a> {
+    type Item = PackageIdsAt<'g, 'a>;
 
     ghost use Rattle.std.specs.Iterator.{YieldsFirstBy, item_count};
     ghost use Rattle.guppy_package_graph.specs.CycleViews.{all_cycles_left, seen_cycle};
@@ -34,7 +35,7 @@ impl<'a> Iterator for AllCycles<'a> {
 
     ghost remaining = { item_count all_cycles_left };
 
-    fn next(&mut self) -> Option<PackageIdsAt<'a>> {
+    fn next(&mut self) -> Option<PackageIdsAt<'g, 'a>> {
         let (first, others) = self.cycles.split_first()?;
         self.cycles = others;
         Some(PackageIdsAt::of(self.graph, first))
@@ -45,21 +46,28 @@ impl<'a> Iterator for AllCycles<'a> {
     }
 }
 
-impl<'a> DoubleEndedIterator for AllCycles<'a> {
+impl<'g, 'a> DoubleEndedIterator for AllCycles<'g, 'a> {
     ghost use Rattle.std.specs.Iterator.{YieldsLastBy};
     ghost use Rattle.guppy_package_graph.specs.CycleViews.{all_cycles_left, seen_cycle};
 
     ghost next_back_gives = { YieldsLastBy seen_cycle all_cycles_left };
 
-    fn next_back(&mut self) -> Option<PackageIdsAt<'a>> {
+    fn next_back(&mut self) -> Option<PackageIdsAt<'g, 'a>> {
         let (last, others) = self.cycles.split_last()?;
         self.cycles = others;
         Some(PackageIdsAt::of(self.graph, last))
     }
 }
 
-impl ExactSizeIterator for AllCycles<'_> {
+impl ExactSizeIterator for AllCycles<'_, '_> {
     fn len(&self) -> usize {
         self.cycles.len()
+    }
+}
+
+/// Lists what is still to come.
+impl fmt::Debug for AllCycles<'_, '_> {
+    fn fmt<W: fmt::Write>(&self, f: &mut fmt::Formatter<W>) -> fmt::Result {
+        f.debug_list().entries(*self).finish()
     }
 }

@@ -1,5 +1,6 @@
 use crate::package_graph::PackageGraph;
 use crate::package_metadata::PackageMetadata;
+use std::fmt;
 
 /// The packages of a graph, in the order of the record.
 #[derive(Clone, Copy)]
@@ -9,14 +10,20 @@ pub struct AllPackages<'g> {
 }
 
 impl<'g> AllPackages<'g> {
-    ghost use Rattle.std.specs.Prelude.{◌≡◌};
-    ghost use Rattle.guppy_package_graph.specs.AllViews.{first_left, all_graph_of};
+    ghost use Rattle.std.specs.Prelude.{◌≡◌, length};
+    ghost use Rattle.guppy_package_graph.specs.AllViews.{all_graph_of, all_packages_left, first_left};
 
     pub(crate) fn of(graph: &'g PackageGraph) -> AllPackages<'g>
         ensures graph { all_graph_of result ≡ graph.entry.now }
         ensures first { first_left result ≡ 0 }
     {
         AllPackages { graph, next: 0 }
+    }
+
+    fn left(&self) -> usize
+        ensures { result ≡ length (all_packages_left self.now) }
+    {
+        self.graph.package_count().saturating_sub(self.next)
     }
 }
 
@@ -39,5 +46,22 @@ impl<'g> Iterator for AllPackages<'g> {
         } else {
             None
         }
+    }
+
+    fn size_hint(&self) -> (usize, Option<usize>) {
+        (self.left(), Some(self.left()))
+    }
+}
+
+impl ExactSizeIterator for AllPackages<'_> {
+    fn len(&self) -> usize {
+        self.left()
+    }
+}
+
+/// Lists what is still to come.
+impl fmt::Debug for AllPackages<'_> {
+    fn fmt<W: fmt::Write>(&self, f: &mut fmt::Formatter<W>) -> fmt::Result {
+        f.debug_list().entries(*self).finish()
     }
 }

@@ -12,6 +12,7 @@ use crate::package_graph::PackageGraph;
 use guppy_package_parts::{Error, PackageId};
 use numbered_graph::{Direction, cycles};
 use std::alloc::{AllocError, Global};
+use std::fmt;
 use std::marker::Model;
 
 /// The components of a graph with two or more packages or a link from a package to itself.
@@ -64,12 +65,18 @@ impl<'g> Cycles<'g> {
 impl<'g> Cycles<'g> {
     /// The cycles, each as the ids of its packages: none before one that leads to it, packages of one
     /// cycle together.
-    pub fn all_cycles(&self) -> AllCycles<'_>
+    pub fn all_cycles(&self) -> AllCycles<'g, '_>
         ensures graph { cycles_graph_of result ≡ self.now.graph }
         ensures cycles { cycles_left result ≡ self.now.cycles }
         ensures cyclic { AreCycles Forward (numbered_links self.now.graph) self.now.cycles }
     {
         AllCycles::of(self.graph, &self.cycles)
+    }
+}
+
+impl fmt::Debug for Cycles<'_> {
+    fn fmt<W: fmt::Write>(&self, f: &mut fmt::Formatter<W>) -> fmt::Result {
+        f.debug_tuple("Cycles").field(&self.all_cycles()).finish()
     }
 }
 

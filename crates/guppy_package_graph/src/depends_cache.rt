@@ -7,9 +7,11 @@ ghost use Rattle.guppy_package_table.specs.Tables.{numbered_links};
 ghost use Rattle.guppy_package_graph.specs.Depending.{AnswersDepending};
 
 use crate::package_graph::PackageGraph;
+use crate::package_set::same_places;
 use guppy_package_parts::{Error, PackageId};
 use numbered_graph::{Direction, NodeSet, reach};
 use std::alloc::{AllocError, Global};
+use std::fmt;
 use std::marker::Model;
 
 /// Answers as `depends_on` of its graph does. Where the first package is that of the last question,
@@ -43,6 +45,18 @@ impl<'g> DependsCache<'g> {
         Ok(DependsCache {
             graph,
             from: None,
+            reached,
+        })
+    }
+
+    /// A cache of the same graph that knows as much, in memory of its own.
+    pub fn copy(&self, alloc: Global) -> Result<DependsCache<'g>, AllocError>
+        ensures same { IfOk result (λ c. c ≡ self.now) }
+    {
+        let reached = same_places(alloc, &self.reached)?;
+        Ok(DependsCache {
+            graph: self.graph,
+            from: self.from,
             reached,
         })
     }
@@ -89,5 +103,13 @@ impl PackageGraph {
         ensures graph { IfOk result (λ c. c ≡ self.now) }
     {
         DependsCache::new(alloc, self)
+    }
+}
+
+impl fmt::Debug for DependsCache<'_> {
+    fn fmt<W: fmt::Write>(&self, f: &mut fmt::Formatter<W>) -> fmt::Result {
+        f.debug_struct("DependsCache")
+            .field("graph", self.graph)
+            .finish_non_exhaustive()
     }
 }

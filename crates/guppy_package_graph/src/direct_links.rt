@@ -6,6 +6,7 @@ ghost use Rattle.guppy_package_table.specs.Tables.{numbered_links};
 use crate::package_graph::PackageGraph;
 use crate::package_link::PackageLink;
 use numbered_graph::Direction;
+use std::fmt;
 
 /// The links that are followed from a package in a direction, in the order of the record.
 #[derive(Clone, Copy)]
@@ -50,5 +51,12 @@ impl<'g> Iterator for DirectLinks<'g> {
         let number = self.next?;
         self.next = self.graph.table().graph().next_link(self.direction, number);
         Some(self.graph.link_at(number))
+    }
+}
+
+/// Lists what is still to come.
+impl fmt::Debug for DirectLinks<'_> {
+    fn fmt<W: fmt::Write>(&self, f: &mut fmt::Formatter<W>) -> fmt::Result {
+        f.debug_list().entries(*self).finish()
     }
 }

@@ -3,6 +3,7 @@ ghost use Rattle.std.specs.Prelude.{◌<◌, All, length};
 use crate::package_graph::PackageGraph;
 use crate::package_metadata::PackageMetadata;
 use guppy_workspace_members::path_at;
+use std::fmt;
 
 /// Members of a workspace with their paths, one after the other.
 #[derive(Clone, Copy)]
@@ -44,5 +45,18 @@ impl<'g> Iterator for MembersByPath<'g> {
 
     fn size_hint(&self) -> (usize, Option<usize>) {
         (self.places.len(), Some(self.places.len()))
+    }
+}
+
+impl ExactSizeIterator for MembersByPath<'_> {
+    fn len(&self) -> usize {
+        self.places.len()
+    }
+}
+
+/// Lists what is still to come.
+impl fmt::Debug for MembersByPath<'_> {
+    fn fmt<W: fmt::Write>(&self, f: &mut fmt::Formatter<W>) -> fmt::Result {
+        f.debug_list().entries(*self).finish()
     }
 }

@@ -20,6 +20,7 @@ use guppy_package_table::{PackageGraphError, PackageTable};
 use guppy_workspace_members::{MemberOrders, member_orders};
 use numbered_graph::Direction;
 use std::alloc::Global;
+use std::fmt;
 use std::marker::Model;
 
 /// The packages of a workspace and the links between them: the rows of a record that keeps the rules
@@ -205,4 +206,12 @@ fn same_ids(a: &[PackageId], b: &[PackageId]) -> bool
     ensures { IsTrue result ↔ (a.now ≡ b.now) }
 {
     a == b
+}
+
+impl fmt::Debug for PackageGraph {
+    fn fmt<W: fmt::Write>(&self, f: &mut fmt::Formatter<W>) -> fmt::Result {
+        f.debug_struct("PackageGraph")
+            .field("packages", &self.packages())
+            .finish_non_exhaustive()
+    }
 }

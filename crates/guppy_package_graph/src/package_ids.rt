@@ -4,20 +4,21 @@ ghost use Rattle.numbered_graph.specs.ListedViews.{listed_left};
 use crate::package_graph::PackageGraph;
 use guppy_package_parts::PackageId;
 use numbered_graph::Listed;
+use std::fmt;
 
 /// The ids of packages of a graph, one after the other.
 #[derive(Clone, Copy)]
-pub struct PackageIdsAt<'g> {
+pub struct PackageIdsAt<'g, 'a> {
     graph: &'g PackageGraph,
-    places: &'g [usize],
+    places: &'a [usize],
     ghost in_range: { All (λ v. v < length graph.now.packages) places.now },
 }
 
-impl<'g> PackageIdsAt<'g> {
+impl<'g, 'a> PackageIdsAt<'g, 'a> {
     ghost use Rattle.std.specs.Prelude.{◌≡◌};
     ghost use Rattle.guppy_package_graph.specs.IdViews.{id_places_left, ids_graph_of};
 
-    pub(crate) fn of(graph: &'g PackageGraph, places: &'g [usize]) -> PackageIdsAt<'g>
+    pub(crate) fn of(graph: &'g PackageGraph, places: &'a [usize]) -> PackageIdsAt<'g, 'a>
         requires { All (λ v. v < length graph.now.packages) places.now }
         ensures graph { ids_graph_of result ≡ graph.entry.now }
         ensures places { id_places_left result ≡ places.entry.now }
@@ -26,7 +27,7 @@ impl<'g> PackageIdsAt<'g> {
     }
 }
 
-impl<'g> Iterator for PackageIdsAt<'g> {
+impl<'g> Iterator for PackageIdsAt<'g, '_> {
     type Item = &'g PackageId;
 
     ghost use Rattle.std.specs.Iterator.{YieldsFirstBy, item_count};
@@ -47,7 +48,7 @@ impl<'g> Iterator for PackageIdsAt<'g> {
     }
 }
 
-impl ExactSizeIterator for PackageIdsAt<'_> {
+impl ExactSizeIterator for PackageIdsAt<'_, '_> {
     fn len(&self) -> usize {
         self.places.len()
     }
@@ -55,17 +56,17 @@ impl ExactSizeIterator for PackageIdsAt<'_> {
 
 /// The ids of the packages of a set in the order in which their graph lists them, from both ends.
 #[derive(Clone, Copy)]
-pub struct PackageIds<'a> {
-    graph: &'a PackageGraph,
+pub struct PackageIds<'g, 'a> {
+    graph: &'g PackageGraph,
     listed: Listed<'a>,
     ghost in_range: { All (λ v. v < length graph.now.packages) (listed_left listed) },
 }
 
-impl<'a> PackageIds<'a> {
+impl<'g, 'a> PackageIds<'g, 'a> {
     ghost use Rattle.std.specs.Prelude.{◌≡◌};
     ghost use Rattle.guppy_package_graph.specs.IdViews.{listed_graph_of, listed_places_left};
 
-    pub(crate) fn of(graph: &'a PackageGraph, listed: Listed<'a>) -> PackageIds<'a>
+    pub(crate) fn of(graph: &'g PackageGraph, listed: Listed<'a>) -> PackageIds<'g, 'a>
         requires { All (λ v. v < length graph.now.packages) (listed_left listed) }
         ensures graph { listed_graph_of result ≡ graph.entry.now }
         ensures places { listed_places_left result ≡ listed_left listed.entry }
@@ -74,8 +75,8 @@ impl<'a> PackageIds<'a> {
     }
 }
 
-impl<'a> Iterator for PackageIds<'a> {
-    type Item = &'a PackageId;
+impl<'g> Iterator for PackageIds<'g, '_> {
+    type Item = &'g PackageId;
 
     ghost use Rattle.std.specs.Iterator.{YieldsFirstBy, item_count};
     ghost use Rattle.guppy_package_graph.specs.IdViews.{all_listed_left};
@@ -84,7 +85,7 @@ impl<'a> Iterator for PackageIds<'a> {
 
     ghost remaining = { item_count all_listed_left };
 
-    fn next(&mut self) -> Option<&'a PackageId> {
+    fn next(&mut self) -> Option<&'g PackageId> {
         let place = self.listed.next()?;
         Some(self.graph.id_at(place))
     }
@@ -94,20 +95,34 @@ impl<'a> Iterator for PackageIds<'a> {
     }
 }
 
-impl<'a> DoubleEndedIterator for PackageIds<'a> {
+impl<'g> DoubleEndedIterator for PackageIds<'g, '_> {
     ghost use Rattle.std.specs.Iterator.{YieldsLastBy};
     ghost use Rattle.guppy_package_graph.specs.IdViews.{all_listed_left};
 
     ghost next_back_gives = { YieldsLastBy (λ id. id.now) all_listed_left };
 
-    fn next_back(&mut self) -> Option<&'a PackageId> {
+    fn next_back(&mut self) -> Option<&'g PackageId> {
         let place = self.listed.next_back()?;
         Some(self.graph.id_at(place))
     }
 }
 
-impl ExactSizeIterator for PackageIds<'_> {
+impl ExactSizeIterator for PackageIds<'_, '_> {
     fn len(&self) -> usize {
         self.listed.len()
+    }
+}
+
+/// Lists what is still to come.
+impl fmt::Debug for PackageIdsAt<'_, '_> {
+    fn fmt<W: fmt::Write>(&self, f: &mut fmt::Formatter<W>) -> fmt::Result {
+        f.debug_list().entries(*self).finish()
+    }
+}
+
+/// Lists what is still to come.
+impl fmt::Debug for PackageIds<'_, '_> {
+    fn fmt<W: fmt::Write>(&self, f: &mut fmt::Formatter<W>) -> fmt::Result {
+        f.debug_list().entries(*self).finish()
     }
 }

@@ -5,6 +5,7 @@ use crate::package_graph::PackageGraph;
 use crate::package_metadata::PackageMetadata;
 use guppy_package_table::LinkDetails;
 use numbered_graph::Direction;
+use std::fmt;
 use std::ops::Deref;
 
 /// A link of a graph, from a package to one that it depends on. What its row says is told by the
@@ -81,5 +82,15 @@ impl<'g> Deref for PackageLink<'g> {
 
     fn deref(&self) -> &LinkDetails<'g> {
         &self.details
+    }
+}
+
+impl fmt::Debug for PackageLink<'_> {
+    fn fmt<W: fmt::Write>(&self, f: &mut fmt::Formatter<W>) -> fmt::Result {
+        let (from, to) = self.endpoints();
+        f.debug_tuple("PackageLink")
+            .field(&from.id())
+            .field(&to.id())
+            .finish()
     }
 }

@@ -8,7 +8,7 @@ use crate::package_query::PackageQuery;
 use guppy_package_parts::DependencyDirection;
 
 /// The query for which a link is shown.
-#[derive(Clone, Copy)]
+#[derive(Clone, Copy, Debug)]
 pub struct PackageLinkContext<'a> {
     query: &'a PackageQuery<'a>,
 }

@@ -5,6 +5,7 @@ ghost use Rattle.guppy_package_table.specs.Tables.{ids_of, member_path_at};
 use crate::package_graph::PackageGraph;
 use guppy_package_parts::{PackageId, PackageSource};
 use guppy_package_table::PackageDetails;
+use std::fmt;
 use std::ops::Deref;
 
 /// A package of a graph. What its row says is told by the methods of `PackageDetails`.
@@ -85,5 +86,33 @@ impl<'g> Deref for PackageMetadata<'g> {
 
     fn deref(&self) -> &PackageDetails<'g> {
         &self.details
+    }
+}
+
+/// Packages are equal where their ids are.
+impl PartialEq for PackageMetadata<'_> {
+    ghost use Rattle.std.specs.Ordering.{on};
+    ghost use Rattle.std.specs.Cmp.{partial_equiv_from_equiv};
+    ghost use Rattle.workspace_record.specs.Equality.{text_eq};
+    ghost use Rattle.guppy_package_graph.specs.Identity.{id_of, packages_equivalence};
+
+    ghost eq = { on id_of text_eq };
+
+    ghost laws = { partial_equiv_from_equiv packages_equivalence };
+
+    fn eq(&self, other: &Self) -> bool {
+        self.graph.id_at(self.place) == other.graph.id_at(other.place)
+    }
+}
+
+impl Eq for PackageMetadata<'_> {
+    ghost use Rattle.guppy_package_graph.specs.Identity.{packages_equivalence};
+
+    ghost laws = { packages_equivalence };
+}
+
+impl fmt::Debug for PackageMetadata<'_> {
+    fn fmt<W: fmt::Write>(&self, f: &mut fmt::Formatter<W>) -> fmt::Result {
+        f.debug_tuple("PackageMetadata").field(&self.id()).finish()
     }
 }

@@ -1,10 +1,12 @@
-ghost use Rattle.std.specs.Prelude.{◌≡◌, ◌<◌, ◌==◌, All, length};
+ghost use Rattle.std.specs.Prelude.{◌≡◌, ◌<◌, ◌==◌, All, IfOk, length};
 ghost use Rattle.std.specs.List.{list_any};
 ghost use Rattle.guppy_package_graph.specs.Views.{packages_graph_of, places_left};
 
 use crate::package_graph::PackageGraph;
 use crate::packages_at::PackagesAt;
 use guppy_package_parts::DependencyDirection;
+use std::alloc::{AllocError, Global};
+use std::fmt;
 use std::marker::Model;
 
 /// Packages of a graph from which links are followed in a direction.
@@ -42,6 +44,14 @@ impl<'g> PackageQuery<'g> {
         }
     }
 
+    /// An equal query in memory of its own.
+    pub fn copy(&self, alloc: Global) -> Result<PackageQuery<'g>, AllocError>
+        ensures same { IfOk result (λ q. q ≡ self.now) }
+    {
+        let initials = Vec::from_slice(alloc, &self.initials)?;
+        Ok(PackageQuery::of(self.graph, self.direction, initials))
+    }
+
     /// The graph that is asked.
     pub fn graph(&self) -> &'g PackageGraph
         ensures graph { result.now ≡ self.now.graph }
@@ -57,7 +67,7 @@ impl<'g> PackageQuery<'g> {
     }
 
     /// The packages from which links are followed, each once in the order of the record.
-    pub fn initials(&self) -> PackagesAt<'_>
+    pub fn initials(&self) -> PackagesAt<'g, '_>
         ensures graph { packages_graph_of result ≡ self.now.graph }
         ensures initials { places_left result ≡ self.now.initials }
     {
@@ -75,5 +85,14 @@ impl<'g> PackageQuery<'g> {
         ensures { result ≡ list_any (λ v. v == place) self.now.initials }
     {
         self.initials.iter().any(|initial| *initial == place)
+    }
+}
+
+impl fmt::Debug for PackageQuery<'_> {
+    fn fmt<W: fmt::Write>(&self, f: &mut fmt::Formatter<W>) -> fmt::Result {
+        f.debug_struct("PackageQuery")
+            .field("direction", &self.direction)
+            .field("initials", &self.initials())
+            .finish_non_exhaustive()
     }
 }

@@ -19,6 +19,7 @@ use crate::packages::Packages;
 use guppy_package_parts::{DependencyDirection, Error, PackageId};
 use numbered_graph::{Listed, NodeSet};
 use std::alloc::{AllocError, Global};
+use std::fmt;
 use std::marker::Model;
 
 /// A set of packages of a graph.
@@ -59,6 +60,14 @@ impl<'g> PackageSet<'g> {
         ensures sized { length result.now ≡ length self.now.graph.packages }
     {
         &self.included
+    }
+
+    /// An equal set in memory of its own.
+    pub fn copy(&self, alloc: Global) -> Result<PackageSet<'g>, AllocError>
+        ensures same { IfOk result (λ s. s ≡ self.now) }
+    {
+        let included = same_places(alloc, &self.included)?;
+        Ok(PackageSet::of(self.graph, included))
     }
 
     /// How many packages are in the set.
@@ -145,7 +154,7 @@ impl<'g> PackageSet<'g> {
     /// The packages of the set: components together, links between components forward, and those
     /// forward too that have a normal or a build line, unless they lie on a cycle of such links. In
     /// Reverse that list reversed.
-    pub fn packages(&self, direction: DependencyDirection) -> Packages<'_>
+    pub fn packages(&self, direction: DependencyDirection) -> Packages<'g, '_>
         ensures graph { packages_graph_of result ≡ self.now.graph }
         ensures listed { packages_left result ≡ in_direction (direction_of direction) (listed self.now) }
         ensures listing { IsListing (numbered_links self.now.graph) (has (firm_flags self.now.graph.links)) (has self.now.included) (listed self.now) }
@@ -154,7 +163,7 @@ impl<'g> PackageSet<'g> {
     }
 
     /// The ids of the packages of the set, in the order of `packages`.
-    pub fn package_ids(&self, direction: DependencyDirection) -> PackageIds<'_>
+    pub fn package_ids(&self, direction: DependencyDirection) -> PackageIds<'g, '_>
         ensures graph { listed_graph_of result ≡ self.now.graph }
         ensures listed { listed_places_left result ≡ in_direction (direction_of direction) (listed self.now) }
         ensures listing { IsListing (numbered_links self.now.graph) (has (firm_flags self.now.graph.links)) (has self.now.included) (listed self.now) }
@@ -171,4 +180,20 @@ impl<'g> PackageSet<'g> {
         let table = self.graph.table();
         Listed::new(table.listing(), &self.included, direction_of(direction))
     }
+}
+
+impl fmt::Debug for PackageSet<'_> {
+    fn fmt<W: fmt::Write>(&self, f: &mut fmt::Formatter<W>) -> fmt::Result {
+        f.debug_set()
+            .entries(self.package_ids(DependencyDirection::Forward))
+            .finish()
+    }
+}
+
+/// The same places once more.
+pub(crate) fn same_places(alloc: Global, places: &NodeSet) -> Result<NodeSet, AllocError>
+    ensures { IfOk result (λ s. s ≡ places.now) }
+{
+    let same = places.union(alloc, places)?;
+    Ok(same)
 }

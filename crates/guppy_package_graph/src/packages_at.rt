@@ -2,20 +2,21 @@ ghost use Rattle.std.specs.Prelude.{◌<◌, All, length};
 
 use crate::package_graph::PackageGraph;
 use crate::package_metadata::PackageMetadata;
+use std::fmt;
 
 /// Packages of a graph, one after the other.
 #[derive(Clone, Copy)]
-pub struct PackagesAt<'g> {
+pub struct PackagesAt<'g, 'a> {
     graph: &'g PackageGraph,
-    places: &'g [usize],
+    places: &'a [usize],
     ghost in_range: { All (λ v. v < length graph.now.packages) places.now },
 }
 
-impl<'g> PackagesAt<'g> {
+impl<'g, 'a> PackagesAt<'g, 'a> {
     ghost use Rattle.std.specs.Prelude.{◌≡◌};
     ghost use Rattle.guppy_package_graph.specs.Views.{packages_graph_of, places_left};
 
-    pub(crate) fn of(graph: &'g PackageGraph, places: &'g [usize]) -> PackagesAt<'g>
+    pub(crate) fn of(graph: &'g PackageGraph, places: &'a [usize]) -> PackagesAt<'g, 'a>
         requires { All (λ v. v < length graph.now.packages) places.now }
         ensures graph { packages_graph_of result ≡ graph.entry.now }
         ensures places { places_left result ≡ places.entry.now }
@@ -24,7 +25,7 @@ impl<'g> PackagesAt<'g> {
     }
 }
 
-impl<'g> Iterator for PackagesAt<'g> {
+impl<'g> Iterator for PackagesAt<'g, '_> {
     type Item = PackageMetadata<'g>;
 
     ghost use Rattle.std.specs.Iterator.{YieldsFirstBy, item_count};
@@ -45,7 +46,7 @@ impl<'g> Iterator for PackagesAt<'g> {
     }
 }
 
-impl<'g> DoubleEndedIterator for PackagesAt<'g> {
+impl<'g> DoubleEndedIterator for PackagesAt<'g, '_> {
     ghost use Rattle.std.specs.Iterator.{YieldsLastBy};
     ghost use Rattle.guppy_package_graph.specs.Views.{all_left, seen};
 
@@ -58,8 +59,15 @@ impl<'g> DoubleEndedIterator for PackagesAt<'g> {
     }
 }
 
-impl ExactSizeIterator for PackagesAt<'_> {
+impl ExactSizeIterator for PackagesAt<'_, '_> {
     fn len(&self) -> usize {
         self.places.len()
+    }
+}
+
+/// Lists what is still to come.
+impl fmt::Debug for PackagesAt<'_, '_> {
+    fn fmt<W: fmt::Write>(&self, f: &mut fmt::Formatter<W>) -> fmt::Result {
+        f.debug_list().entries(*self).finish()
     }
 }

@@ -7,7 +7,7 @@ use crate::package_graph::PackageGraph;
 use crate::packages_at::PackagesAt;
 
 /// The workspace of a graph. Its folders are those of the record.
-#[derive(Clone, Copy)]
+#[derive(Clone, Copy, Debug)]
 pub struct Workspace<'g> {
     graph: &'g PackageGraph,
 }
@@ -63,7 +63,7 @@ impl<'g> Workspace<'g> {
     }
 
     /// The default members, in the order of the record.
-    pub fn default_members(&self) -> PackagesAt<'g>
+    pub fn default_members(&self) -> PackagesAt<'g, 'g>
         ensures graph { packages_graph_of result ≡ workspace_of self.now }
         ensures members { places_left result ≡ map (place_among (ids_of (workspace_of self.now).packages)) (workspace_of self.now).workspace.default_members }
     {

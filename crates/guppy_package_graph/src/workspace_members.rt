@@ -22,7 +22,7 @@ use std::alloc::Global;
 
 impl<'g> Workspace<'g> {
     /// The members, ascending by the components of their paths.
-    pub fn iter(&self) -> PackagesAt<'g>
+    pub fn iter(&self) -> PackagesAt<'g, 'g>
         ensures graph { packages_graph_of result ≡ workspace_of self.now }
         ensures members { AreByPath (workspace_of self.now) (places_left result) }
     {
@@ -49,7 +49,7 @@ impl<'g> Workspace<'g> {
     }
 
     /// The ids of the members, ascending by the components of their paths.
-    pub fn member_ids(&self) -> PackageIdsAt<'g>
+    pub fn member_ids(&self) -> PackageIdsAt<'g, 'g>
         ensures graph { ids_graph_of result ≡ workspace_of self.now }
         ensures members { AreByPath (workspace_of self.now) (id_places_left result) }
     {
@@ -58,7 +58,7 @@ impl<'g> Workspace<'g> {
     }
 
     /// The ids of the default members, in the order of the record.
-    pub fn default_member_ids(&self) -> PackageIdsAt<'g>
+    pub fn default_member_ids(&self) -> PackageIdsAt<'g, 'g>
         ensures graph { ids_graph_of result ≡ workspace_of self.now }
         ensures members { id_places_left result ≡ map (place_among (ids_of (workspace_of self.now).packages)) (workspace_of self.now).workspace.default_members }
     {

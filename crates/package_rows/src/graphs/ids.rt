@@ -50,7 +50,7 @@ pub(crate) fn direction_in(row: Row<'_>) -> DependencyDirection {
 }
 
 /// The ids of the packages in their order.
-pub(crate) fn listed_text(alloc: Global, packages: Packages<'_>) -> Result<String, AllocError> {
+pub(crate) fn listed_text(alloc: Global, packages: Packages<'_, '_>) -> Result<String, AllocError> {
     let mut text = String::new(alloc);
     for package in packages {
         push_id(&mut text, package)?;
@@ -61,7 +61,7 @@ pub(crate) fn listed_text(alloc: Global, packages: Packages<'_>) -> Result<Strin
 /// The ids of the packages from the last to the first.
 pub(crate) fn listed_back_text(
     alloc: Global,
-    packages: Packages<'_>,
+    packages: Packages<'_, '_>,
 ) -> Result<String, AllocError> {
     let mut text = String::new(alloc);
     for package in packages.rev() {
@@ -71,7 +71,10 @@ pub(crate) fn listed_back_text(
 }
 
 /// The ids of the initials of a query.
-pub(crate) fn initials_text(alloc: Global, packages: PackagesAt<'_>) -> Result<String, AllocError> {
+pub(crate) fn initials_text(
+    alloc: Global,
+    packages: PackagesAt<'_, '_>,
+) -> Result<String, AllocError> {
     let mut text = String::new(alloc);
     for package in packages {
         push_id(&mut text, package)?;

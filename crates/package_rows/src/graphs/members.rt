@@ -226,7 +226,7 @@ fn packages_text(alloc: Global, packages: &[PackageMetadata<'_>]) -> Result<Stri
     Ok(text)
 }
 
-fn places_text(alloc: Global, packages: PackagesAt<'_>) -> Result<String, AllocError> {
+fn places_text(alloc: Global, packages: PackagesAt<'_, '_>) -> Result<String, AllocError> {
     let mut text = String::new(alloc);
     for package in packages {
         push_word(&mut text, package.id().repr())?;
@@ -234,7 +234,7 @@ fn places_text(alloc: Global, packages: PackagesAt<'_>) -> Result<String, AllocE
     Ok(text)
 }
 
-fn ids_text(alloc: Global, ids: PackageIdsAt<'_>) -> Result<String, AllocError> {
+fn ids_text(alloc: Global, ids: PackageIdsAt<'_, '_>) -> Result<String, AllocError> {
     let mut text = String::new(alloc);
     for id in ids {
         push_word(&mut text, id.repr())?;

@@ -58,7 +58,7 @@ fn cycles_back_text(alloc: Global, cycles: &Cycles<'_>) -> Result<String, AllocE
 }
 
 /// The ids of one cycle, ascending.
-fn sorted_text(alloc: Global, cycle: PackageIdsAt<'_>) -> Result<String, AllocError> {
+fn sorted_text(alloc: Global, cycle: PackageIdsAt<'_, '_>) -> Result<String, AllocError> {
     let mut ids = Vec::new(alloc);
     for id in cycle {
         ids.push(id.repr())?;
