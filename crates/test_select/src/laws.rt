@@ -6,6 +6,7 @@ pub use feature_account::laws::{
     accounts_agree, explanations_are_irreducible, lists_each_rule, stays_on_when_unknowns_count,
     stays_on_with_a_yes, stays_on_with_an_extra,
 };
+pub use graph_switching::laws::switching_keeps_packages;
 pub use kept_records::laws::{
     edges_lead_to_what_is_on, kept_records_have_graphs, lines_on_join_packages_on, order_is_free,
     workspace_packages_are_on,

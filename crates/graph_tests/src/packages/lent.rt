@@ -1,7 +1,7 @@
-//! What sets and queries lend, copy and print.
+//! What sets lend lives as long as their graph; what is copied and printed of them.
 
-use crate::packages::graphs::{TRIANGLE, graph_of, id_of};
-use guppy_package_graph::{DependencyDirection, PackageGraph, PackageMetadata, PackageQuery};
+use crate::packages::graphs::{TRIANGLE, graph_of};
+use guppy_package_graph::{DependencyDirection, PackageGraph, PackageMetadata};
 use std::alloc::{AllocError, Global};
 use std::test::Fail;
 
@@ -18,23 +18,58 @@ fn all_packages<'g>(
     Ok(packages)
 }
 
-// The versions of these packages.
-fn versions<'g>(
-    alloc: Global,
-    packages: &[PackageMetadata<'g>],
-) -> Result<Vec<&'g str>, AllocError> {
-    let mut versions: Vec<&'g str> = Vec::new(alloc);
-    for package in packages {
-        versions.push(package.id().repr())?;
+// Their ids, of packages that are gone when these are looked at.
+fn all_ids<'g>(alloc: Global, graph: &'g PackageGraph) -> Result<Vec<&'g str>, AllocError> {
+    let packages = all_packages(alloc, graph)?;
+    let mut ids: Vec<&'g str> = Vec::new(alloc);
+    for package in &packages {
+        ids.push(package.id().repr())?;
     }
-    Ok(versions)
+    Ok(ids)
+}
+
+// Whether the first of these packages is the one that the graph has at its begin, and the second is not.
+fn compared(alloc: Global, graph: &PackageGraph) -> Result<bool, AllocError> {
+    let packages = all_packages(alloc, graph)?;
+    let mut all = graph.packages();
+    let left = all.len();
+    Ok(
+        left == 3
+            && all.next() == packages.first().copied()
+            && all.next() != packages.first().copied()
+            && all.len() == 1,
+    )
+}
+
+// A copy of the set of all packages, as it is printed.
+fn copy_text(alloc: Global, graph: &PackageGraph) -> Result<String, AllocError> {
+    let all = graph.resolve_all(alloc)?;
+    let copy = all.copy(alloc)?;
+    format!(in alloc; "{copy:?}")
 }
 
 #[test]
-fn packages_outlive_their_set(rt: HostRuntime) -> Result<(), Fail> {
+fn ids_outlive_their_set(rt: HostRuntime) -> Result<(), Fail> {
     let graph = graph_of(rt.alloc(), TRIANGLE)?;
-    let packages = all_packages(rt.alloc(), &graph)?;
-    let ids = versions(rt.alloc(), &packages)?;
-    assert!(rt; ids.as_slice() == ["a", "b", "c"]);
+    let ids = all_ids(rt.alloc(), &graph)?;
+    assert!(rt; ids.as_slice() == ["a", "b", "c"].as_slice());
+    Ok(())
+}
+
+#[test]
+fn packages_are_equal_by_their_ids(rt: HostRuntime) -> Result<(), Fail> {
+    let graph = graph_of(rt.alloc(), TRIANGLE)?;
+    assert!(rt; compared(rt.alloc(), &graph)?);
+    Ok(())
+}
+
+#[test]
+fn a_copied_set_is_printed_by_its_ids(rt: HostRuntime) -> Result<(), Fail> {
+    let graph = graph_of(rt.alloc(), TRIANGLE)?;
+    let text = copy_text(rt.alloc(), &graph)?;
+    assert_eq!(rt;
+        text.as_str(),
+        r#"{PackageId { text: "a" }, PackageId { text: "b" }, PackageId { text: "c" }}"#
+    );
     Ok(())
 }

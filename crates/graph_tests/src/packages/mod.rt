@@ -1,6 +1,7 @@
 //! Visitors of package graphs that keep a state, sets of two graphs, and counted resolves.
 
 mod graphs;
+mod lent;
 mod resolves;
 mod sets;
 mod visitors;
