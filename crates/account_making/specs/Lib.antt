@@ -1,3 +1,4 @@
 pub mod AccountText
+pub mod Laws
 pub mod Lowest
 pub mod Waiting

@@ -3,6 +3,7 @@
 #![tactic(auto)]
 
 mod account;
+pub mod laws;
 mod making;
 mod ready;
 mod waiting;

@@ -1,6 +1,7 @@
 //! The laws of what the program answers from. Each stands, with its statement, at the crate that it speaks of; those of filters
 //! and of graphs are in the modules `laws` of `nextest_filtering`, `guppy_feature_graph` and `guppy_package_graph`.
 
+pub use account_making::laws::lowest_accounts_agree;
 pub use demand_rules::laws::{demands_close_as_rules_do, what_is_chosen_leads_on};
 pub use feature_account::laws::{
     accounts_agree, explanations_are_irreducible, lists_each_rule, stays_on_when_unknowns_count,
