@@ -1,3 +1,4 @@
 pub mod Texts
 pub mod RowFacts
 pub mod LineFacts
+pub mod PathFacts

@@ -1,15 +1,15 @@
 -- The lines of dependencies, one dependency and one package at a time.
-use Rattle.std.proofs.Common.{◌≡◌, ℕ, ◌+◌, ◌<◌, ◌≤◌, Bool, true, false, ◌⊎◌, inl, inr, ⊎_elim, List, [], ◌∷◌, ◌++◌, length, take, get_or, Contains, refl, sym, subst, ap, ◌∙◌, arith}
+use Rattle.std.proofs.Common.{◌≡◌, ℕ, ◌+◌, ◌<◌, ◌≤◌, true, false, inl, inr, ⊎_elim, List, [], ◌∷◌, ◌++◌, length, take, get_or, Contains, refl, sym, subst, ap, ◌∙◌}
 use Rattle.std.proofs.lemmas.Bool.{false≢true}
-use Rattle.std.proofs.lemmas.List.{get_or_default, take_all, take_more}
+use Rattle.std.proofs.lemmas.List.{take_all, take_more}
 use Rattle.std.specs.List.{list_any}
 use Rattle.list_facts.proofs.Membership.{Contains-append_cases, Contains-append_left, Contains-append_right, Contains-cons_cases, Contains-first, Contains-none}
-use Rattle.workspace_record.specs.Records.{Text, Workspace}
+use Rattle.workspace_record.specs.Records.{Workspace}
 use Rattle.cargo_metadata.specs.Dependencies.{Declared}
 use Rattle.cargo_metadata.specs.Packages.{Declaring}
 use Rattle.cargo_metadata.specs.Resolved.{Node}
 use Rattle.cargo_record.specs.Fitting.{IsResolution, fits_to}
-use Rattle.cargo_record.specs.Lines.{AreLines, IsLeftOut, IsLineOf, IsOneMore, IsPushed, IsResolvedLine, IsSeenTo, IsWhole, LineRow, TakesUp, counts, row_of}
+use Rattle.cargo_record.specs.Lines.{AreLines, IsLeftOut, IsPushed, IsResolvedLine, IsSeenTo, IsWhole, LineRow, TakesUp, counts, row_of}
 use Rattle.cargo_record.specs.declared.fitting.Resolution.{Resolution}
 use Rattle.cargo_record.specs.declared.fitting.Resolution.TheVariants.{Nothing, To, Several}
 

@@ -1,11 +1,11 @@
 -- The rows of links, of which one gets a line more.
-use Rattle.std.proofs.Common.{◌≡◌, ℕ, zero, suc, ◌+◌, ◌<◌, ◌↔◌, ◌⊎◌, inl, inr, ⊎_elim, List, [], ◌∷◌, ◌++◌, length, get_or, set, map, flat_map, Contains, Option, refl, sym, subst, ap, ◌∙◌, arith, append_assoc, append-nil}
+use Rattle.std.proofs.Common.{◌≡◌, ℕ, zero, suc, ◌<◌, inl, inr, ⊎_elim, List, [], ◌∷◌, ◌++◌, length, get_or, set, map, Contains, Option, refl, sym, subst, ap, ◌∙◌, arith, append-nil}
 use Rattle.std.proofs.lemmas.List.{map-append}
 use Rattle.std.proofs.lemmas.Grind.{flat_map-append}
 use Rattle.list_facts.proofs.Membership.{Contains-append_cases, Contains-append_left, Contains-append_right, Contains-cons_cases, Contains-first, Contains-none}
 use Rattle.workspace_record.specs.Records.{Text, Line, Link}
 use Rattle.cargo_metadata.specs.Dependencies.{Declared, name_of}
-use Rattle.cargo_record.specs.Lines.{IsLink, IsLinkAt, IsOneMore, LineRow, line_rows, no_link, row_in, row_of}
+use Rattle.cargo_record.specs.Lines.{IsLink, IsLinkAt, IsOneMore, line_rows, no_link, row_in, row_of}
 
 module _ {X : Type 0} where
   one_of : (x y : X) → Contains (x ∷ []) y → x ≡ y

@@ -1,3 +1,4 @@
 pub mod Kept
 pub mod Fitting
 pub mod Lines
+pub mod Members

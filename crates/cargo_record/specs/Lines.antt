@@ -1,5 +1,5 @@
 -- The lines of a record, each a declared dependency that Cargo resolved.
-use Rattle.std.specs.Prelude.{ℕ, slice_index_or, ◌≡◌, ◌↔◌, ◌⊎◌, ◌&&◌, ◌||◌, Bool, true, false, not, List, [], ◌∷◌, map, flat_map, Contains, nat_eq, Option, Some, None}
+use Rattle.std.specs.Prelude.{ℕ, slice_index_or, ◌≡◌, ◌↔◌, ◌⊎◌, ◌||◌, Bool, true, false, not, List, [], map, flat_map, Contains, nat_eq, Some, None}
 use Rattle.std.specs.List.{list_any}
 use Rattle.workspace_record.specs.Kinds.{line_kind_index}
 use Rattle.workspace_record.specs.Records.{Text, Line, Link, Workspace}

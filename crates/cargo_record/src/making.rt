@@ -1,8 +1,9 @@
 //! The whole record.
 
-ghost use Rattle.std.specs.Prelude.{◌≡◌, [], IfOk, map};
+ghost use Rattle.std.specs.Prelude.{◌≡◌, [], IfOk, None, Some, map, true};
 ghost use Rattle.cargo_record.specs.Kept as spec;
 ghost use Rattle.cargo_record.specs.Lines.{AreLinesOf, line_rows, unlinked};
+ghost use Rattle.cargo_record.specs.Members.{IsWorkspaceOf, are_names};
 
 use crate::fault::RecordFault;
 use crate::lines::links_of;
@@ -21,7 +22,10 @@ pub fn record_of(
     wanted: Wanted<'_>,
 ) -> Result<WorkspaceRecord, RecordFault>
     ensures packages { IfOk result (λ w. w.packages ≡ map spec.kept_row metadata.now.packages) }
+    ensures workspace { IfOk result (λ w. IsWorkspaceOf metadata.now wanted.entry w.workspace) }
     ensures lines { IfOk result (λ w. AreLinesOf (unlinked w) metadata.now (line_rows w.links)) }
+    ensures rest { IfOk result (λ w. (w.groups ≡ []) × (w.default_filter ≡ None)) }
+    ensures askable { IfOk result (λ _. (metadata.now.format ≡ Some 1) × (are_names metadata.now wanted.entry ≡ true)) }
 {
     check_format(metadata)?;
     let workspace = workspace_of(alloc, metadata, wanted)?;
@@ -29,7 +33,9 @@ pub fn record_of(
     with_links(alloc, metadata, without_links(alloc, packages, workspace))
 }
 
-fn check_format(metadata: &Metadata) -> Result<(), RecordFault> {
+fn check_format(metadata: &Metadata) -> Result<(), RecordFault>
+    ensures { IfOk result (λ _. metadata.now.format ≡ Some 1) }
+{
     if metadata.format == Some(1) {
         Ok(())
     } else {
@@ -44,6 +50,8 @@ fn without_links(
 ) -> WorkspaceRecord
     ensures packages { result.packages ≡ packages.items }
     ensures links { result.links ≡ [] }
+    ensures workspace { result.workspace ≡ workspace }
+    ensures rest { (result.groups ≡ []) × (result.default_filter ≡ None) }
 {
     WorkspaceRecord {
         packages,
@@ -61,6 +69,8 @@ fn with_links(
 ) -> Result<WorkspaceRecord, RecordFault>
     requires { rows.links ≡ [] }
     ensures packages { IfOk result (λ w. w.packages ≡ rows.packages) }
+    ensures workspace { IfOk result (λ w. w.workspace ≡ rows.workspace) }
+    ensures rest { IfOk result (λ w. (w.groups ≡ rows.groups) × (w.default_filter ≡ rows.default_filter)) }
     ensures lines { IfOk result (λ w. AreLinesOf (unlinked w) metadata.now (line_rows w.links)) }
 {
     let links = links_of(alloc, &rows, metadata)?;

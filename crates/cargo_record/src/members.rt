@@ -1,6 +1,8 @@
 //! The members that are asked about.
 
-ghost use Rattle.std.specs.Prelude.{◌≡◌, IfOk, option_map, string_bytes};
+ghost use Rattle.std.specs.Prelude.{◌≡◌, ◌&&◌, IfOk, Some, bytes_eq, filter, find, map, option_copied, option_map, string_bytes, true};
+ghost use Rattle.std.specs.List.{list_all, list_any};
+ghost use Rattle.cargo_record.specs.Members as spec;
 
 use crate::fault::RecordFault;
 use cargo_metadata::{DeclaringPackage, Metadata, WorkspaceNames, folder_of};
@@ -23,9 +25,12 @@ pub(crate) fn workspace_of(
     alloc: Global,
     metadata: &Metadata,
     wanted: Wanted<'_>,
-) -> Result<WorkspaceInfo, RecordFault> {
+) -> Result<WorkspaceInfo, RecordFault>
+    ensures names { IfOk result (λ _. spec.are_names metadata.now wanted.entry ≡ true) }
+    ensures is { IfOk result (λ w. spec.IsWorkspaceOf metadata.now wanted.entry w) }
+{
     check_names(alloc, metadata, wanted)?;
-    let members = members_of(alloc, metadata, wanted)?;
+    let members = members_of(alloc, metadata, wanted, &metadata.workspace.members)?;
     Ok(workspace_named(alloc, &metadata.workspace, members)?)
 }
 
@@ -33,8 +38,14 @@ fn workspace_named(
     alloc: Global,
     names: &WorkspaceNames,
     members: Vec<MemberRecord>,
-) -> Result<WorkspaceInfo, AllocError> {
-    let default_members = default_members_of(alloc, names, &members)?;
+) -> Result<WorkspaceInfo, AllocError>
+    ensures root { IfOk result (λ w. w.root ≡ names.now.root) }
+    ensures target_directory { IfOk result (λ w. w.target_directory ≡ names.now.target_directory) }
+    ensures build_directory { IfOk result (λ w. w.build_directory ≡ names.now.build_directory) }
+    ensures members { IfOk result (λ w. w.members ≡ members.items) }
+    ensures default_members { IfOk result (λ w. w.default_members ≡ filter (spec.is_among (spec.ids members.items)) (spec.named_defaults names.now.default_members)) }
+{
+    let default_members = default_members_of(alloc, &names.default_members, &members)?;
     let root = String::from_str(alloc, names.root.as_str())?;
     let target_directory = String::from_str(alloc, names.target_directory.as_str())?;
     let build_directory = copy_text(alloc, &names.build_directory)?;
@@ -57,127 +68,212 @@ pub(crate) fn copy_text(alloc: Global, text: &Option<String>) -> Result<Option<S
     }
 }
 
+/// Of the members with these ids those that are asked about.
 fn members_of(
     alloc: Global,
     metadata: &Metadata,
     wanted: Wanted<'_>,
-) -> Result<Vec<MemberRecord>, RecordFault> {
+    ids: &[String],
+) -> Result<Vec<MemberRecord>, RecordFault>
+    ensures { IfOk result (λ v. v.items ≡ map (spec.member_with metadata.now) (filter (spec.is_asked metadata.now wanted.entry) (map string_bytes ids.now))) }
+{
     let mut members = Vec::new(alloc);
-    for id in &metadata.workspace.members {
-        push_member(alloc, &mut members, metadata, wanted, id.as_str())?;
+    for id in ids {
+        let package = member_package(alloc, metadata, id.as_str())?;
+        if is_wanted(
+            wanted,
+            &metadata.workspace,
+            id.as_str(),
+            package.row.name.as_str(),
+        ) {
+            members.push(member_of(alloc, metadata, id.as_str(), package)?)?;
+        }
     }
     Ok(members)
 }
 
-fn push_member(
+/// The package of a member.
+fn member_package<'a>(
     alloc: Global,
-    members: &mut Vec<MemberRecord>,
-    metadata: &Metadata,
-    wanted: Wanted<'_>,
+    metadata: &'a Metadata,
     id: &str,
-) -> Result<(), RecordFault> {
-    let Some(package) = package_of(metadata, id) else {
-        return Err(RecordFault::NoPackage(String::from_str(alloc, id)?));
-    };
-    if is_wanted(wanted, &metadata.workspace, id, package.row.name.as_str()) {
-        members.push(member_of(alloc, metadata.workspace.root.as_str(), package)?)?;
+) -> Result<&'a DeclaringPackage, RecordFault>
+    ensures { IfOk result (λ p. spec.package_with metadata.entry.now id.now ≡ Some p.now) }
+{
+    match package_with(metadata, id) {
+        Some(package) => Ok(package),
+        None => Err(RecordFault::NoPackage(String::from_str(alloc, id)?)),
     }
-    Ok(())
 }
 
 /// The package with this id.
-fn package_of<'a>(metadata: &'a Metadata, id: &str) -> Option<&'a DeclaringPackage> {
-    metadata
-        .packages
+fn package_with<'a>(metadata: &'a Metadata, id: &str) -> Option<&'a DeclaringPackage>
+    ensures { option_copied result ≡ spec.package_with metadata.entry.now id.now }
+{
+    package_among(&metadata.packages, id)
+}
+
+fn package_among<'a>(packages: &'a [DeclaringPackage], id: &str) -> Option<&'a DeclaringPackage>
+    ensures { option_copied result ≡ find (λ p. bytes_eq p.row.id id.now) packages.entry.now }
+{
+    packages
         .iter()
         .find(|package| package.row.id.as_str() == id)
 }
 
+/// The member of this id and package.
 fn member_of(
     alloc: Global,
-    root: &str,
+    metadata: &Metadata,
+    id: &str,
     package: &DeclaringPackage,
-) -> Result<MemberRecord, AllocError> {
+) -> Result<MemberRecord, AllocError>
+    requires { spec.package_with metadata.now id.now ≡ Some «package».now }
+    ensures { IfOk result (λ member. member ≡ spec.member_with metadata.now id.now) }
+{
     let folder = folder_of(package.row.info.manifest_path.as_str());
-    let path = String::from_str(alloc, below(root, folder))?;
-    let package = String::from_str(alloc, package.row.id.as_str())?;
+    let path = String::from_str(alloc, below(metadata.workspace.root.as_str(), folder))?;
+    let package = String::from_str(alloc, id)?;
     Ok(MemberRecord { package, path })
 }
 
 /// Whether a member is asked about.
-fn is_wanted(wanted: Wanted<'_>, names: &WorkspaceNames, id: &str, name: &str) -> bool {
+fn is_wanted(wanted: Wanted<'_>, names: &WorkspaceNames, id: &str, name: &str) -> bool
+    ensures { result ≡ spec.is_wanted wanted.entry names.now id.now name.now }
+{
     match wanted {
         Wanted::Workspace => true,
-        Wanted::Named(all) => all.iter().any(|other| *other == name),
-        Wanted::Default => match &names.default_members {
-            Some(defaults) => is_among(defaults, id),
-            None => true,
-        },
+        Wanted::Named(all) => is_named(all, name),
+        Wanted::Default => is_default(&names.default_members, id),
     }
 }
 
-fn is_among(texts: &[String], name: &str) -> bool {
-    texts.iter().any(|text| text.as_str() == name)
+fn is_named(all: &[&str], name: &str) -> bool
+    ensures { result ≡ list_any (λ other. bytes_eq other.now name.now) all.now }
+{
+    all.iter().any(|other| *other == name)
+}
+
+fn is_default(defaults: &Option<Vec<String>>, id: &str) -> bool
+    ensures { result ≡ spec.is_default (option_map (λ v. map string_bytes v.items) defaults.now) id.now }
+{
+    match defaults {
+        Some(ids) => is_among(ids, id),
+        None => true,
+    }
+}
+
+fn is_among(ids: &[String], id: &str) -> bool
+    ensures { result ≡ spec.is_among (map string_bytes ids.now) id.now }
+{
+    has_text(ids, id)
+}
+
+fn has_text(texts: &[String], text: &str) -> bool
+    ensures { result ≡ list_any (λ other. bytes_eq (string_bytes other) text.now) texts.now }
+{
+    texts.iter().any(|other| other.as_str() == text)
 }
 
 /// The path of a folder below another one; a folder elsewhere is named as it is.
-fn below<'a>(root: &str, folder: &'a str) -> &'a str {
+fn below<'a>(root: &str, folder: &'a str) -> &'a str
+    ensures { result.now ≡ spec.below root.now folder.entry.now }
+{
     match folder.strip_prefix(root) {
-        Some(rest) => match rest.strip_prefix("/") {
-            Some(path) => path,
-            None => rest,
-        },
+        Some(rest) => unslashed(rest),
         None => folder,
+    }
+}
+
+fn unslashed(path: &str) -> &str
+    ensures { result.now ≡ spec.unslashed path.entry.now }
+{
+    match path.strip_prefix("/") {
+        Some(rest) => rest,
+        None => path,
     }
 }
 
 /// The default members among the members that are asked about.
 fn default_members_of(
     alloc: Global,
-    names: &WorkspaceNames,
+    defaults: &Option<Vec<String>>,
     members: &[MemberRecord],
-) -> Result<Vec<String>, AllocError> {
-    let mut defaults = Vec::new(alloc);
-    if let Some(ids) = &names.default_members {
-        push_members(alloc, &mut defaults, ids, members)?;
+) -> Result<Vec<String>, AllocError>
+    ensures { IfOk result (λ v. map string_bytes v.items ≡ filter (spec.is_among (spec.ids members.now)) (spec.named_defaults (option_map (λ w. map string_bytes w.items) defaults.now))) }
+{
+    match defaults {
+        Some(ids) => ids_among(alloc, ids, members),
+        None => Ok(Vec::new(alloc)),
     }
-    Ok(defaults)
 }
 
-fn push_members(
+fn ids_among(
     alloc: Global,
-    found: &mut Vec<String>,
     ids: &[String],
     members: &[MemberRecord],
-) -> Result<(), AllocError> {
+) -> Result<Vec<String>, AllocError>
+    ensures { IfOk result (λ v. map string_bytes v.items ≡ filter (spec.is_among (spec.ids members.now)) (map string_bytes ids.now)) }
+{
+    let mut found = Vec::new(alloc);
     for id in ids {
         if has_member(members, id.as_str()) {
             found.push(String::from_str(alloc, id.as_str())?)?;
         }
     }
-    Ok(())
+    Ok(found)
 }
 
-fn has_member(members: &[MemberRecord], id: &str) -> bool {
+fn has_member(members: &[MemberRecord], id: &str) -> bool
+    ensures { result ≡ spec.is_among (spec.ids members.now) id.now }
+{
+    has_id(members, id)
+}
+
+fn has_id(members: &[MemberRecord], id: &str) -> bool
+    ensures { result ≡ list_any (λ member. bytes_eq member.package_id id.now) members.now }
+{
     members.iter().any(|member| member.package.as_str() == id)
 }
 
 /// Refuses a name that is asked for and that no member has.
-fn check_names(alloc: Global, metadata: &Metadata, wanted: Wanted<'_>) -> Result<(), RecordFault> {
-    if let Wanted::Named(names) = wanted {
-        for name in names {
-            if !is_member_name(metadata, name) {
-                return Err(RecordFault::NoMember(String::from_str(alloc, name)?));
-            }
-        }
+fn check_names(alloc: Global, metadata: &Metadata, wanted: Wanted<'_>) -> Result<(), RecordFault>
+    ensures { IfOk result (λ _. spec.are_names metadata.now wanted.entry ≡ true) }
+{
+    match wanted {
+        Wanted::Named(names) => check_each(alloc, metadata, names),
+        _ => Ok(()),
     }
-    Ok(())
+}
+
+fn check_each(alloc: Global, metadata: &Metadata, names: &[&str]) -> Result<(), RecordFault>
+    ensures { IfOk result (λ _. list_all (λ name. spec.is_member_name metadata.now name.now) names.now ≡ true) }
+{
+    if are_names(metadata, names) {
+        return Ok(());
+    }
+    let unknown = names.iter().find(|name| !is_member_name(metadata, name));
+    let name = unknown.copied().unwrap_or_default();
+    Err(RecordFault::NoMember(String::from_str(alloc, name)?))
+}
+
+fn are_names(metadata: &Metadata, names: &[&str]) -> bool
+    ensures { result ≡ list_all (λ name. spec.is_member_name metadata.now name.now) names.now }
+{
+    names.iter().all(|name| is_member_name(metadata, name))
 }
 
 /// Whether a member of the workspace has the name.
-fn is_member_name(metadata: &Metadata, name: &str) -> bool {
-    metadata.packages.iter().any(|package| {
-        package.row.name.as_str() == name
-            && is_among(&metadata.workspace.members, package.row.id.as_str())
+fn is_member_name(metadata: &Metadata, name: &str) -> bool
+    ensures { result ≡ spec.is_member_name metadata.now name.now }
+{
+    has_member_name(&metadata.packages, &metadata.workspace.members, name)
+}
+
+fn has_member_name(packages: &[DeclaringPackage], ids: &[String], name: &str) -> bool
+    ensures { result ≡ list_any (λ p. bytes_eq p.row.name name.now && spec.is_among (map string_bytes ids.now) p.row.id) packages.now }
+{
+    packages.iter().any(|package| {
+        package.row.name.as_str() == name && is_among(ids, package.row.id.as_str())
     })
 }

@@ -1,7 +1,6 @@
-use Rattle.std.proofs.Common.{◌≡◌, true, ◌∙◌, sym, ap}
-use Rattle.cargo_record.specs.Fitting.{IsResolution}
-use Rattle.cargo_record.specs.Lines.{IsPushed, counts, line_rows}
-use Rattle.cargo_record.proofs.LineFacts.{takes_none, takes_one}
+use Rattle.std.proofs.Common.{◌∙◌, sym, ap}
+use Rattle.cargo_record.specs.Lines.{line_rows}
+use Rattle.cargo_record.proofs.LineFacts.{takes_one}
 use Rattle.cargo_record.proofs.lines.push_dependency.Goals as goal
 
 pub returns : goal.returns
