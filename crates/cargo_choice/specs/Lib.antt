@@ -1,0 +1,4 @@
+pub mod Words
+pub mod WordView
+pub mod Meaning
+pub mod Faults

@@ -16,13 +16,24 @@ impl fmt::Display for ChoiceFault {
     fn fmt<W: fmt::Write>(&self, f: &mut fmt::Formatter<W>) -> fmt::Result {
         match self {
             ChoiceFault::NoFeature(word, near) => {
-                write!(f, "no member has the feature `{word}`{near}")
+                write!(f, "no member has the feature `{word}`")?;
+                f.write_str(remedy(near.as_str()))
             }
             ChoiceFault::NoMember(word, near) => {
-                write!(f, "no member is named as in `{word}`{near}")
+                write!(f, "no member is named as in `{word}`")?;
+                f.write_str(remedy(near.as_str()))
             }
             ChoiceFault::Memory => f.write_str("out of memory"),
         }
+    }
+}
+
+/// The near names, or else what can be named.
+fn remedy(near: &str) -> &str {
+    if near.is_empty() {
+        ": name a feature of a member, as NAME or PACKAGE/NAME"
+    } else {
+        near
     }
 }
 

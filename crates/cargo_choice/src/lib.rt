@@ -3,7 +3,12 @@
 
 mod choosing;
 mod fault;
+mod meaning;
 mod near;
+mod refusing;
+mod splitting;
+mod word;
 
 pub use crate::choosing::{FeatureWords, choice_of};
 pub use crate::fault::ChoiceFault;
+pub use crate::splitting::feature_words;

@@ -1,0 +1,52 @@
+-- What words mean, one word more at a time.
+use Rattle.std.proofs.Common.{◌≡◌, ℕ, ◌+◌, ◌<◌, List, [], ◌∷◌, ◌++◌, length, take, get_or, map, Contains, Bor, ⊎_elim, sym, subst, ap, ◌∙◌, string_bytes, append-nil}
+use Rattle.std.proofs.lemmas.List.{get_or_default, map-append, take_more}
+use Rattle.std.proofs.lemmas.Grind.{flat_map-append}
+use Rattle.list_facts.proofs.Membership.{Contains-append_cases, Contains-cons_cases, Contains-map, Contains-none}
+use Rattle.workspace_record.specs.Records.{Text, Workspace}
+use Rattle.cargo_choice.specs.Meaning.{AllMean, Refuses, RefusesOne, meant, meant_by}
+use Rattle.cargo_choice.specs.Words.{word_value}
+use Rattle.cargo_choice.specs.declared.fault.ChoiceFault.{ChoiceFault}
+use Rattle.cargo_choice.specs.declared.fault.ChoiceFault.TheVariants.{NoFeature, NoMember, Memory}
+
+abbrev bytes : Bor Text → Text
+bytes word = word.now
+
+-- what stands past the last word
+abbrev pub no_word : Bor Text
+no_word = record { ref_ptr = (0, 0); now = [] }
+
+only : (x y : Text) → Contains (x ∷ []) y → x ≡ y
+only x y h = ⊎_elim (λ e. e) (λ none. absurd (Contains-none y none)) (Contains-cons_cases x [] y h)
+
+words_more : (words : List (Bor Text)) (i : ℕ) (d : Bor Text) → i < length words → map bytes (take (i + 1) words) ≡ map bytes (take i words) ++ (get_or words i d).now ∷ []
+words_more words i d lt = ap (map bytes) (take_more words i d lt) ∙ map-append bytes (take i words) (get_or words i d ∷ [])
+
+module _ (w : Workspace) where
+  pub meant_more : (words : List (Bor Text)) (i : ℕ) (d : Bor Text) → i < length words → meant_by w (map bytes (take (i + 1) words)) ≡ meant_by w (map bytes (take i words)) ++ meant w (word_value (get_or words i d).now)
+  meant_more words i d lt =
+      let word = (get_or words i d).now in
+      let before = map bytes (take i words) in
+      ap (meant_by w) (words_more words i d lt) ∙ flat_map-append (λ x. meant w (word_value x)) before (word ∷ []) ∙ ap (λ t. meant_by w before ++ t) (append-nil (meant w (word_value word)))
+
+  all_and_one : (words : List Text) (word : Text) → AllMean w words → (meant w (word_value word) ≡ [] → ⊥) → AllMean w (words ++ word ∷ [])
+  all_and_one words word all one x h =
+      ⊎_elim (λ a. all x a) (λ b. subst (λ y. meant w (word_value y) ≡ [] → ⊥) (only word x b) one) (Contains-append_cases words (word ∷ []) x h)
+
+  pub all_mean_more : (words : List (Bor Text)) (i : ℕ) (d : Bor Text) → i < length words → AllMean w (map bytes (take i words)) → (meant w (word_value (get_or words i d).now) ≡ [] → ⊥) → AllMean w (map bytes (take (i + 1) words))
+  all_mean_more words i d lt all one =
+      subst (AllMean w) (sym (words_more words i d lt)) (all_and_one (map bytes (take i words)) (get_or words i d).now all one)
+
+  named_one : (words : List Text) (word named : Text) → Contains words word → (named ≡ word) × (meant w (word_value word) ≡ []) → Contains words named × (meant w (word_value named) ≡ [])
+  named_one words word named here h =
+      (subst (Contains words) (sym h.0) here, subst (λ x. meant w (word_value x) ≡ []) (sym h.0) h.1)
+
+  refuses : (words : List Text) (word : Text) (fault : ChoiceFault) → Contains words word → Refuses w word fault → RefusesOne w words fault
+  refuses words word (NoFeature named near) here h = named_one words word (string_bytes named) here h
+  refuses words word (NoMember named near) here h = named_one words word (string_bytes named) here h
+  refuses words word Memory here h = tt
+
+  pub refuses_at : (words : List (Bor Text)) (i : ℕ) (d : Bor Text) (fault : ChoiceFault) → i < length words → Refuses w (get_or words i d).now fault → RefusesOne w (map bytes words) fault
+  refuses_at words i d fault lt h =
+      let word = get_or words i d in
+      refuses (map bytes words) word.now fault (Contains-map bytes words word (i, lt, get_or_default words i word d lt)) h
