@@ -1,17 +1,16 @@
 use crate::made::{
     Made, choice_made, nextest_made, record_made, spec_told, table_made, terse_made,
 };
-use cargo_cfg::{CfgSetting, SettingsError, read_settings};
 use cargo_choice::FeatureWords;
 use cargo_record::Wanted;
 use record_files::read_record;
+use record_writing::record_text;
 use row_program::{Answers, Row, RowFault, RowRunner, file_text};
-use std::alloc::Global;
-use workspace_record::WorkspaceRecord;
+use std::alloc::{AllocError, Global};
 
-/// Rows of conversions. A row's `kind` says what is made: `spec`, `table`, `record`, `choice`, or the listings of one
-/// binary by `terse` or `nextest`. What
-/// comes is the file that is `made`, or of a spec its answer, and else why it is `refused`.
+/// Rows of conversions. A row's `kind` says what is made: `spec`, `table`, `record`, `choice`, or the
+/// listings of one binary by `terse` or `nextest`. What comes is the file that is `made`, or of a spec
+/// its answer, and else the line by which a file is `refused`. A record has to be read back as one.
 #[derive(Drop)]
 pub(crate) struct CargoRows;
 
@@ -31,6 +30,7 @@ impl RowRunner for CargoRows {
             "id",
             "printed",
             "list",
+            "built",
         ]
     }
 
@@ -52,45 +52,40 @@ fn made_of(alloc: Global, row: Row<'_>) -> Result<Made, RowFault> {
         "table" => table_of(alloc, row),
         "record" => record_of(alloc, row),
         "choice" => choice_of(alloc, row),
-        "terse" => Ok(terse_made(alloc, row.text("id")?, row.text("printed")?)?),
+        "terse" => terse_of(alloc, row),
         "nextest" => nextest_of(alloc, row),
         _ => Err(RowFault::Key("kind")),
     }
 }
 
 fn spec_of(alloc: Global, row: Row<'_>) -> Result<Made, RowFault> {
-    match settings_of(alloc, row)? {
-        Ok(settings) => Ok(spec_told(alloc, row.text("spec")?, row.text("triple")?, &settings)?),
-        Err(error) => Ok(Made::refused(alloc, &error)?),
-    }
+    let printed = row.text("cfg")?.as_bytes();
+    Ok(spec_told(alloc, row.text("spec")?, row.text("triple")?, printed)?)
 }
 
 fn table_of(alloc: Global, row: Row<'_>) -> Result<Made, RowFault> {
-    match settings_of(alloc, row)? {
-        Ok(settings) => {
-            let record = record_in(alloc, row)?;
-            Ok(table_made(alloc, &record, row.text("triple")?, &settings)?)
-        }
-        Err(error) => Ok(Made::refused(alloc, &error)?),
-    }
-}
-
-fn settings_of(
-    alloc: Global,
-    row: Row<'_>,
-) -> Result<Result<Vec<CfgSetting>, SettingsError>, RowFault> {
-    let printed = row.text("cfg")?;
-    Ok(read_settings(alloc, printed.as_bytes()))
+    let record = file_in(alloc, row, "record")?;
+    let printed = row.text("cfg")?.as_bytes();
+    Ok(table_made(alloc, record.as_bytes(), row.text("triple")?, printed)?)
 }
 
 fn record_of(alloc: Global, row: Row<'_>) -> Result<Made, RowFault> {
-    let Some(value) = row.get("metadata") else {
-        return Err(RowFault::Key("metadata"));
-    };
-    let metadata = file_text(alloc, value)?;
+    let metadata = file_in(alloc, row, "metadata")?;
     let names = row.texts(alloc, "packages")?;
     let wanted = wanted_by(row.get("workspace").is_some(), &names);
-    Ok(record_made(alloc, metadata.as_bytes(), wanted)?)
+    let made = record_made(alloc, metadata.as_bytes(), wanted)?;
+    if made.refused.is_empty() && !reads_back(alloc, made.text.as_str())? {
+        return Err(RowFault::Key("made"));
+    }
+    Ok(made)
+}
+
+/// Whether the file of a record is read as the record of which just this file is made.
+fn reads_back(alloc: Global, text: &str) -> Result<bool, AllocError> {
+    match read_record(alloc, text.as_bytes()) {
+        Ok(record) => Ok(record_text(alloc, &record)?.as_str() == text),
+        Err(_) => Ok(false),
+    }
 }
 
 fn wanted_by<'m>(workspace: bool, names: &'m [&'m str]) -> Wanted<'m> {
@@ -104,7 +99,7 @@ fn wanted_by<'m>(workspace: bool, names: &'m [&'m str]) -> Wanted<'m> {
 }
 
 fn choice_of(alloc: Global, row: Row<'_>) -> Result<Made, RowFault> {
-    let record = record_in(alloc, row)?;
+    let record = file_in(alloc, row, "record")?;
     let features = row.texts(alloc, "features")?;
     let flags = row.texts(alloc, "flags")?;
     let words = FeatureWords {
@@ -112,22 +107,30 @@ fn choice_of(alloc: Global, row: Row<'_>) -> Result<Made, RowFault> {
         no_default_features: flags.contains(&"no-default-features"),
         all_features: flags.contains(&"all-features"),
     };
-    Ok(choice_made(alloc, &record, words)?)
+    Ok(choice_made(alloc, record.as_bytes(), words)?)
 }
 
-fn nextest_of(alloc: Global, row: Row<'_>) -> Result<Made, RowFault> {
-    match row.get("list") {
-        Some(list) => Ok(nextest_made(alloc, row.text("id")?, list)?),
-        None => Err(RowFault::Key("list")),
+fn terse_of(alloc: Global, row: Row<'_>) -> Result<Made, RowFault> {
+    let built = row.get("built").is_some();
+    match row.get("printed") {
+        Some(_) => {
+            let printed = row.text("printed")?.as_bytes();
+            Ok(terse_made(alloc, row.text("id")?, Some(printed), built)?)
+        }
+        None => Ok(terse_made(alloc, row.text("id")?, None, built)?),
     }
 }
 
-fn record_in(alloc: Global, row: Row<'_>) -> Result<WorkspaceRecord, RowFault> {
-    let Some(value) = row.get("record") else {
-        return Err(RowFault::Key("record"));
-    };
-    match read_record(alloc, file_text(alloc, value)?.as_bytes()) {
-        Ok(record) => Ok(record),
-        Err(_) => Err(RowFault::Key("record")),
+fn nextest_of(alloc: Global, row: Row<'_>) -> Result<Made, RowFault> {
+    let list = file_in(alloc, row, "list")?;
+    let built = row.get("built").is_some();
+    Ok(nextest_made(alloc, row.text("id")?, list.as_bytes(), built)?)
+}
+
+/// The file under a key: a text as it stands, and else the JSON.
+fn file_in(alloc: Global, row: Row<'_>, key: &'static str) -> Result<String, RowFault> {
+    match row.get(key) {
+        Some(value) => Ok(file_text(alloc, value)?),
+        None => Err(RowFault::Key(key)),
     }
 }

@@ -2,15 +2,13 @@
 
 use cargo_cfg::{CfgSetting, spec_holds};
 use cargo_choice::FeatureWords;
-use cargo_listings::{TerseFault, nextest_tests, terse_tests};
-use cargo_metadata::{Metadata, read_metadata};
-use cargo_record::{Wanted, record_of};
-use record_files::read_record;
-use record_writing::{choice_text, listings_text, record_text, table_text};
-use serde_json::Value;
+use cargo_files::{
+    Refusal, RefusedFile, add_listing, choice_file, listings_file, nextest_listings, record_file,
+    settings_file, table_file, tests_printed,
+};
+use cargo_record::Wanted;
 use std::alloc::{AllocError, Global};
 use std::fmt::Display;
-use workspace_record::WorkspaceRecord;
 
 /// The file that is made, and why none is: one of them is empty.
 #[derive(Drop)]
@@ -20,7 +18,7 @@ pub(crate) struct Made {
 }
 
 impl Made {
-    fn of(alloc: Global, text: String) -> Made {
+    pub(crate) fn of(alloc: Global, text: String) -> Made {
         let refused = String::new(alloc);
         Made { text, refused }
     }
@@ -30,9 +28,34 @@ impl Made {
         let text = String::new(alloc);
         Ok(Made { text, refused })
     }
+
+    /// What is made of the file with this name.
+    fn of_file(
+        alloc: Global,
+        name: &str,
+        made: Result<String, Refusal>,
+    ) -> Result<Made, AllocError> {
+        match made {
+            Ok(text) => Ok(Made::of(alloc, text)),
+            Err(refusal) => Made::refused(alloc, &RefusedFile { name, refusal }),
+        }
+    }
 }
 
+/// Whether the platform of these settings has what a spec asks for.
 pub(crate) fn spec_told(
+    alloc: Global,
+    spec: &str,
+    triple: &str,
+    printed: &[u8],
+) -> Result<Made, AllocError> {
+    match settings_file(alloc, printed) {
+        Ok(settings) => answer_told(alloc, spec, triple, &settings),
+        Err(refusal) => cfg_refused(alloc, refusal),
+    }
+}
+
+fn answer_told(
     alloc: Global,
     spec: &str,
     triple: &str,
@@ -44,85 +67,81 @@ pub(crate) fn spec_told(
     }
 }
 
+fn cfg_refused(alloc: Global, refusal: Refusal) -> Result<Made, AllocError> {
+    let name = "cfg.txt";
+    Made::refused(alloc, &RefusedFile { name, refusal })
+}
+
 pub(crate) fn table_made(
     alloc: Global,
-    record: &WorkspaceRecord,
+    record: &[u8],
     triple: &str,
-    settings: &[CfgSetting],
+    printed: &[u8],
 ) -> Result<Made, AllocError> {
-    match cargo_cfg::table_of(alloc, record, triple, settings) {
-        Ok(table) => Ok(Made::of(alloc, table_text(alloc, &table)?)),
-        Err(error) => Made::refused(alloc, &error),
+    match settings_file(alloc, printed) {
+        Ok(settings) => {
+            let table = table_file(alloc, record, triple, &settings);
+            Made::of_file(alloc, "record.json", table)
+        }
+        Err(refusal) => cfg_refused(alloc, refusal),
     }
 }
 
 pub(crate) fn record_made(
     alloc: Global,
-    bytes: &[u8],
+    metadata: &[u8],
     wanted: Wanted<'_>,
 ) -> Result<Made, AllocError> {
-    match read_metadata(alloc, bytes) {
-        Ok(metadata) => record_from(alloc, &metadata, wanted),
-        Err(error) => Made::refused(alloc, &error),
-    }
-}
-
-fn record_from(alloc: Global, metadata: &Metadata, wanted: Wanted<'_>) -> Result<Made, AllocError> {
-    match record_of(alloc, metadata, wanted) {
-        Ok(record) => written(alloc, &record),
-        Err(fault) => Made::refused(alloc, &fault),
-    }
-}
-
-/// The file of a record, which has to be read as the same record.
-fn written(alloc: Global, record: &WorkspaceRecord) -> Result<Made, AllocError> {
-    let text = record_text(alloc, record)?;
-    if reads_back(alloc, text.as_str(), record) {
-        return Ok(Made::of(alloc, text));
-    }
-    let refused = String::from_str(alloc, "another record is read back")?;
-    let text = String::new(alloc);
-    Ok(Made { text, refused })
-}
-
-fn reads_back(alloc: Global, text: &str, record: &WorkspaceRecord) -> bool {
-    match read_record(alloc, text.as_bytes()) {
-        Ok(read) => read == *record,
-        Err(_) => false,
-    }
+    let record = record_file(alloc, metadata, wanted);
+    Made::of_file(alloc, "metadata.json", record)
 }
 
 pub(crate) fn choice_made(
     alloc: Global,
-    record: &WorkspaceRecord,
+    record: &[u8],
     words: FeatureWords<'_>,
 ) -> Result<Made, AllocError> {
-    match cargo_choice::choice_of(alloc, record, words) {
-        Ok(choice) => Ok(Made::of(alloc, choice_text(alloc, &choice)?)),
-        Err(fault) => Made::refused(alloc, &fault),
-    }
+    Made::of_file(alloc, "record.json", choice_file(alloc, record, words))
 }
 
-/// The listings of one binary, of what it printed.
-pub(crate) fn terse_made(alloc: Global, id: &str, printed: &str) -> Result<Made, AllocError> {
-    match terse_tests(alloc, printed) {
-        Ok(tests) => listed(alloc, id, tests),
-        Err(TerseFault::NoTest(place)) => Made::refused(alloc, &place),
-        Err(TerseFault::Memory) => Err(AllocError),
-    }
+/// The listings of one binary, of what it printed, if it printed something.
+pub(crate) fn terse_made(
+    alloc: Global,
+    id: &str,
+    printed: Option<&[u8]>,
+    built: bool,
+) -> Result<Made, AllocError> {
+    Made::of_file(alloc, "lists", terse_file(alloc, id, printed, built))
+}
+
+fn terse_file(
+    alloc: Global,
+    id: &str,
+    printed: Option<&[u8]>,
+    built: bool,
+) -> Result<String, Refusal> {
+    let tests = match printed {
+        Some(printed) => Some(tests_printed(alloc, id, printed)?),
+        None => None,
+    };
+    let mut listings = Vec::new(alloc);
+    add_listing(alloc, &mut listings, id, tests, built)?;
+    listings_file(alloc, &listings)
 }
 
 /// The listings of one binary, of what nextest listed.
-pub(crate) fn nextest_made(alloc: Global, id: &str, list: &Value) -> Result<Made, AllocError> {
-    match nextest_tests(alloc, list, id)? {
-        Some(tests) => listed(alloc, id, tests),
-        None => Made::refused(alloc, &id),
-    }
+pub(crate) fn nextest_made(
+    alloc: Global,
+    id: &str,
+    printed: &[u8],
+    built: bool,
+) -> Result<Made, AllocError> {
+    let file = nextest_file(alloc, id, printed, built);
+    Made::of_file(alloc, "nextest.json", file)
 }
 
-fn listed(alloc: Global, id: &str, tests: Vec<String>) -> Result<Made, AllocError> {
-    let id = String::from_str(alloc, id)?;
-    let mut listings = Vec::new(alloc);
-    listings.push((id, tests))?;
-    Ok(Made::of(alloc, listings_text(alloc, &listings)?))
+fn nextest_file(alloc: Global, id: &str, printed: &[u8], built: bool) -> Result<String, Refusal> {
+    let ids = [String::from_str(alloc, id)?];
+    let listings = nextest_listings(alloc, printed, &ids, built)?;
+    listings_file(alloc, &listings)
 }

@@ -1,20 +1,18 @@
 //! The conversions, each from the bytes of its files to the text of the one that is made.
 
 use crate::failure::Failure;
-use crate::lists::{Listings, binary_ids, folder_listings, nextest_listings};
-use crate::refusal::Refusal;
-use cargo_cfg::{CfgSetting, read_settings, table_of};
-use cargo_choice::{FeatureWords, choice_of};
-use cargo_metadata::read_metadata;
-use cargo_record::{Wanted, record_of};
+use crate::lists::folder_listings;
+use cargo_choice::FeatureWords;
+use cargo_files::{
+    Refusal, RefusedFile, binary_ids, choice_file, listings_file, nextest_listings, record_file,
+    settings_file, table_file,
+};
+use cargo_record::Wanted;
 use clap::ArgMatches;
-use record_files::read_record;
-use record_writing::{choice_text, listings_text, record_text, table_text};
-use std::alloc::{AllocGlobal, Global};
+use std::alloc::AllocGlobal;
 use std::fs;
 use std::io::ErrorKind;
 use std::rt::Files;
-use workspace_record::WorkspaceRecord;
 
 /// The text that the command line asks for. `clap` takes no command line without a command.
 pub(crate) fn converted<'a, R: Files + AllocGlobal>(
@@ -36,7 +34,7 @@ fn record_made<'a, R: Files + AllocGlobal>(
 ) -> Result<String, Failure<'a>> {
     let name = required(asked, "metadata");
     let bytes = bytes_in(rt, name)?;
-    accepted(name, record_from(rt.alloc(), &bytes, wanted_in(asked)))
+    accepted(name, record_file(rt.alloc(), &bytes, wanted_in(asked)))
 }
 
 /// The members that the command line asks about.
@@ -48,41 +46,17 @@ fn wanted_in<'m, 'a: 'm>(asked: &'m ArgMatches<'a>) -> Wanted<'m> {
     }
 }
 
-fn record_from(alloc: Global, bytes: &[u8], wanted: Wanted<'_>) -> Result<String, Refusal> {
-    let metadata = read_metadata(alloc, bytes)?;
-    text_of_record(alloc, record_of(alloc, &metadata, wanted)?)
-}
-
-fn text_of_record(alloc: Global, record: WorkspaceRecord) -> Result<String, Refusal> {
-    Ok(record_text(alloc, &record)?)
-}
-
 fn table_made<'a, R: Files + AllocGlobal>(
     rt: &R,
     asked: &ArgMatches<'a>,
 ) -> Result<String, Failure<'a>> {
     let name = required(asked, "cfg");
     let printed = bytes_in(rt, name)?;
-    let settings = accepted(name, settings_from(rt.alloc(), &printed))?;
+    let settings = accepted(name, settings_file(rt.alloc(), &printed))?;
     let name = required(asked, "record");
     let bytes = bytes_in(rt, name)?;
     let triple = required(asked, "triple");
-    accepted(name, table_from(rt.alloc(), &bytes, triple, &settings))
-}
-
-fn settings_from(alloc: Global, bytes: &[u8]) -> Result<Vec<CfgSetting>, Refusal> {
-    Ok(read_settings(alloc, bytes)?)
-}
-
-fn table_from(
-    alloc: Global,
-    bytes: &[u8],
-    triple: &str,
-    settings: &[CfgSetting],
-) -> Result<String, Refusal> {
-    let record = read_record(alloc, bytes)?;
-    let table = table_of(alloc, &record, triple, settings)?;
-    Ok(table_text(alloc, &table)?)
+    accepted(name, table_file(rt.alloc(), &bytes, triple, &settings))
 }
 
 fn choice_made<'a, R: Files + AllocGlobal>(
@@ -91,7 +65,7 @@ fn choice_made<'a, R: Files + AllocGlobal>(
 ) -> Result<String, Failure<'a>> {
     let name = required(asked, "record");
     let bytes = bytes_in(rt, name)?;
-    accepted(name, choice_from(rt.alloc(), &bytes, words_in(asked)))
+    accepted(name, choice_file(rt.alloc(), &bytes, words_in(asked)))
 }
 
 /// What the command line asks of features.
@@ -103,12 +77,6 @@ fn words_in<'m, 'a: 'm>(asked: &'m ArgMatches<'a>) -> FeatureWords<'m> {
     }
 }
 
-fn choice_from(alloc: Global, bytes: &[u8], words: FeatureWords<'_>) -> Result<String, Refusal> {
-    let record = read_record(alloc, bytes)?;
-    let choice = choice_of(alloc, &record, words)?;
-    Ok(choice_text(alloc, &choice)?)
-}
-
 fn listings_made<'a, R: Files + AllocGlobal>(
     rt: &R,
     asked: &ArgMatches<'a>,
@@ -117,17 +85,13 @@ fn listings_made<'a, R: Files + AllocGlobal>(
     let bytes = bytes_in(rt, name)?;
     let ids = accepted(name, binary_ids(rt.alloc(), &bytes))?;
     let (lists, built) = (required(asked, "lists"), asked.get_flag("built"));
-    if asked.get_flag("nextest") {
+    let listings = if asked.get_flag("nextest") {
         let bytes = bytes_in(rt, lists)?;
-        let listings = nextest_listings(rt.alloc(), &bytes, &ids, built);
-        return accepted(lists, text_of_listings(rt.alloc(), listings));
-    }
-    let listings = folder_listings(rt, lists, &ids, built);
-    accepted(lists, text_of_listings(rt.alloc(), listings))
-}
-
-fn text_of_listings(alloc: Global, listings: Result<Listings, Refusal>) -> Result<String, Refusal> {
-    Ok(listings_text(alloc, &listings?)?)
+        accepted(lists, nextest_listings(rt.alloc(), &bytes, &ids, built))?
+    } else {
+        accepted(lists, folder_listings(rt, lists, &ids, built))?
+    };
+    accepted(lists, listings_file(rt.alloc(), &listings))
 }
 
 /// The value of a required word, without which `clap` takes no command line.
@@ -148,6 +112,6 @@ fn accepted<T>(name: &str, made: Result<T, Refusal>) -> Result<T, Failure<'_>> {
     match made {
         Ok(value) => Ok(value),
         Err(Refusal::Memory) => Err(Failure::Memory),
-        Err(refusal) => Err(Failure::Refused(name, refusal)),
+        Err(refusal) => Err(Failure::Refused(RefusedFile { name, refusal })),
     }
 }

@@ -1,6 +1,6 @@
 //! Why a run of the program ends early.
 
-use crate::refusal::Refusal;
+use cargo_files::RefusedFile;
 use clap::error::ErrorKind;
 use std::alloc::{AllocError, AllocFailed};
 use std::{fmt, io};
@@ -12,8 +12,8 @@ pub(crate) enum Failure<'a> {
     CommandLine(clap::Error),
     /// The file with this name cannot be read.
     CannotRead(&'a str),
-    /// The file with this name was read and is refused.
-    Refused(&'a str, Refusal),
+    /// A file was read and is refused.
+    Refused(RefusedFile<'a>),
     /// The output does not take what is written.
     CannotWrite,
     /// Memory ran out.
@@ -36,7 +36,7 @@ impl fmt::Display for Failure<'_> {
         match self {
             Failure::CommandLine(error) => write!(f, "{error}"),
             Failure::CannotRead(name) => writeln!(f, "cannot read {name}"),
-            Failure::Refused(name, refusal) => writeln!(f, "{name}: {refusal}"),
+            Failure::Refused(file) => writeln!(f, "{file}"),
             Failure::CannotWrite => f.write_str("cannot write\n"),
             Failure::Memory => f.write_str("out of memory\n"),
         }

@@ -6,7 +6,6 @@ mod command_line;
 mod conversions;
 mod failure;
 mod lists;
-mod refusal;
 
 use crate::command_line::command;
 use crate::conversions::converted;

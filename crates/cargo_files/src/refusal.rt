@@ -1,6 +1,6 @@
 //! Why a file is refused, with the remedy.
 
-use cargo_cfg::{SettingsError, TableError};
+use cargo_cfg::{SettingsError, SpecFault};
 use cargo_choice::ChoiceFault;
 use cargo_metadata::MetadataError;
 use cargo_record::RecordFault;
@@ -10,43 +10,64 @@ use std::fmt;
 
 /// Why a file is refused.
 #[derive(Drop)]
-pub(crate) enum Refusal {
+pub enum Refusal {
     Metadata(MetadataError),
     Record(RecordFault),
     Settings(SettingsError),
-    Table(TableError),
+    /// A spec of the record cannot be read.
+    Spec(SpecPlace),
     Choice(ChoiceFault),
     /// The file of a record cannot be read.
     File(ReadError),
     /// The list of nextest is no JSON.
     NoJson,
+    /// The list of nextest has no suites.
+    NoSuites,
     /// There is no list of the tests of a binary.
     NoList(String),
     /// The file of a binary's list cannot be read, or is no text.
     UnreadList(String),
     /// A line of a binary's list, by its place, is no test's.
     StrayLine(String, usize),
+    /// A binary's list has two tests of one name.
+    Repeated(String, String),
     Memory,
 }
 
 impl fmt::Display for Refusal {
     fn fmt<W: fmt::Write>(&self, f: &mut fmt::Formatter<W>) -> fmt::Result {
         match self {
-            Refusal::Metadata(error) => write!(
-                f,
-                "{error}: run `cargo metadata --format-version 1 --all-features`",
-            ),
+            Refusal::Metadata(error) => write_metadata_fault(f, error),
             Refusal::Record(fault) => write!(f, "{fault}"),
             Refusal::Settings(error) => write!(f, "{error}: run `rustc --print cfg`"),
-            Refusal::Table(error) => write!(f, "{error}: write it as Cargo's manual says"),
+            Refusal::Spec(place) => write!(f, "{place}"),
             Refusal::Choice(fault) => write!(f, "{fault}"),
             Refusal::File(error) => write!(f, "{error}: run `cargo_workspace record`"),
             Refusal::NoJson => f.write_str(
                 "not JSON: run `cargo nextest list --message-format json`",
             ),
+            Refusal::NoSuites => f.write_str(
+                "`rust-suites` is missing: run `cargo nextest list --message-format json`",
+            ),
             Refusal::Memory => f.write_str("out of memory"),
             _ => write_list_fault(f, self),
         }
+    }
+}
+
+fn write_metadata_fault<W: fmt::Write>(
+    f: &mut fmt::Formatter<W>,
+    error: &MetadataError,
+) -> fmt::Result {
+    match error {
+        MetadataError::UnknownKind(..) => write!(
+            f,
+            "package {error}: give it a kind that this program knows (docs/FROM_CARGO.md)",
+        ),
+        _ => write!(
+            f,
+            "{error}: run `cargo metadata --format-version 1 --all-features`",
+        ),
     }
 }
 
@@ -64,7 +85,49 @@ fn write_list_fault<W: fmt::Write>(f: &mut fmt::Formatter<W>, refusal: &Refusal)
             f,
             "binary {id}: its list has a line that is no test, behind {place} others: run it with `--list --format terse`",
         ),
+        Refusal::Repeated(id, name) => write!(
+            f,
+            "binary {id}: its list has the test `{name}` twice: give one of the two another name",
+        ),
         _ => Ok(()),
+    }
+}
+
+/// A spec that cannot be read, and the dependency that has it.
+#[derive(Drop)]
+pub struct SpecPlace {
+    pub owner: String,
+    pub dependency: String,
+    pub spec: String,
+    pub fault: SpecFault,
+}
+
+impl fmt::Display for SpecPlace {
+    fn fmt<W: fmt::Write>(&self, f: &mut fmt::Formatter<W>) -> fmt::Result {
+        let (owner, dependency, spec) = (&self.owner, &self.dependency, &self.spec);
+        write!(
+            f,
+            "package {owner}: dependency {dependency}: spec `{spec}`: "
+        )?;
+        write!(
+            f,
+            "{}: write it in the manifest as Cargo's manual says",
+            self.fault
+        )
+    }
+}
+
+/// A file that is refused, by its name.
+#[derive(Drop)]
+pub struct RefusedFile<'a> {
+    pub name: &'a str,
+    pub refusal: Refusal,
+}
+
+/// The line that tells of it: the file, what is wrong, and what to do.
+impl fmt::Display for RefusedFile<'_> {
+    fn fmt<W: fmt::Write>(&self, f: &mut fmt::Formatter<W>) -> fmt::Result {
+        write!(f, "{}: {}", self.name, self.refusal)
     }
 }
 
@@ -83,12 +146,6 @@ impl From<RecordFault> for Refusal {
 impl From<SettingsError> for Refusal {
     fn from(error: SettingsError) -> Refusal {
         Refusal::Settings(error)
-    }
-}
-
-impl From<TableError> for Refusal {
-    fn from(error: TableError) -> Refusal {
-        Refusal::Table(error)
     }
 }
 
