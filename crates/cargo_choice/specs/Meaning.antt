@@ -1,5 +1,5 @@
 -- Which features of a record the words of `--features` mean, and which standard features the flags.
-use Rattle.std.specs.Prelude.{◌≡◌, Bool, true, false, ◌&&◌, List, [], ◌∷◌, flat_map, map, find, bytes_eq, string_bytes, Contains, Option, if◌then◌else◌}
+use Rattle.std.specs.Prelude.{◌≡◌, Bool, ◌&&◌, List, [], ◌∷◌, flat_map, find, bytes_eq, string_bytes, Contains, Option, if◌then◌else◌}
 use Rattle.std.specs.Option.{option_map_or}
 use Rattle.workspace_record.specs.Features.{Named, FeatureValue}
 use Rattle.workspace_record.specs.Records.{Text, Package, Workspace}
