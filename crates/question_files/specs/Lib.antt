@@ -1,0 +1,3 @@
+pub mod Defaults
+pub mod Failures
+pub mod Verdicts
