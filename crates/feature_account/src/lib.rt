@@ -9,6 +9,7 @@ pub mod found;
 pub mod laws;
 pub mod lines;
 mod own_features;
+pub mod parts;
 mod rule;
 mod rule_list;
 pub mod soundness;

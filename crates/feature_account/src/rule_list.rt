@@ -103,7 +103,7 @@ fn push_implications(
     Ok(())
 }
 
-fn push_base_rules(
+pub(crate) fn push_base_rules(
     alloc: Global,
     row: &PackageRecord,
     rules: &mut Vec<Rule>,
@@ -383,7 +383,7 @@ fn push_dependency(
     Ok(())
 }
 
-fn push_rules_of_entry<'a>(
+pub(crate) fn push_rules_of_entry<'a>(
     alloc: Global,
     index: &RecordIndex<'a>,
     table: &PlatformTable,
@@ -624,7 +624,7 @@ fn push_lines_rules(
     Ok(())
 }
 
-fn push_link_rules(
+pub(crate) fn push_link_rules(
     alloc: Global,
     index: &RecordIndex<'_>,
     table: &PlatformTable,

@@ -1,0 +1,2 @@
+pub mod OnFacts
+pub mod SourceFacts

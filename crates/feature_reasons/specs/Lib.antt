@@ -1,0 +1,5 @@
+pub mod FeatureLines
+pub mod Laws
+pub mod RuleLines
+pub mod SourceViews
+pub mod Sources
