@@ -28,7 +28,7 @@ fn all_ids<'g>(alloc: Global, graph: &'g PackageGraph) -> Result<Vec<&'g str>, A
     Ok(ids)
 }
 
-// Whether the first of these packages is the one that the graph has at its begin, and the second is not.
+// Whether the graph's first package equals the first of these, its second one does not, and one is left then.
 fn compared(alloc: Global, graph: &PackageGraph) -> Result<bool, AllocError> {
     let packages = all_packages(alloc, graph)?;
     let mut all = graph.packages();
