@@ -28,7 +28,7 @@ is_tied Equal h = refl
 is_tied Less h = absurd cc
 is_tied Greater h = absurd cc
 
-is_equal : (f : FeatureValue) → feature_cmp f f ≡ Equal
+pub is_equal : (f : FeatureValue) → feature_cmp f f ≡ Equal
 is_equal f = is_tied (feature_cmp f f) (sym (feature_ties f f) ∙ (features_decide f f).1 refl)
 
 -- a place between the lesser and the greater ones is no feature's

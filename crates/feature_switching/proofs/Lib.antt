@@ -1,3 +1,4 @@
 pub mod FeatureOrder
 pub mod Halving
 pub mod OnLines
+pub mod SearchFacts

@@ -1,2 +1,4 @@
+pub mod Digits
 pub mod LentLabels
 pub mod OnLines
+pub mod Searches

@@ -1,16 +1,19 @@
 //! The features that are on.
 
-ghost use Rattle.std.specs.Prelude.{◌≡◌, ◌↔◌, IfOk, IsTrue, Contains};
+ghost use Rattle.std.specs.Prelude.{◌≡◌, ◌↔◌, ◌+◌, ◌<◌, ◌≤◌, IfOk, IsTrue, Contains, length};
 ghost use Rattle.std.specs.List.Sorted.{IsStrictlySortedBy};
 ghost use Rattle.list_facts.specs.Ascending.{IsAscendingOf};
 ghost use Rattle.workspace_record.specs.Features.{FeatureValue, feature_cmp};
 ghost use Rattle.feature_account.specs.Accounts.{concluded_set};
 ghost use Rattle.feature_account.specs.RuleList.{base_of, named_of, dep_of};
-ghost use Rattle.feature_switching.specs.LentLabels.{lent_view};
+ghost use Rattle.feature_switching.specs.Digits.{digits};
 
-use crate::lent_label::{LentLabel, compare};
+use crate::lent_label::LentLabel;
+use crate::search::{finds, finds_counted};
+use numbered_graph::Looks;
 use std::alloc::AllocError;
-use std::marker::Model;
+use std::marker::{Brand, Model};
+use std::sync::ledger::{Blank, Ledger};
 use workspace_record::Feature;
 
 /// The features that are on, in ascending order, each once.
@@ -45,8 +48,16 @@ impl FeaturesOn {
     pub fn contains(&self, feature: &Feature) -> bool
         ensures { IsTrue result ↔ Contains self.now feature.now }
     {
+        contains_with_blank::<Brand>(self, feature, Blank::new(1))
+    }
+
+    /// The same, with a count of the looks that it takes, each of them at a feature that is compared.
+    pub fn contains_counted<L: Ledger>(&self, feature: &Feature, looks: &mut Looks<L>) -> bool
+        ensures answer { IsTrue result ↔ Contains self.now feature.now }
+        ensures looks { looks.new ≤ looks.old + digits (length self.now) }
+    {
         let label = LentLabel::of(&feature.label);
-        finds(&self.features, feature.package.as_str(), label)
+        finds_counted(&self.features, feature.package.as_str(), label, looks)
     }
 
     /// Whether the package's base is on.
@@ -79,13 +90,14 @@ impl FeaturesOn {
     }
 }
 
-/// Whether one of the features, which ascend, is that of a package with this label; by halving.
-fn finds(features: &[Feature], package_id: &str, label: LentLabel<'_>) -> bool
-    requires { IsStrictlySortedBy feature_cmp features.now }
-    ensures { result ≡ concluded_set features.now (record { package_id = package_id.now; label = lent_view label.entry }) }
+fn contains_with_blank<L: Ledger>(on: &FeaturesOn, feature: &Feature, blank: Blank) -> bool
+    requires name { blank.name ≡ L.name }
+    requires parts { blank.parts ≡ L.parts }
+    requires some { 0 < blank.parts }
+    ensures { IsTrue result ↔ Contains on.now feature.now }
 {
-    let found = features.binary_search_by(|feature| compare(feature, package_id, label));
-    found.is_ok()
+    let mut looks = Looks::<L>::new(blank);
+    on.contains_counted(feature, &mut looks)
 }
 
 fn sorted_features(mut features: Vec<Feature>) -> Result<Vec<Feature>, AllocError>

@@ -1,6 +1,5 @@
 -- One step more of a resolve, and its end.
-use Rattle.std.proofs.Common.{◌≡◌, ◌↔◌, ℕ, suc, ◌+◌, ◌<◌, nat_lt, Bool, true, false, cond, List, [], ◌∷◌, ◌++◌, None, Some, length, count_by, map, refl, sym, subst, ap, ◌∙◌, IsTrue, arith}
-use Rattle.std.specs.List.{fold}
+use Rattle.std.proofs.Common.{◌≡◌, ◌↔◌, ℕ, suc, ◌+◌, ◌<◌, nat_lt, Bool, true, false, List, [], ◌∷◌, ◌++◌, None, Some, length, map, sym, subst, ap, ◌∙◌, IsTrue, arith}
 use Rattle.std.specs.Option.{is_none}
 use Rattle.std.proofs.lemmas.Bool.{and_parts}
 use Rattle.std.proofs.lemmas.Bool.Decides.{nat_tests}
@@ -14,19 +13,18 @@ use Rattle.numbered_offers.specs.declared.edge.Edge.{Edge}
 use Rattle.numbered_offers.specs.declared.offer.Offer.{Offer}
 use Rattle.numbered_offers.specs.declared.due.Due.TheVariants.{One, Halves}
 use Rattle.numbered_offers.specs.Dues.{asked_of, asks}
-use Rattle.numbered_offers.specs.Edges.{edge_at, edge_links, has_offer, is_offer, is_weak, is_weak_sort, link_of, required_half, same_offer}
+use Rattle.numbered_offers.specs.Edges.{edge_at, edge_links, has_offer, is_offer, link_of, required_half, same_offer}
 use Rattle.numbered_offers.specs.Graphs.{OfferGraphValue}
 use Rattle.numbered_offers.specs.OfferWalks.{OfferWalkValue}
 use Rattle.numbered_offers.specs.Runs.{IsLegalRun, IsReachedBy, Run}
-use Rattle.workspace_record.specs.Records.{Link}
 use Rattle.guppy_row_parts.specs.declared.dependency_direction.DependencyDirection.{DependencyDirection}
 use Rattle.guppy_package_graph.specs.Directions.{direction_of}
 use Rattle.guppy_package_graph.specs.Visits.{Chain, SameSteps}
-use Rattle.guppy_feature_nodes.specs.GraphEdges.{EdgeForm, EdgeValue, ToBase, ToFeature, ToDependency, ByStrongEntries, ByWeakEntries, ByLines, ends_of}
+use Rattle.guppy_feature_nodes.specs.GraphEdges.{ends_of}
 use Rattle.guppy_feature_nodes.specs.Graphs.{FeatureGraphValue}
-use Rattle.guppy_feature_nodes.specs.Offering.{offer_edge, offer_edges, offered, sort_of}
+use Rattle.guppy_feature_nodes.specs.Offering.{offer_edge, offered}
 use Rattle.guppy_feature_graph.specs.Queries.{IsQueryOf, QueryValue}
-use Rattle.guppy_feature_graph.specs.Resolves.{IsReachOf, IsResolved, is_weak_form, offered_edges, shown_to}
+use Rattle.guppy_feature_graph.specs.Resolves.{IsReachOf, IsResolved, offered_edges, shown_to}
 use Rattle.guppy_feature_graph.specs.Sets.{SetValue}
 use Rattle.guppy_feature_graph.specs.Links as links
 
@@ -90,30 +88,6 @@ module _ (q : QueryValue) where
     sized = sized ∙ ap (λ (v : OfferWalkValue). v.graph.nodes) is_ended ∙ ap (λ (g : OfferGraphValue). g.nodes) of_query.graph;
     includes = λ v. by_fields (λ d es s. IsTrue (has included v) ↔ IsReachedBy d es s w.run v) w of_query (subst (λ (e : OfferWalkValue). IsTrue (has included v) ↔ IsReachedBy e.direction e.graph.edges e.starts e.run v) is_ended (includes v));
   }
-
-module _ (d : Direction) (nodes : ℕ) (rows : List Link) where
-  weak_form : (e : EdgeValue) (form : EdgeForm) → is_weak_sort (sort_of d nodes rows e form) ≡ is_weak_form form
-  weak_form e ToBase = refl
-  weak_form e ToFeature = refl
-  weak_form e ToDependency = refl
-  weak_form e ByStrongEntries = refl
-  weak_form e (ByWeakEntries dep) = refl
-  weak_form e ByLines = refl
-
-  counted : (n : ℕ) (edges : List EdgeValue) → fold (λ (a : ℕ) (x : Edge). a + cond (is_weak x) 1 0) n (offer_edges d nodes rows edges) ≡ fold (λ (a : ℕ) (e : EdgeValue). a + cond (is_weak_form e.form) 1 0) n edges
-  counted n [] = refl
-  counted n (e ∷ es) =
-      counted (n + cond (is_weak (offer_edge d nodes rows e)) 1 0) es ∙ ap (λ (b : Bool). fold (λ (a : ℕ) (x : EdgeValue). a + cond (is_weak_form x.form) 1 0) (n + cond b 1 0) es) (weak_form e e.form)
-
-  weak_count : (edges : List EdgeValue) → count_by is_weak (offer_edges d nodes rows edges) ≡ count_by (λ e. is_weak_form e.form) edges
-  weak_count edges = counted 0 edges
-
--- as many looks as the walk of a query may take
-pub looks_of : (q : QueryValue) → length (offered_edges q) + count_by is_weak (offered_edges q) ≡ length q.graph.edges + count_by (λ e. is_weak_form e.form) q.graph.edges
-looks_of q =
-    let d = direction_of q.direction in
-    let nodes = length q.graph.nodes in
-    (λ i. length-map q.graph.edges (offer_edge d nodes q.graph.rows.links) i + weak_count d nodes q.graph.rows.links q.graph.edges i)
 
 -- what is offered at once is asked
 pub one_asked : (due : Due) (o : Offer) → due ≡ One o → asks (Some due) o ≡ true

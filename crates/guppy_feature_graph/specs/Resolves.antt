@@ -1,5 +1,5 @@
 -- Resolves: the links that are offered, and the features that are included.
-use Rattle.std.specs.Prelude.{◌≡◌, ◌↔◌, ℕ, ◌+◌, Bool, true, false, List, map, length, count_by, IsTrue}
+use Rattle.std.specs.Prelude.{◌≡◌, ◌↔◌, ℕ, Bool, List, map, length, IsTrue}
 use Rattle.numbered_graph.specs.Links.{near_of}
 use Rattle.numbered_graph.specs.Paths.{any_link, IsReached}
 use Rattle.numbered_graph.specs.Sets.{has}
@@ -9,8 +9,7 @@ use Rattle.numbered_offers.specs.Least.{AnswersBy, IsLeast}
 use Rattle.numbered_offers.specs.Runs.{IsLegalRun, IsReachedBy, Run}
 use Rattle.guppy_row_parts.specs.declared.dependency_direction.DependencyDirection.{DependencyDirection}
 use Rattle.guppy_package_graph.specs.Directions.{direction_of}
-use Rattle.guppy_feature_nodes.specs.GraphEdges.{EdgeForm, EdgeValue, ToBase, ToFeature, ToDependency, ByStrongEntries, ByWeakEntries, ByLines, edge_ends, ends_of}
-use Rattle.guppy_feature_nodes.specs.Graphs.{FeatureGraphValue}
+use Rattle.guppy_feature_nodes.specs.GraphEdges.{edge_ends, ends_of}
 use Rattle.guppy_feature_nodes.specs.Offering.{offers_of}
 use Rattle.guppy_feature_graph.specs.Links.{link_of}
 use Rattle.guppy_feature_views.specs.Links.{LinkValue, edge_of}
@@ -48,19 +47,6 @@ shown_to q run = map (λ (s : Offer × Bool). ((q, link_of q.graph s.0), s.1)) r
 pub record IsReachOf (q : QueryValue) (s : SetValue) : Type 0 where
   pub graph : s.graph ≡ q.graph
   pub members : (v : ℕ) → IsTrue (has s.included v) ↔ IsReached (direction_of q.direction) (edge_ends q.graph.edges) any_link q.initials v
-
--- the edge is offered in halves
-abbrev pub is_weak_form : EdgeForm → Bool
-is_weak_form ToBase = false
-is_weak_form ToFeature = false
-is_weak_form ToDependency = false
-is_weak_form ByStrongEntries = false
-is_weak_form (ByWeakEntries dep) = true
-is_weak_form ByLines = false
-
--- as many looks as a resolve may take: one for each node and each edge, and one more for each weak edge
-abbrev pub most_looks : FeatureGraphValue → ℕ
-most_looks g = length g.nodes + (length g.edges + count_by (λ e. is_weak_form e.form) g.edges)
 
 -- where each answer is a verdict on the link alone, what is reached at the end of a legal run is the least set that holds the
 -- initials and is closed under the edges that are crossed always and the offers that are accepted, an optional half that

@@ -1,10 +1,10 @@
 //! What a query resolves to.
 
-ghost use Rattle.std.specs.Prelude.{◌≡◌, ◌+◌, ◌<◌, ◌≤◌, IfOk, OnErr};
+ghost use Rattle.std.specs.Prelude.{◌≡◌, ◌+◌, ◌<◌, ◌≤◌, IfOk, OnErr, length};
 ghost use Rattle.guppy_package_graph.specs.Visits.{Chain, SameSteps};
 ghost use Rattle.numbered_offers.specs.Runs.{Run};
 ghost use Rattle.guppy_feature_graph.specs.Closures.{AsksClosure};
-ghost use Rattle.guppy_feature_graph.specs.Resolves.{IsReachOf, IsResolved, most_looks, shown_to};
+ghost use Rattle.guppy_feature_graph.specs.Resolves.{IsReachOf, IsResolved, shown_to};
 
 use crate::direction::direction_of;
 use crate::feature_link_context::FeatureLinkContext;
@@ -48,8 +48,8 @@ impl<'g> FeatureQuery<'g> {
         resolve_with_blank::<Brand>(alloc, self, visitor, Blank::new(1))
     }
 
-    /// The same, with a count of the looks that it takes: a feature that is taken from the work list,
-    /// or an edge or a waiting half that is looked at.
+    /// The same, with a count of the looks that it takes: a look is a feature that is taken from the
+    /// work list.
     pub fn resolve_with_counted<L: Ledger>(
         self,
         alloc: Global,
@@ -60,7 +60,7 @@ impl<'g> FeatureQuery<'g> {
         ensures ok { IfOk result (λ s. (run : Run) × IsResolved self.entry run s.included × Chain (steps visitor.old) (state visitor.old) (shown_to self.entry run) (state visitor.new)) }
         ensures same { SameSteps (steps visitor.old) (steps visitor.new) }
         ensures err { OnErr result (visitor.new ≡ visitor.old) }
-        ensures looks { looks.new ≤ looks.old + most_looks self.entry.graph }
+        ensures looks { looks.new ≤ looks.old + length self.entry.graph.nodes }
     {
         match resolve_by_visitor(alloc, &self, visitor, looks) {
             Ok(included) => Ok(FeatureSet::of(*self.graph(), included)),
@@ -111,7 +111,7 @@ impl<'g> FeatureQuery<'g> {
         ensures graph { IfOk result (λ s. s.graph ≡ self.entry.graph) }
         ensures ok { IfOk result (λ s. (run : Run) × IsResolved self.entry run s.included × Chain (AsksClosure F.FnMut self.entry) visitor_fn.old run visitor_fn.new) }
         ensures err { OnErr result (visitor_fn.new ≡ visitor_fn.old) }
-        ensures looks { looks.new ≤ looks.old + most_looks self.entry.graph }
+        ensures looks { looks.new ≤ looks.old + length self.entry.graph.nodes }
     {
         match resolve_by_closure(alloc, &self, visitor_fn, looks) {
             Ok(included) => Ok(FeatureSet::of(*self.graph(), included)),

@@ -9,7 +9,7 @@ ghost use Rattle.numbered_offers.specs.Runs.{Run};
 ghost use Rattle.numbered_offers.specs.declared.offer.Offer.{Offer};
 ghost use Rattle.guppy_feature_graph.specs.Closures.{AsksClosure};
 ghost use Rattle.guppy_feature_graph.specs.Links.{declarations_of, link_of};
-ghost use Rattle.guppy_feature_graph.specs.Resolves.{IsResolved, most_looks, shown_to};
+ghost use Rattle.guppy_feature_graph.specs.Resolves.{IsResolved, shown_to};
 ghost use Rattle.guppy_feature_views.specs.Views.{link_view};
 
 use crate::direction::direction_of;
@@ -43,7 +43,7 @@ pub(crate) fn resolve_by_visitor<L: Ledger>(
     ensures ok { IfOk result (λ set. (run : Run) × IsResolved query.now run set × Chain (steps visitor.old) (state visitor.old) (shown_to query.now run) (state visitor.new)) }
     ensures same { SameSteps (steps visitor.old) (steps visitor.new) }
     ensures err { OnErr result (visitor.new ≡ visitor.old) }
-    ensures looks { looks.new ≤ looks.old + most_looks query.now.graph }
+    ensures looks { looks.new ≤ looks.old + length query.now.graph.nodes }
 {
     let direction = direction_of(query.direction());
     let mut walk = OfferWalk::new(alloc, offers_of(query), query.starts(), direction)?;
@@ -115,7 +115,7 @@ pub(crate) fn resolve_by_closure<
     requires callable { F.IsAlwaysCallable accepts.old }
     ensures ok { IfOk result (λ set. (run : Run) × IsResolved query.now run set × Chain (AsksClosure F.FnMut query.now) accepts.old run accepts.new) }
     ensures err { OnErr result (accepts.new ≡ accepts.old) }
-    ensures looks { looks.new ≤ looks.old + most_looks query.now.graph }
+    ensures looks { looks.new ≤ looks.old + length query.now.graph.nodes }
 {
     let direction = direction_of(query.direction());
     let mut walk = OfferWalk::new(alloc, offers_of(query), query.starts(), direction)?;

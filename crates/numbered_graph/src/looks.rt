@@ -5,8 +5,8 @@ ghost use Rattle.std.specs.Prelude.{◌≡◌, ℕ, ◌+◌, ◌<◌};
 use std::marker::Model;
 use std::sync::ledger::{Blank, Book, Ledger, Share};
 
-/// How many looks were taken. It takes no bytes, and only a look of a `Walk` raises it: a node that
-/// is taken from the work list, or a link that is taken.
+/// How many looks were taken. It takes no bytes. A `Walk` raises it by one for each node that is taken
+/// from its work list and each link that is taken; other counted calls say what a look of theirs is.
 #[derive(Drop)]
 pub struct Looks<L: Ledger> {
     book: Book<L>,
@@ -33,8 +33,9 @@ impl<L: Ledger> Looks<L> {
         Looks { book, share }
     }
 
-    pub(crate) fn tick(&mut self)
-        ensures { self.new ≡ self.old + 1 }
+    /// One look more: called by whoever looks, at each look.
+    pub fn tick(&mut self)
+        ensures more { self.new ≡ self.old + 1 }
     {
         self.book.add(&mut self.share, 1);
     }

@@ -26,7 +26,7 @@ use Rattle.numbered_offers.proofs.LinkFacts.{length-all_links, near-edge, far-ed
 use Rattle.numbered_offers.proofs.FlagFacts.{true_or_false}
 use Rattle.numbered_offers.proofs.StepFacts.{included_reached, optional_waits}
 
-no_flag : (n x : ℕ) → has (replicate n false) x ≡ false
+pub no_flag : (n x : ℕ) → has (replicate n false) x ≡ false
 no_flag zero x = refl
 no_flag (suc n) zero = refl
 no_flag (suc n) (suc x) = no_flag n x

@@ -1,5 +1,5 @@
 -- Flags that are set, links that are shown, and answers, each with one more.
-use Rattle.std.proofs.Common.{◌≡◌, ◌↔◌, ℕ, ◌-◌, ◌<◌, ◌≤◌, Bool, true, false, ◌&&◌, ◌||◌, ◌==◌, IsTrue, List, [], ◌∷◌, ◌++◌, length, set, Contains, AllPairs, ◌⊎◌, inl, inr, ⊎_elim, refl, sym, subst, ap, ◌∙◌, arith, true≢false}
+use Rattle.std.proofs.Common.{◌≡◌, ◌↔◌, ℕ, suc, ◌-◌, ◌<◌, ◌≤◌, Bool, true, false, ◌&&◌, ◌||◌, ◌==◌, IsTrue, List, [], ◌∷◌, ◌++◌, length, set, Contains, AllPairs, ◌⊎◌, inl, inr, ⊎_elim, refl, sym, subst, ap, ◌∙◌, arith, true≢false}
 use Rattle.std.proofs.lemmas.Bool.{and_parts, eq-eqb, or_cases, or_left, or_right, cases_lt}
 use Rattle.std.proofs.lemmas.List.{get_or-set_same, get_or-set_other, map-append}
 use Rattle.std.proofs.lemmas.List.Elements.{Contains-push, Contains-push_cases, Contains-append_left}
@@ -42,6 +42,19 @@ set_still flags j x lt h = has-set_is flags j x lt ∙ or_left (has flags x) (j 
 
 pub set_now : (flags : List Bool) (j x : ℕ) → j < length flags → j ≡ x → has (set flags j true) x ≡ true
 set_now flags j x lt e = has-set_is flags j x lt ∙ or_right (has flags x) (j == x) (eq-eqb j x e)
+
+same_flag : (x y : Bool) → IsTrue x ↔ IsTrue y → x ≡ y
+same_flag true true h = refl
+same_flag true false h = absurd (true≢false (sym (h.0 refl)))
+same_flag false true h = absurd (true≢false (sym (h.1 refl)))
+same_flag false false h = refl
+
+-- as many flags, and the same ones set
+pub flags_same : (xs ys : List Bool) → length xs ≡ length ys → ((v : ℕ) → IsTrue (has xs v) ↔ IsTrue (has ys v)) → xs ≡ ys
+flags_same [] [] e h = refl
+flags_same [] (y ∷ ys) e h = absurd (omega arith)
+flags_same (x ∷ xs) [] e h = absurd (omega arith)
+flags_same (x ∷ xs) (y ∷ ys) e h = ap (λ b. b ∷ xs) (same_flag x y (h 0)) ∙ ap (λ zs. y ∷ zs) (flags_same xs ys (omega arith) (λ v. h (suc v)))
 
 -- the flag that is set now says that its number is listed now
 pub mark_is : (flags : List Bool) (xs : List ℕ) (j x : ℕ) → j < length flags → IsTrue (has flags x) ↔ Contains xs x → IsTrue (has (set flags j true) x) ↔ Contains (xs ++ j ∷ []) x

@@ -3,9 +3,12 @@ pub mod RunFacts
 pub mod LeastFacts
 pub mod LinkFacts
 pub mod KeepFacts
+pub mod WalkingFacts
 pub mod FlagFacts
 pub mod MadeFacts
 pub mod StepFacts
 pub mod EndFacts
+pub mod CountFacts
+pub mod StateFacts
 pub mod ViewFacts
 pub mod ReachFacts

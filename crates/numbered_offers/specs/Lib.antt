@@ -3,7 +3,9 @@ pub mod Runs
 pub mod Least
 pub mod Dues
 pub mod Graphs
+pub mod LinkWalks
 pub mod Keeping
+pub mod Counts
 pub mod States
 pub mod OfferWalks
 pub mod Verdicts

@@ -7,7 +7,7 @@ use Rattle.numbered_offers.specs.declared.offer_walk.OfferWalk.TheInside.{Inside
 use Rattle.numbered_offers.specs.Graphs.{OfferGraphValue, all_links}
 use Rattle.numbered_offers.specs.Keeping.{run_of}
 use Rattle.numbered_offers.specs.Runs.{Run}
-use Rattle.numbered_offers.specs.States.{Stands, WaitsFor}
+use Rattle.numbered_offers.specs.States.{Stands, Rests, WaitsFor}
 
 -- where it goes, the run of its offers, what was offered and waits for answers, whether no offer was left, how many
 -- edges and waiting halves it passed, and how many looks it took
@@ -35,6 +35,6 @@ seen w = record {
 
 pub record IsSound (w : Inside) : Type 0 where
   pub stands : Stands w.state
-  pub idle : w.waiting ≡ None → w.state.walk.waiting ≡ None
+  pub rests : w.waiting ≡ None → Rests w.state
   pub waits : (due : Due) → w.waiting ≡ Some due → WaitsFor w.state (Some due)
   pub done : w.ended ≡ true → IsShowing w.state.direction (all_links w.state.graph.now.edges) w.state.walk.starts w.state.walk.shown

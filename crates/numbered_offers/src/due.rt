@@ -1,9 +1,10 @@
 //! What is offered at once when an edge is met: one offer, or both halves of a weak edge.
 
-ghost use Rattle.std.specs.Prelude.{◌≡◌, ℕ, Bool, ◌&&◌, ◌||◌, ◌==◌, not};
+ghost use Rattle.std.specs.Prelude.{◌≡◌, ℕ, Bool, ◌&&◌, ◌==◌};
+ghost use Rattle.numbered_offers.specs.Counts.{flag_for};
 ghost use Rattle.numbered_offers.specs.Edges.{has_offer, waits, halves_sort};
 ghost use Rattle.numbered_offers.specs.Dues.{asks, accepted_of};
-ghost use Rattle.numbered_offers.specs.declared.offer.OfferKind.TheVariants.{Optional};
+ghost use Rattle.numbered_offers.specs.declared.edge.EdgeSort.TheVariants.{Conditional};
 ghost use Rattle.numbered_offers.specs.declared.offer.Offer.{Offer};
 
 use crate::edge::{Edge, EdgeSort};
@@ -30,40 +31,32 @@ pub(crate) fn is_taken(due: Option<Due>, first: bool, second: bool) -> bool
     }
 }
 
-// What an edge offers that is met for the first time. `dep_seen`: the node for which its optional half
-// waits is reached.
-pub(crate) fn due_of_edge(
-    edge: Edge,
-    number: usize,
-    direction: Direction,
-    dep_seen: bool,
-) -> Option<Due>
-    ensures due { (o : Offer) → asks result o ≡ ((number == o.edge) && (has_offer edge.sort o.kind && (not (waits direction o.kind) || dep_seen))) }
+// What an edge offers when its near end is reached: `whole` its unsplit offer or required half,
+// `optional` its optional half, where these wait for nothing more.
+pub(crate) fn due_of_edge(edge: Edge, number: usize, whole: bool, optional: bool) -> Option<Due>
+    ensures due { (o : Offer) → asks result o ≡ ((number == o.edge) && (has_offer edge.sort o.kind && flag_for o.kind whole optional)) }
 {
     match edge.sort {
         EdgeSort::Unconditional => None,
-        EdgeSort::Conditional => Some(Due::One(Offer {
-            edge: number,
-            kind: OfferKind::Unsplit,
-        })),
+        EdgeSort::Conditional => due_of_unsplit(number, whole),
         EdgeSort::Weak {
             required,
-            optional,
+            optional: half,
             ..
-        } => due_of_halves(
-            number,
-            required,
-            optional && (is_reverse(direction) || dep_seen),
-        ),
+        } => due_of_halves(number, required && whole, half && optional),
     }
 }
 
-fn is_reverse(direction: Direction) -> bool
-    ensures { result ≡ not (waits direction Optional) }
+fn due_of_unsplit(number: usize, flag: bool) -> Option<Due>
+    ensures due { (o : Offer) → asks result o ≡ ((number == o.edge) && (has_offer Conditional o.kind && flag)) }
 {
-    match direction {
-        Direction::Forward => false,
-        Direction::Reverse => true,
+    if flag {
+        Some(Due::One(Offer {
+            edge: number,
+            kind: OfferKind::Unsplit,
+        }))
+    } else {
+        None
     }
 }
 
@@ -84,12 +77,12 @@ fn due_of_halves(number: usize, required: bool, optional: bool) -> Option<Due>
     }
 }
 
-// What an edge with an optional half offers when the node for which that half waits is reached.
-// `near_seen`: the edge was met before.
-pub(crate) fn due_of_dep(number: usize, direction: Direction, near_seen: bool) -> Option<Due>
-    ensures due { (o : Offer) → asks result o ≡ ((number == o.edge) && (waits direction o.kind && near_seen)) }
+// What an edge with an optional half offers when the node for which that half waits is reached: the
+// half, if it waits for nothing more.
+pub(crate) fn due_of_half(number: usize, direction: Direction, flag: bool) -> Option<Due>
+    ensures due { (o : Offer) → asks result o ≡ ((number == o.edge) && (waits direction o.kind && flag)) }
 {
-    match (direction, near_seen) {
+    match (direction, flag) {
         (Direction::Forward, true) => Some(Due::One(Offer {
             edge: number,
             kind: OfferKind::Optional,

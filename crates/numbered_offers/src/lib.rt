@@ -5,6 +5,7 @@
 mod due;
 mod edge;
 pub mod laws;
+mod link_walk;
 mod offer;
 mod offer_graph;
 mod offer_walk;

@@ -65,7 +65,7 @@ impl<'g> OfferWalk<'g> {
         ensures rises { self.old.passed ≤ self.new.passed }
         ensures room { IfSome result (λ _. self.new.passed < length self.new.graph.edges + count_by is_weak self.new.graph.edges) }
         ensures looks { looks.new + self.old.looked ≡ looks.old + self.new.looked }
-        ensures bound { self.new.looked ≤ self.new.graph.nodes + (length self.new.graph.edges + count_by is_weak self.new.graph.edges) }
+        ensures bound { self.new.looked ≤ self.new.graph.nodes }
     {
         let due = next_due(&mut self.state, looks);
         self.waiting = due;

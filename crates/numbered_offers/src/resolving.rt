@@ -1,11 +1,11 @@
 //! What a walk over offers reaches, where a table says of each offer whether it is accepted.
 
-ghost use Rattle.std.specs.Prelude.{◌≡◌, ◌↔◌, ℕ, ◌+◌, ◌<◌, ◌≤◌, true, All, IsTrue, IfOk, Some, length, map, nat_lt, count_by};
+ghost use Rattle.std.specs.Prelude.{◌≡◌, ◌↔◌, ℕ, ◌+◌, ◌<◌, ◌≤◌, true, All, IsTrue, IfOk, Some, length, map, nat_lt};
 ghost use Rattle.numbered_graph.specs.Listings.{numbers_below};
 ghost use Rattle.numbered_graph.specs.Paths.{any_link, IsReached};
 ghost use Rattle.numbered_graph.specs.Sets.{has};
 ghost use Rattle.numbered_offers.specs.Dues.{asked_of};
-ghost use Rattle.numbered_offers.specs.Edges.{edge_links, is_weak};
+ghost use Rattle.numbered_offers.specs.Edges.{edge_links};
 ghost use Rattle.numbered_offers.specs.Least.{AnswersBy, IsLeast};
 ghost use Rattle.numbered_offers.specs.Verdicts.{accepts_by};
 
@@ -64,7 +64,7 @@ fn resolve_with_blank<L: Ledger>(
     resolve_by_counted(alloc, graph, starts, direction, whole, optional, &mut looks)
 }
 
-/// The same, with a count of the looks that it takes.
+/// The same, with a count of the looks that it takes, each of them at a node that is reached.
 pub fn resolve_by_counted<L: Ledger>(
     alloc: Global,
     graph: &OfferGraph,
@@ -77,7 +77,7 @@ pub fn resolve_by_counted<L: Ledger>(
     requires starts { All (λ v. v < graph.now.nodes) starts.now }
     ensures sized { IfOk result (λ r. length r ≡ graph.now.nodes) }
     ensures least { IfOk result (λ r. IsLeast direction graph.now.edges starts.now (accepts_by whole.now optional.now) (λ v. has r v ≡ true)) }
-    ensures looks { looks.new ≤ looks.old + (graph.now.nodes + (length graph.now.edges + count_by is_weak graph.now.edges)) }
+    ensures looks { looks.new ≤ looks.old + graph.now.nodes }
 {
     let mut walk = OfferWalk::new(alloc, graph, starts, direction)?;
     while let Some(due) = walk.take(looks) {

@@ -1,16 +1,20 @@
-//! The walk over the links of a graph of offers, and what it has asked.
+//! The walk over the links of a graph of offers, the counts of premises, and what was asked.
 
-ghost use Rattle.std.specs.Prelude.{◌≡◌, ℕ, suc, ◌+◌, ◌<◌, ◌≤◌, ◌++◌, ◌∷◌, ◌||◌, [], false, All, replicate, length, Some, None, IfSome, IfNone, IfOk, vec_len, vec_capacity};
+ghost use Rattle.std.specs.Prelude.{◌≡◌, ℕ, suc, ◌+◌, ◌<◌, ◌≤◌, ◌++◌, ◌∷◌, ◌||◌, [], true, All, replicate, length, Some, None, IfSome, IfNone, IfOk, vec_len, vec_capacity};
 ghost use Rattle.numbered_graph.specs.Walks.{IsShowing};
 ghost use Rattle.numbered_offers.specs.declared.offer.Offer.{Offer};
+ghost use Rattle.numbered_offers.specs.declared.offer.OfferKind.TheVariants.{Optional};
+ghost use Rattle.numbered_offers.specs.Counts.{AreOpen, count_at, lowered, optional_premises, whole_after, half_after, optional_after, is_due_at};
 ghost use Rattle.numbered_offers.specs.Dues.{asks, asked_of, accepted_of};
+ghost use Rattle.numbered_offers.specs.Edges.{waits};
 ghost use Rattle.numbered_offers.specs.Graphs.{all_links};
-ghost use Rattle.numbered_offers.specs.Keeping.{half_at, is_asked_at, near_after, dep_after, is_free_link, run_of};
-ghost use Rattle.numbered_offers.specs.States.{Rests, WaitsFor, IsSameWalk};
+ghost use Rattle.numbered_offers.specs.Keeping.{half_at, is_free_link, run_of};
+ghost use Rattle.numbered_offers.specs.States.{Rests, Meets, WaitsFor, IsSameWalk};
 
-use crate::due::{Due, due_of_dep, due_of_edge, is_taken};
+use crate::due::{Due, due_of_edge, due_of_half, is_taken};
+use crate::link_walk::LinkWalk;
 use crate::offer_graph::OfferGraph;
-use numbered_graph::{Direction, Looks, Walk};
+use numbered_graph::{Direction, Looks};
 use std::alloc::{AllocError, Global};
 use std::sync::ledger::Ledger;
 
@@ -22,24 +26,34 @@ pub struct Asked {
     pub second: bool,
 }
 
-/// A walk over all links, the link that was taken last, the edges that were met, those whose optional
-/// half waits no more, and what was asked.
+/// A walk over all links, the link that was taken last, how many premises are not reached, of each
+/// edge those of its unsplit offer or required half and those of its optional half, and what was asked.
 #[derive(Drop)]
 pub struct State<'g> {
     pub graph: &'g OfferGraph,
     pub direction: Direction,
-    pub walk: Walk<'g>,
+    pub walk: LinkWalk<'g>,
     pub link: usize,
-    pub near_seen: Vec<bool>,
-    pub dep_seen: Vec<bool>,
+    pub whole_open: Vec<u8>,
+    pub optional_open: Vec<u8>,
     pub asked: Vec<Asked>,
 }
 
-// So many flags, none of them set.
-fn no_flags(alloc: Global, count: usize) -> Result<Vec<bool>, AllocError>
-    ensures { IfOk result (λ v. v.items ≡ replicate count false) }
+// So many counts, all alike.
+fn counts_of(alloc: Global, premises: u8, count: usize) -> Result<Vec<u8>, AllocError>
+    ensures { IfOk result (λ v. v.items ≡ replicate count premises) }
 {
-    vec![in alloc; false; count]
+    vec![in alloc; premises; count]
+}
+
+// How many premises an optional half has: forward it waits for its dependency's node too.
+fn premises_of_optional(direction: Direction) -> u8
+    ensures { result ≡ optional_premises direction }
+{
+    match direction {
+        Direction::Forward => 2,
+        Direction::Reverse => 1,
+    }
 }
 
 // Before the first link.
@@ -57,17 +71,17 @@ pub(crate) fn started<'g>(
     ensures asked { IfOk result (λ s. s.asked.items ≡ []) }
 {
     let edges = graph.edges().len();
-    let near_seen = no_flags(alloc, edges)?;
-    let dep_seen = no_flags(alloc, edges)?;
+    let whole_open = counts_of(alloc, 1, edges)?;
+    let optional_open = counts_of(alloc, premises_of_optional(direction), edges)?;
     let asked = Vec::with_capacity(alloc, graph.graph().links().len())?;
-    let walk = Walk::new(alloc, graph.graph(), starts, direction)?;
+    let walk = LinkWalk::new(alloc, graph.graph(), starts, direction)?;
     Ok(State {
         graph,
         direction,
         walk,
         link: 0,
-        near_seen,
-        dep_seen,
+        whole_open,
+        optional_open,
         asked,
     })
 }
@@ -83,43 +97,106 @@ fn half_of(graph: &OfferGraph, number: usize) -> usize
     graph.halves()[number - edges]
 }
 
-// What is offered when a link is met.
-fn due_at(
-    graph: &OfferGraph,
-    direction: Direction,
-    near_seen: &[bool],
-    dep_seen: &[bool],
-    number: usize,
-) -> Option<Due>
-    requires number { number < length (all_links graph.now.edges) }
-    requires near { length near_seen.now ≡ length graph.now.edges }
-    requires dep { length dep_seen.now ≡ length graph.now.edges }
-    ensures due { (o : Offer) → asks result o ≡ is_asked_at direction graph.now.edges near_seen.now dep_seen.now number o }
+// Lowers the count of an edge by one.
+fn lower(counts: &mut Vec<u8>, number: usize)
+    requires place { number < length counts.old.items }
+    requires open { 0 < count_at counts.old.items number }
+    ensures { counts.new.items ≡ lowered number counts.old.items }
 {
-    let edges = graph.edges();
-    if number < edges.len() {
-        due_of_edge(edges[number], number, direction, dep_seen[number])
-    } else {
-        let half = half_of(graph, number);
-        due_of_dep(half, direction, near_seen[half])
+    counts[number] -= 1;
+}
+
+// Lowers the count of the half that waits at a link.
+fn meet_half(graph: &OfferGraph, direction: Direction, optional: &mut Vec<u8>, number: usize)
+    requires behind { length graph.now.edges ≤ number }
+    requires number { number < length (all_links graph.now.edges) }
+    requires sized { length optional.old.items ≡ length graph.now.edges }
+    requires open { waits direction Optional ≡ true → 0 < count_at optional.old.items (half_at graph.now.edges number) }
+    ensures { optional.new.items ≡ half_after direction graph.now.edges number optional.old.items }
+{
+    match direction {
+        Direction::Forward => {
+            let half = half_of(graph, number);
+            lower(optional, half);
+        }
+        Direction::Reverse => {}
     }
 }
 
-// Marks what is met with a link.
-fn mark_seen(graph: &OfferGraph, near_seen: &mut Vec<bool>, dep_seen: &mut Vec<bool>, number: usize)
+// Lowers the counts that wait at a link.
+fn meet(
+    graph: &OfferGraph,
+    direction: Direction,
+    whole: &mut Vec<u8>,
+    optional: &mut Vec<u8>,
+    number: usize,
+)
     requires number { number < length (all_links graph.now.edges) }
-    requires near { length near_seen.old.items ≡ length graph.now.edges }
-    requires dep { length dep_seen.old.items ≡ length graph.now.edges }
-    ensures near { near_seen.new.items ≡ near_after graph.now.edges number near_seen.old.items }
-    ensures dep { dep_seen.new.items ≡ dep_after graph.now.edges number dep_seen.old.items }
+    requires whole_sized { length whole.old.items ≡ length graph.now.edges }
+    requires optional_sized { length optional.old.items ≡ length graph.now.edges }
+    requires open { AreOpen direction graph.now.edges number whole.old.items optional.old.items }
+    ensures whole { whole.new.items ≡ whole_after graph.now.edges number whole.old.items }
+    ensures optional { optional.new.items ≡ optional_after direction graph.now.edges number optional.old.items }
 {
-    let edges = graph.edges().len();
-    if number < edges {
-        near_seen[number] = true;
+    if number < graph.edges().len() {
+        lower(whole, number);
+        lower(optional, number);
+    } else {
+        meet_half(graph, direction, optional, number);
+    }
+}
+
+// What is offered at a link whose counts were lowered.
+fn due_at(
+    graph: &OfferGraph,
+    direction: Direction,
+    whole: &[u8],
+    optional: &[u8],
+    number: usize,
+) -> Option<Due>
+    requires number { number < length (all_links graph.now.edges) }
+    requires whole_sized { length whole.now ≡ length graph.now.edges }
+    requires optional_sized { length optional.now ≡ length graph.now.edges }
+    ensures due { (o : Offer) → asks result o ≡ is_due_at direction graph.now.edges whole.now optional.now number o }
+{
+    let edges = graph.edges();
+    if number < edges.len() {
+        due_of_edge(
+            edges[number],
+            number,
+            whole[number] == 0,
+            optional[number] == 0,
+        )
     } else {
         let half = half_of(graph, number);
-        dep_seen[half] = true;
+        due_of_half(half, direction, optional[half] == 0)
     }
+}
+
+// Lowers the counts that wait at the link that was taken, and says what is offered there.
+fn meet_link(state: &mut State<'_>, number: usize) -> Option<Due>
+    requires meets { Meets state.old number }
+    ensures waits { WaitsFor state.new result }
+    ensures run { run_of state.new.asked.items ≡ run_of state.old.asked.items }
+    ensures walk { state.new.walk ≡ state.old.walk }
+    ensures graph { state.new.graph ≡ state.old.graph }
+    ensures direction { state.new.direction ≡ state.old.direction }
+{
+    state.link = number;
+    meet(
+        state.graph,
+        state.direction,
+        &mut state.whole_open,
+        &mut state.optional_open,
+        number,
+    );
+    due_at(
+        state.graph,
+        state.direction,
+        &state.whole_open,
+        &state.optional_open,
+        number,
+    )
 }
 
 // Whether the link is that of an edge that is crossed always.
@@ -174,12 +251,6 @@ pub(crate) fn settle(state: &mut State<'_>, due: Option<Due>, first: bool, secon
 {
     let number = state.link;
     let accepted = is_accepted(state.graph, number, due, first, second);
-    mark_seen(
-        state.graph,
-        &mut state.near_seen,
-        &mut state.dep_seen,
-        number,
-    );
     note(&mut state.asked, due, first, second);
     state.walk.answer(number, accepted);
 }
@@ -194,17 +265,10 @@ pub(crate) fn next_due<L: Ledger>(state: &mut State<'_>, looks: &mut Looks<L>) -
     ensures walk { IsSameWalk state.old state.new }
     ensures shown { length state.old.walk.shown ≤ length state.new.walk.shown }
     ensures looks { looks.new + state.old.walk.looked ≡ looks.old + state.new.walk.looked }
-    ensures bound { state.new.walk.looked ≤ state.new.graph.now.nodes + length (all_links state.new.graph.now.edges) }
+    ensures bound { state.new.walk.looked ≤ state.new.graph.now.nodes }
 {
     while let Some(number) = state.walk.take(looks) {
-        state.link = number;
-        let due = due_at(
-            state.graph,
-            state.direction,
-            &state.near_seen,
-            &state.dep_seen,
-            number,
-        );
+        let due = meet_link(state, number);
         if due.is_some() {
             return due;
         }

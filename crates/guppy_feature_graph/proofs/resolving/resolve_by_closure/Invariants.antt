@@ -2,7 +2,6 @@ use Rattle.std.proofs.Common.{◌≡◌, ◌+◌, ◌-◌, ◌≤◌, length, co
 use denote.Param.Always.{always_mut}
 use Rattle.guppy_package_graph.specs.Visits.{Chain}
 use Rattle.guppy_feature_graph.specs.Closures.{AsksClosure}
-use Rattle.guppy_feature_graph.specs.Resolves.{most_looks}
 use Rattle.numbered_offers.specs.Edges.{is_weak}
 use Rattle.guppy_feature_graph.proofs.ResolveFacts.{IsWalkOf}
 use Rattle.guppy_feature_graph.proofs.resolving.resolve_by_closure.Given as goal
@@ -13,7 +12,7 @@ invariant-loop-due g l = record {
   chain : Chain (AsksClosure g.F.FnMut l.query) l.fn.accepts l.walk.run l.accepts;
   callable : always_mut g.F.FnMut l.accepts;
   looks : l.looks ≡ l.fn.looks + l.walk.looked;
-  bound : l.walk.looked ≤ most_looks l.query.graph;
+  bound : l.walk.looked ≤ length l.query.graph.nodes;
 }
 
 abbrev pub decreases-loop-due : goal.decreases-loop-due

@@ -1,12 +1,11 @@
-use Rattle.std.proofs.Common.{◌≡◌, ◌++◌, ◌+◌, Some, length, count_by, subst, sym, ap, ◌∙◌, arith}
+use Rattle.std.proofs.Common.{◌≡◌, ◌++◌, ◌+◌, Some, length, subst, sym, ap, ◌∙◌, arith}
 use Rattle.numbered_offers.specs.Dues.{asked_of}
-use Rattle.numbered_offers.specs.Edges.{is_weak}
 use Rattle.numbered_offers.specs.Graphs.{OfferGraphValue}
 use Rattle.numbered_offers.specs.OfferWalks.{OfferWalkValue}
 use Rattle.numbered_offers.specs.Runs.{Run}
 use Rattle.guppy_package_graph.specs.Visits.{Chain}
 use Rattle.guppy_feature_graph.specs.Resolves.{shown_to}
-use Rattle.guppy_feature_graph.proofs.ResolveFacts.{Chain-append, Chain-by, SameSteps-trans, looks_of, offer_below, run_more, shown_more, walk_more}
+use Rattle.guppy_feature_graph.proofs.ResolveFacts.{Chain-append, Chain-by, SameSteps-trans, offer_below, run_more, shown_more, walk_more}
 use Rattle.guppy_feature_graph.proofs.resolving.resolve_by_visitor.Goals as goal
 
 pub loop-due-preserved : goal.loop-due-preserved
@@ -34,7 +33,7 @@ loop-due-preserved g c =
       chain = subst (λ (r : Run). Chain R first (shown_to q r) last) (sym run) (subst (λ xs. Chain R first xs last) (sym (shown_more q w.run more)) (Chain-append R (shown_to q w.run) (shown_to q more) first mid last was.chain step));
       same = SameSteps-trans was.same c.ask_due-first.ensures.same;
       looks = let looked = ap (λ (v : OfferWalkValue). v.looked) answered in let took = c.in-Some.ensures.looks in let so_far = was.looks in omega arith;
-      bound = let looked = ap (λ (v : OfferWalkValue). v.looked) answered in let most = c.in-Some.ensures.bound in let of_graph = ap (λ (v : OfferWalkValue). v.graph) taken ∙ was.walk.graph in let nodes = ap (λ (x : OfferGraphValue). x.nodes) of_graph in let edges = ap (λ (x : OfferGraphValue). length x.edges + count_by is_weak x.edges) of_graph in let all = looks_of q in omega arith;
+      bound = let looked = ap (λ (v : OfferWalkValue). v.looked) answered in let most = c.in-Some.ensures.bound in let of_graph = ap (λ (v : OfferWalkValue). v.graph) taken ∙ was.walk.graph in let nodes = ap (λ (x : OfferGraphValue). x.nodes) of_graph in omega arith;
     }
 
 pub ask_due-first-requires : goal.ask_due-first-requires
@@ -46,8 +45,6 @@ returns-clause-looks g c =
     let none = c.in_default.ensures in
     let of_graph = ap (λ (v : OfferWalkValue). v.graph) none.kept ∙ was.walk.graph in
     let nodes = ap (λ (x : OfferGraphValue). x.nodes) of_graph in
-    let edges = ap (λ (x : OfferGraphValue). length x.edges + count_by is_weak x.edges) of_graph in
-    let all = looks_of c.args.query.now in
     let took = none.looks in
     let most = none.bound in
     let so_far = was.looks in

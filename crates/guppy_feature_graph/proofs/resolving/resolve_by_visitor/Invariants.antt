@@ -1,6 +1,6 @@
 use Rattle.std.proofs.Common.{◌≡◌, ◌+◌, ◌-◌, ◌≤◌, length, count_by}
 use Rattle.guppy_package_graph.specs.Visits.{Chain, SameSteps}
-use Rattle.guppy_feature_graph.specs.Resolves.{most_looks, shown_to}
+use Rattle.guppy_feature_graph.specs.Resolves.{shown_to}
 use Rattle.numbered_offers.specs.Edges.{is_weak}
 use Rattle.guppy_feature_graph.proofs.ResolveFacts.{IsWalkOf}
 use Rattle.guppy_feature_graph.proofs.resolving.resolve_by_visitor.Given as goal
@@ -14,7 +14,7 @@ invariant-loop-due g l =
       chain : Chain (before.steps l.fn.visitor.now.1) (before.state l.fn.visitor.now.1) (shown_to l.query l.walk.run) (after.state l.visitor.now.1);
       same : SameSteps (before.steps l.fn.visitor.now.1) (after.steps l.visitor.now.1);
       looks : l.looks ≡ l.fn.looks + l.walk.looked;
-      bound : l.walk.looked ≤ most_looks l.query.graph;
+      bound : l.walk.looked ≤ length l.query.graph.nodes;
     }
 
 abbrev pub decreases-loop-due : goal.decreases-loop-due

@@ -1,9 +1,8 @@
-use Rattle.std.proofs.Common.{◌≡◌, ◌↔◌, ℕ, ◌++◌, Bool, true, IsTrue, Some, length, count_by, ◌+◌, ap, subst, refl, sym, ◌∙◌, arith}
+use Rattle.std.proofs.Common.{◌≡◌, ◌↔◌, ℕ, ◌++◌, Bool, true, IsTrue, Some, ap, subst, refl, sym, ◌∙◌, arith}
 use Rattle.std.proofs.lemmas.List.Elements.{All-append}
 use Rattle.numbered_graph.specs.Sets.{has}
 use Rattle.numbered_offers.specs.declared.offer.Offer.{Offer}
 use Rattle.numbered_offers.specs.Dues.{asked_of}
-use Rattle.numbered_offers.specs.Edges.{is_weak}
 use Rattle.numbered_offers.specs.Graphs.{OfferGraphValue}
 use Rattle.numbered_offers.specs.Least.{AnswersBy, IsLeast}
 use Rattle.numbered_offers.specs.OfferWalks.{OfferWalkValue}
@@ -30,7 +29,7 @@ loop-due-preserved g c =
       idle = ap (λ (w : OfferWalkValue). w.waiting) after;
       answers = subst (AnswersBy accepts) (sym run) (All-append (λ (s : Offer × Bool). s.1 ≡ accepts s.0) c.loop-due.walk.run more before.answers c.verdicts_on-first.ensures);
       looks = let was = before.looks in let took = c.in-Some.ensures.looks in omega arith;
-      bound = let most = c.in-Some.ensures.bound in let of_graph = ap (λ (w : OfferWalkValue). w.graph) kept ∙ before.graph in let nodes = ap (λ (x : OfferGraphValue). x.nodes) of_graph in let edges = ap (λ (x : OfferGraphValue). length x.edges + count_by is_weak x.edges) of_graph in omega arith;
+      bound = let most = c.in-Some.ensures.bound in let of_graph = ap (λ (w : OfferWalkValue). w.graph) kept ∙ before.graph in let nodes = ap (λ (x : OfferGraphValue). x.nodes) of_graph in omega arith;
     }
 
 pub returns-clause-least : goal.returns-clause-least

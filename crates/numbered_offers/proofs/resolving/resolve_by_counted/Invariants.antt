@@ -12,7 +12,7 @@ invariant-loop-due g l = record {
   idle : l.walk.waiting ≡ None;
   answers : AnswersBy (accepts_by l.whole l.optional) l.walk.run;
   looks : l.looks ≡ l.fn.looks + l.walk.looked;
-  bound : l.walk.looked ≤ l.graph.nodes + (length l.graph.edges + count_by is_weak l.graph.edges);
+  bound : l.walk.looked ≤ l.graph.nodes;
 }
 
 abbrev pub decreases-loop-due : goal.decreases-loop-due

@@ -1,7 +1,7 @@
 use Rattle.std.proofs.Common.{length, ap, ◌∙◌, arith}
 use Rattle.std.proofs.lemmas.List.{length_push}
 use Rattle.numbered_graph.specs.Walks.{WalkValue}
-use Rattle.numbered_offers.specs.Keeping.{run_of}
+use Rattle.numbered_offers.specs.Keeping.{near_after, dep_after, run_of}
 use Rattle.numbered_offers.specs.States.{edges_of}
 use Rattle.numbered_offers.proofs.StepFacts.{step}
 use Rattle.numbered_offers.proofs.state.settle.Goals as goal
@@ -12,15 +12,19 @@ returns-clause-rests c =
     let waits = c.requires.waits in
     let before = waits.stands in
     let after = c.answer.ensures.answered in
+    let edges = edges_of s in
     record {
       stands = record {
+        near = near_after edges s.link before.near;
+        dep = dep_after edges s.link before.dep;
         graph = ap (λ (w : WalkValue). w.graph) after ∙ before.graph;
         direction = ap (λ (w : WalkValue). w.direction) after ∙ before.direction;
-        keeps = rw (after, c.is_accepted-accepted.ensures, c.note.ensures.run, c.mark_seen.ensures.near, c.mark_seen.ensures.dep)
-            (step s.direction (edges_of s) s.walk.starts s.walk.shown (run_of s.asked.items) s.near_seen.items s.dep_seen.items s.link c.args.due c.args.first c.args.second before.keeps waits.link_due waits.offers);
+        keeps = rw (after, c.is_accepted-accepted.ensures, c.note.ensures.run)
+            (step s.direction edges s.walk.starts s.walk.shown (run_of s.asked.items) before.near before.dep s.link c.args.due c.args.first c.args.second before.keeps waits.link_due waits.offers);
         counted = let more = c.note.ensures.count in let was = before.counted in let size = ap (λ (w : WalkValue). length w.shown) after ∙ length_push s.walk.shown _ in omega arith;
         room = let grown = c.note.ensures.capacity in let was = before.room in omega arith;
         bound = let looked = ap (λ (w : WalkValue). w.looked) after in let was = before.bound in omega arith;
       };
+      counts = waits.counts;
       idle = ap (λ (w : WalkValue). w.waiting) after;
     }

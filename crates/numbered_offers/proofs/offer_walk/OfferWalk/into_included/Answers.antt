@@ -20,7 +20,7 @@ returns-clause-included c = λ ended v.
     let of_walk = c.into_included.ensures.included v in
     let here : IsTrue (has set v) ↔ IsIncluded s.direction (all_links (edges_of s)) s.walk.starts s.walk.shown v =
     subst (λ d. IsTrue (has set v) ↔ IsIncluded d (all_links (edges_of s)) s.walk.starts s.walk.shown v) stands.direction (subst (λ g. IsTrue (has set v) ↔ IsIncluded s.walk.direction g.links s.walk.starts s.walk.shown v) stands.graph of_walk) in
-    let ends = included_is s.direction (edges_of s) s.walk.starts s.walk.shown (run_of s.asked.items) s.near_seen.items s.dep_seen.items stands.keeps (c.self.invariant.done (ap (λ (x : OfferWalkValue). x.ended) is ∙ ended)) v in
+    let ends = included_is s.direction (edges_of s) s.walk.starts s.walk.shown (run_of s.asked.items) stands.near stands.dep stands.keeps (c.self.invariant.done (ap (λ (x : OfferWalkValue). x.ended) is ∙ ended)) v in
     carry (λ d edges starts run. IsTrue (has set v) ↔ IsReachedBy d edges starts run v) s.direction value.direction (edges_of s) value.graph.edges s.walk.starts value.starts (run_of s.asked.items) value.run
     (ap (λ (x : OfferWalkValue). x.direction) is) (ap (λ (x : OfferWalkValue). x.graph.edges) is) (ap (λ (x : OfferWalkValue). x.starts) is) (ap (λ (x : OfferWalkValue). x.run) is)
     (λ h. ends.0 (here.0 h), λ h. here.1 (ends.1 h))

@@ -23,7 +23,7 @@ returns-clause-due g c =
     (ap (λ (x : Bor OfferGraphValue). x.now.edges) walk.graph ∙ ap (λ (x : OfferWalkValue). x.graph.edges) is)
     (walk.starts ∙ ap (λ (x : OfferWalkValue). x.starts) is)
     (c.next_due-due.ensures.run ∙ ap (λ (x : OfferWalkValue). x.run) is)
-    (all_due t.direction (edges_of t) t.walk.starts t.walk.shown (run_of t.asked.items) t.near_seen.items t.dep_seen.items t.link (Some due) true true h.stands.keeps h.link_due h.offers o a))
+    (all_due t.direction (edges_of t) t.walk.starts t.walk.shown (run_of t.asked.items) h.stands.near h.stands.dep t.link (Some due) true true h.stands.keeps h.link_due h.offers o a))
 
 pub returns-clause-all : goal.returns-clause-all
 returns-clause-all g c =
@@ -37,10 +37,10 @@ returns-clause-all g c =
     (ap (λ (x : Bor OfferGraphValue). x.now.edges) walk.graph ∙ ap (λ (x : OfferWalkValue). x.graph.edges) is)
     (walk.starts ∙ ap (λ (x : OfferWalkValue). x.starts) is)
     (c.next_due-due.ensures.run ∙ ap (λ (x : OfferWalkValue). x.run) is)
-    (legal_end t.direction (edges_of t) t.walk.starts t.walk.shown (run_of t.asked.items) t.near_seen.items t.dep_seen.items rests.stands.keeps showing))
+    (legal_end t.direction (edges_of t) t.walk.starts t.walk.shown (run_of t.asked.items) rests.stands.near rests.stands.dep rests.stands.keeps showing))
 
 pub returns-clause-room : goal.returns-clause-room
 returns-clause-room g c = IfSome_then c.next_due-due.result c.next_due-due.ensures.waits (λ due h. let left = h.left in let few = halves_few (edges_of c.next_due-due.new.state) in omega arith)
 
-pub returns-clause-bound : goal.returns-clause-bound
-returns-clause-bound g c = let bound = c.next_due-due.ensures.bound in let few = halves_few (edges_of c.next_due-due.new.state) in omega arith
+pub next_due-due-requires : goal.next_due-due-requires
+next_due-due-requires g c = record { rests = c.self.invariant.rests (ap (λ (v : OfferWalkValue). v.waiting) c.self.view_is ∙ c.requires) }

@@ -3,7 +3,7 @@ use Rattle.std.proofs.lemmas.Fn.{always_returns_same}
 use Rattle.workspace_record.specs.Features.{FeatureValue, feature_cmp}
 use Rattle.feature_switching.specs.LentLabels.{lent_view}
 use Rattle.feature_switching.proofs.Halving.{found_by_halving}
-use Rattle.feature_switching.proofs.features.finds.Goals as goal
+use Rattle.feature_switching.proofs.search.finds.Goals as goal
 
 pub returns : goal.returns
 returns c =
