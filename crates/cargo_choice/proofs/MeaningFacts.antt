@@ -1,10 +1,10 @@
 -- What words mean, one word more at a time.
-use Rattle.std.proofs.Common.{◌≡◌, ℕ, ◌+◌, ◌<◌, List, [], ◌∷◌, ◌++◌, length, take, get_or, map, Contains, Bor, ⊎_elim, sym, subst, ap, ◌∙◌, string_bytes, append-nil}
-use Rattle.std.proofs.lemmas.List.{get_or_default, map-append, take_more}
+use Rattle.std.proofs.Common.{◌≡◌, ℕ, ◌+◌, ◌<◌, List, [], ◌∷◌, ◌++◌, length, take, drop, get_or, map, Contains, Bor, ⊎_elim, sym, subst, ap, ◌∙◌, append-nil}
+use Rattle.std.proofs.lemmas.List.{append_assoc, map-append, take-append-drop, take_more}
 use Rattle.std.proofs.lemmas.Grind.{flat_map-append}
-use Rattle.list_facts.proofs.Membership.{Contains-append_cases, Contains-cons_cases, Contains-map, Contains-none}
+use Rattle.list_facts.proofs.Membership.{Contains-append_cases, Contains-cons_cases, Contains-none}
 use Rattle.workspace_record.specs.Records.{Text, Workspace}
-use Rattle.cargo_choice.specs.Meaning.{AllMean, Refuses, RefusesOne, meant, meant_by}
+use Rattle.cargo_choice.specs.Meaning.{AllMean, IsFirstNone, MeansNone, NamesNoMember, Refuses, RefusesFirst, meant, meant_by}
 use Rattle.cargo_choice.specs.Words.{word_value}
 use Rattle.cargo_choice.specs.declared.fault.ChoiceFault.{ChoiceFault}
 use Rattle.cargo_choice.specs.declared.fault.ChoiceFault.TheVariants.{NoFeature, NoMember, Memory}
@@ -22,6 +22,12 @@ only x y h = ⊎_elim (λ e. e) (λ none. absurd (Contains-none y none)) (Contai
 words_more : (words : List (Bor Text)) (i : ℕ) (d : Bor Text) → i < length words → map bytes (take (i + 1) words) ≡ map bytes (take i words) ++ (get_or words i d).now ∷ []
 words_more words i d lt = ap (map bytes) (take_more words i d lt) ∙ map-append bytes (take i words) (get_or words i d ∷ [])
 
+words_parted : (words : List (Bor Text)) (i : ℕ) (d : Bor Text) → i < length words → map bytes words ≡ map bytes (take i words) ++ (get_or words i d).now ∷ map bytes (drop (i + 1) words)
+words_parted words i d lt =
+    let after = map bytes (drop (i + 1) words) in
+    let before = map bytes (take i words) in
+    sym (ap (map bytes) (take-append-drop (i + 1) words)) ∙ map-append bytes (take (i + 1) words) (drop (i + 1) words) ∙ ap (λ t. t ++ after) (words_more words i d lt) ∙ append_assoc before ((get_or words i d).now ∷ []) after
+
 module _ (w : Workspace) where
   pub meant_more : (words : List (Bor Text)) (i : ℕ) (d : Bor Text) → i < length words → meant_by w (map bytes (take (i + 1) words)) ≡ meant_by w (map bytes (take i words)) ++ meant w (word_value (get_or words i d).now)
   meant_more words i d lt =
@@ -37,16 +43,23 @@ module _ (w : Workspace) where
   all_mean_more words i d lt all one =
       subst (AllMean w) (sym (words_more words i d lt)) (all_and_one (map bytes (take i words)) (get_or words i d).now all one)
 
-  named_one : (words : List Text) (word named : Text) → Contains words word → (named ≡ word) × (meant w (word_value word) ≡ []) → Contains words named × (meant w (word_value named) ≡ [])
-  named_one words word named here h =
-      (subst (Contains words) (sym h.0) here, subst (λ x. meant w (word_value x) ≡ []) (sym h.0) h.1)
+  -- a word that means nothing behind words that mean something is the first that does
+  first_at : (words : List (Bor Text)) (i : ℕ) (d : Bor Text) → i < length words → AllMean w (map bytes (take i words)) → MeansNone w (get_or words i d).now → IsFirstNone w (map bytes words) (get_or words i d).now
+  first_at words i d lt mean none = record {
+    before = map bytes (take i words);
+    after = map bytes (drop (i + 1) words);
+    parted = words_parted words i d lt;
+    mean = mean;
+    none = none;
+  }
 
-  refuses : (words : List Text) (word : Text) (fault : ChoiceFault) → Contains words word → Refuses w word fault → RefusesOne w words fault
-  refuses words word (NoFeature named near) here h = named_one words word (string_bytes named) here h
-  refuses words word (NoMember named near) here h = named_one words word (string_bytes named) here h
-  refuses words word Memory here h = tt
+  refuses : (words : List Text) (word : Text) (fault : ChoiceFault) → (MeansNone w word → IsFirstNone w words word) → Refuses w word fault → RefusesFirst w words fault
+  refuses words word (NoFeature named near) first h =
+      (subst (IsFirstNone w words) (sym h.1.0) (first h.0), subst (λ x. NamesNoMember w (word_value x) → ⊥) (sym h.1.0) h.1.1)
+  refuses words word (NoMember named near) first h =
+      (subst (IsFirstNone w words) (sym h.1.0) (first h.0), subst (λ x. NamesNoMember w (word_value x)) (sym h.1.0) h.1.1)
+  refuses words word Memory first h = tt
 
-  pub refuses_at : (words : List (Bor Text)) (i : ℕ) (d : Bor Text) (fault : ChoiceFault) → i < length words → Refuses w (get_or words i d).now fault → RefusesOne w (map bytes words) fault
-  refuses_at words i d fault lt h =
-      let word = get_or words i d in
-      refuses (map bytes words) word.now fault (Contains-map bytes words word (i, lt, get_or_default words i word d lt)) h
+  pub refuses_at : (words : List (Bor Text)) (i : ℕ) (d : Bor Text) (fault : ChoiceFault) → i < length words → AllMean w (map bytes (take i words)) → Refuses w (get_or words i d).now fault → RefusesFirst w (map bytes words) fault
+  refuses_at words i d fault lt mean h =
+      refuses (map bytes words) (get_or words i d).now fault (first_at words i d lt mean) h

@@ -1,5 +1,5 @@
 -- Which features of a record the words of `--features` mean, and which standard features the flags.
-use Rattle.std.specs.Prelude.{◌≡◌, Bool, ◌&&◌, List, [], ◌∷◌, flat_map, find, bytes_eq, string_bytes, Contains, Option, if◌then◌else◌}
+use Rattle.std.specs.Prelude.{◌≡◌, Bool, ◌&&◌, List, [], ◌∷◌, ◌++◌, flat_map, find, bytes_eq, string_bytes, Contains, Option, None, if◌then◌else◌}
 use Rattle.std.specs.Option.{option_map_or}
 use Rattle.workspace_record.specs.Features.{Named, FeatureValue}
 use Rattle.workspace_record.specs.Records.{Text, Package, Workspace}
@@ -35,17 +35,40 @@ meant_by w words = flat_map (λ word. meant w (word_value word)) words
 abbrev pub AllMean : Workspace → List Text → Type 0
 AllMean w words = (word : Text) → Contains words word → meant w (word_value word) ≡ [] → ⊥
 
--- the fault names the word, which means no feature; or memory ran out
+-- the word is `PACKAGE/NAME`, and no member has that name
+abbrev pub NamesNoMember : Workspace → WordValue → Type 0
+NamesNoMember w (OfEach name) = ⊥
+NamesNoMember w (OfMember owner name) = member_named w owner ≡ None
+
+-- the fault says of the word that its member is missing, exactly if it is, and else that the feature is; or memory ran out
+abbrev pub Tells : Workspace → Text → ChoiceFault → Type 0
+Tells w word (NoFeature named near) = (string_bytes named ≡ word) × (NamesNoMember w (word_value word) → ⊥)
+Tells w word (NoMember named near) = (string_bytes named ≡ word) × NamesNoMember w (word_value word)
+Tells w word Memory = Unit {0}
+
+-- the word means no feature
+abbrev pub MeansNone : Workspace → Text → Type 0
+MeansNone w word = meant w (word_value word) ≡ []
+
+-- the fault is that of the word, which means no feature; or memory ran out
 abbrev pub Refuses : Workspace → Text → ChoiceFault → Type 0
-Refuses w word (NoFeature named near) = (string_bytes named ≡ word) × (meant w (word_value word) ≡ [])
-Refuses w word (NoMember named near) = (string_bytes named ≡ word) × (meant w (word_value word) ≡ [])
+Refuses w word (NoFeature named near) = MeansNone w word × Tells w word (NoFeature named near)
+Refuses w word (NoMember named near) = MeansNone w word × Tells w word (NoMember named near)
 Refuses w word Memory = Unit {0}
 
--- one of the words is refused so
-abbrev pub RefusesOne : Workspace → List Text → ChoiceFault → Type 0
-RefusesOne w words Memory = Unit {0}
-RefusesOne w words (NoFeature named near) = Contains words (string_bytes named) × (meant w (word_value (string_bytes named)) ≡ [])
-RefusesOne w words (NoMember named near) = Contains words (string_bytes named) × (meant w (word_value (string_bytes named)) ≡ [])
+-- the word is the first of the words that means no feature
+pub record IsFirstNone (w : Workspace) (words : List Text) (word : Text) : Type 0 where
+  pub before : List Text
+  pub after : List Text
+  pub parted : words ≡ before ++ word ∷ after
+  pub mean : AllMean w before
+  pub none : MeansNone w word
+
+-- the fault is that of the first word that means no feature; or memory ran out
+abbrev pub RefusesFirst : Workspace → List Text → ChoiceFault → Type 0
+RefusesFirst w words (NoFeature named near) = IsFirstNone w words (string_bytes named) × (NamesNoMember w (word_value (string_bytes named)) → ⊥)
+RefusesFirst w words (NoMember named near) = IsFirstNone w words (string_bytes named) × NamesNoMember w (word_value (string_bytes named))
+RefusesFirst w words Memory = Unit {0}
 
 -- all features, if they are asked for; else none or the default ones
 abbrev pub standard_of : Bool → Bool → Standard

@@ -1,7 +1,7 @@
 //! The choice that a command line means.
 
 ghost use Rattle.std.specs.Prelude.{◌≡◌, ◌++◌, [], IfErr, IfOk, OnOk, map};
-ghost use Rattle.cargo_choice.specs.Meaning.{AllMean, Refuses, RefusesOne, meant, meant_by, standard_of};
+ghost use Rattle.cargo_choice.specs.Meaning.{AllMean, Refuses, RefusesFirst, meant, meant_by, standard_of};
 ghost use Rattle.cargo_choice.specs.Words.{word_value};
 
 use crate::fault::ChoiceFault;
@@ -20,7 +20,8 @@ pub struct FeatureWords<'a> {
 }
 
 /// The choice that the words mean for a record. A `NAME` is that feature of each member that has it,
-/// and a `PACKAGE/NAME` that of the member. A word that means nothing is refused.
+/// and a `PACKAGE/NAME` that of the member. The first word that means
+/// nothing is refused.
 pub fn choice_of(
     alloc: Global,
     record: &WorkspaceRecord,
@@ -29,7 +30,7 @@ pub fn choice_of(
     ensures standard { IfOk result (λ c. c.standard ≡ standard_of words.entry.all_features words.entry.no_default_features) }
     ensures extras { IfOk result (λ c. c.extras ≡ meant_by record.now (map (λ t. t.now) words.entry.features.now)) }
     ensures known { IfOk result (λ _. AllMean record.now (map (λ t. t.now) words.entry.features.now)) }
-    ensures refused { IfErr result (RefusesOne record.now (map (λ t. t.now) words.entry.features.now)) }
+    ensures refused { IfErr result (RefusesFirst record.now (map (λ t. t.now) words.entry.features.now)) }
 {
     let index = RecordIndex::of(alloc, record)?;
     let extras = extras_of(alloc, &index, words.features)?;
@@ -57,7 +58,7 @@ fn extras_of(
 ) -> Result<Vec<Feature>, ChoiceFault>
     ensures extras { IfOk result (λ v. v.items ≡ meant_by index.now (map (λ t. t.now) words.now)) }
     ensures known { IfOk result (λ _. AllMean index.now (map (λ t. t.now) words.now)) }
-    ensures refused { IfErr result (RefusesOne index.now (map (λ t. t.now) words.now)) }
+    ensures refused { IfErr result (RefusesFirst index.now (map (λ t. t.now) words.now)) }
 {
     let mut extras = Vec::new(alloc);
     for word in words {

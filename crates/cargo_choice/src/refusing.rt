@@ -1,7 +1,8 @@
 //! The faults of words that mean no feature.
 
 ghost use Rattle.std.specs.Prelude.{◌≡◌, IfOk};
-ghost use Rattle.cargo_choice.specs.Faults.{NamesWord};
+ghost use Rattle.cargo_choice.specs.Faults.{MissesFeature, MissesMember};
+ghost use Rattle.cargo_choice.specs.Meaning.{Tells};
 
 use crate::fault::ChoiceFault;
 use crate::meaning::{is_member, member_named};
@@ -16,7 +17,7 @@ pub(crate) fn refused(
     index: &RecordIndex<'_>,
     word: &str,
 ) -> Result<ChoiceFault, AllocError>
-    ensures { IfOk result (NamesWord word.now) }
+    ensures { IfOk result (Tells index.now word.now) }
 {
     match word_of(word) {
         Word::OfEach(_) => no_feature(alloc, index, word),
@@ -29,7 +30,7 @@ pub(crate) fn refused(
 
 /// The fault of a feature that no member has, with the members' features that are near it.
 fn no_feature(alloc: Global, index: &RecordIndex<'_>, name: &str) -> Result<ChoiceFault, AllocError>
-    ensures { IfOk result (NamesWord name.now) }
+    ensures { IfOk result (MissesFeature name.now) }
 {
     let mut near = NearNames::of(alloc, name);
     for package in index.packages() {
@@ -48,7 +49,7 @@ fn no_own_feature(
     word: &str,
     name: &str,
 ) -> Result<ChoiceFault, AllocError>
-    ensures { IfOk result (NamesWord word.now) }
+    ensures { IfOk result (MissesFeature word.now) }
 {
     let mut near = NearNames::of(alloc, name);
     offer_features(alloc, &mut near, package)?;
@@ -63,7 +64,7 @@ fn no_member(
     word: &str,
     owner: &str,
 ) -> Result<ChoiceFault, AllocError>
-    ensures { IfOk result (NamesWord word.now) }
+    ensures { IfOk result (MissesMember word.now) }
 {
     let mut near = NearNames::of(alloc, owner);
     for package in index.packages() {

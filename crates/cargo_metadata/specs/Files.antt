@@ -6,8 +6,8 @@ use Rattle.serde_json.specs.Read.{read}
 use Rattle.serde_json.specs.View.{view}
 use Rattle.serde_json.specs.declared.value.Value.{Value}
 use Rattle.cargo_metadata.specs.declared.error.MetadataError.{MetadataError}
-use Rattle.cargo_metadata.specs.declared.error.MetadataError.TheVariants.{BadJson, BadShape, UnknownKind, Memory}
-use Rattle.cargo_metadata.specs.Faults.{Fault, at_key, unknown_kind}
+use Rattle.cargo_metadata.specs.declared.error.MetadataError.TheVariants.{BadJson, BadShape, BadPackage, UnknownKind, Memory}
+use Rattle.cargo_metadata.specs.Faults.{Fault, at_key, at_key_of, unknown_kind}
 
 -- The bytes are JSON as `serde_json` reads it, and of the value that they are the format says this.
 pub record Reads {Y : Type 0} (format : Data → Result Y Fault) (bytes : List ℕ) (said : Result Y Fault) : Type 0 where
@@ -21,6 +21,7 @@ pub record Reads {Y : Type 0} (format : Data → Result Y Fault) (bytes : List �
 abbrev pub ReadsFile : {X Y : Type 0} → (X → Y) → (Data → Result Y Fault) → List ℕ → Result X MetadataError → Type 0
 ReadsFile shows format bytes (Ok x) = Reads format bytes (Ok (shows x))
 ReadsFile shows format bytes (Err (BadShape key)) = Reads format bytes (Err (at_key key))
+ReadsFile shows format bytes (Err (BadPackage owner key)) = Reads format bytes (Err (at_key_of (string_bytes owner) key))
 ReadsFile shows format bytes (Err (UnknownKind owner target kind)) =
     Reads format bytes (Err (unknown_kind (string_bytes owner) (string_bytes target) (string_bytes kind)))
 ReadsFile shows format bytes (Err BadJson) = IsUtf8 bytes → read bytes ≡ None
@@ -30,6 +31,7 @@ ReadsFile shows format bytes (Err Memory) = Unit {0}
 abbrev pub Parses : List ℕ → Result Value MetadataError → Type 0
 Parses bytes (Ok v) = IsUtf8 bytes × (read bytes ≡ Some (view v))
 Parses bytes (Err (BadShape key)) = ⊥
+Parses bytes (Err (BadPackage owner key)) = ⊥
 Parses bytes (Err (UnknownKind owner target kind)) = ⊥
 Parses bytes (Err BadJson) = IsUtf8 bytes → read bytes ≡ None
 Parses bytes (Err Memory) = Unit {0}

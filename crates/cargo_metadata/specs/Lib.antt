@@ -2,6 +2,7 @@ pub mod Keys
 pub mod Faults
 pub mod Outcomes
 pub mod Values
+pub mod Called
 pub mod Files
 pub mod Folders
 pub mod Details

@@ -8,6 +8,7 @@ use Rattle.cargo_metadata.specs.declared.key.Key.{Key}
 use Rattle.cargo_metadata.specs.declared.key.Key.TheVariants as key
 use Rattle.cargo_metadata.specs.Outcomes.{◌>>=◌}
 use Rattle.cargo_metadata.specs.Packages.{Declaring, package_of}
+use Rattle.cargo_metadata.specs.Called.{of_package}
 use Rattle.cargo_metadata.specs.Resolved.{Node, node_of}
 use Rattle.cargo_metadata.specs.Values.{each, optional, object_of, text_at, optional_text_at, texts_at, optional_texts_at, objects_at}
 
@@ -40,21 +41,21 @@ workspace_of d = do
   default_members ← optional_texts_at key.WorkspaceDefaultMembers d
   Ok (record { root = root; target_directory = target_directory; build_directory = build_directory; members = members; default_members = default_members })
 
--- the nodes of a resolve
+-- the nodes of a resolve, whose faults name their packages
 abbrev pub nodes_of : Key → Data → Result (List Node) Fault
-nodes_of at d = objects_at key.Nodes d >>= each node_of
+nodes_of at d = objects_at key.Nodes d >>= each (of_package node_of)
 
 -- the nodes of the resolve, if there is one
 abbrev pub nodes_at : Data → Result (Option (List Node)) Fault
 nodes_at = optional nodes_of key.Resolve
 
--- metadata: the names of the workspace, then what was resolved, then each package
+-- metadata: the names of the workspace, then what was resolved, then each package, whose faults name it
 unfoldable pub metadata_of : Data → Result Metadata Fault
 metadata_of d = do
   workspace ← workspace_of d
   nodes ← nodes_at d
   package_items ← objects_at key.Packages d
-  packages ← each package_of package_items
+  packages ← each (of_package package_of) package_items
   Ok (record { format = format_of d; packages = packages; nodes = nodes; workspace = workspace })
 
 -- a file that is metadata

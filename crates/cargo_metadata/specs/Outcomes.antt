@@ -1,8 +1,8 @@
 -- What reading comes to: a value, or the fault that refuses the file.
 use Rattle.std.specs.Prelude.{◌≡◌, Result, Ok, Err, string_bytes}
 use Rattle.cargo_metadata.specs.declared.error.MetadataError.{MetadataError}
-use Rattle.cargo_metadata.specs.declared.error.MetadataError.TheVariants.{BadJson, BadShape, UnknownKind, Memory}
-use Rattle.cargo_metadata.specs.Faults.{Fault, at_key, unknown_kind}
+use Rattle.cargo_metadata.specs.declared.error.MetadataError.TheVariants.{BadJson, BadShape, BadPackage, UnknownKind, Memory}
+use Rattle.cargo_metadata.specs.Faults.{Fault, at_key, at_key_of, unknown_kind}
 
 infixl 10 ◌>>=◌
 -- the first read and then, from what it gave, the next; the first fault counts
@@ -16,8 +16,18 @@ abbrev pub Fails : {Y : Type 0} → MetadataError → Result Y Fault → Type 0
 Fails Memory said = Unit {0}
 Fails BadJson said = ⊥
 Fails (BadShape key) said = said ≡ Err (at_key key)
+Fails (BadPackage owner key) said = said ≡ Err (at_key_of (string_bytes owner) key)
 Fails (UnknownKind owner target kind) said =
     said ≡ Err (unknown_kind (string_bytes owner) (string_bytes target) (string_bytes kind))
+
+-- the error is that of this fault; or memory ran out
+abbrev pub IsFault : MetadataError → Fault → Type 0
+IsFault Memory fault = Unit {0}
+IsFault BadJson fault = ⊥
+IsFault (BadShape key) fault = fault ≡ at_key key
+IsFault (BadPackage owner key) fault = fault ≡ at_key_of (string_bytes owner) key
+IsFault (UnknownKind owner target kind) fault =
+    fault ≡ unknown_kind (string_bytes owner) (string_bytes target) (string_bytes kind)
 
 -- a reader gave this, where the metadata say `said` of the value, in the view of contracts
 abbrev pub Gives : {X Y : Type 0} → (X → Y) → Result X MetadataError → Result Y Fault → Type 0

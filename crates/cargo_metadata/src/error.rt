@@ -10,9 +10,12 @@ pub enum MetadataError {
     /// The bytes are not JSON.
     #[error("not JSON")]
     BadJson,
-    /// The first key whose value is missing or of the wrong kind.
+    /// The first key whose value is missing or of the wrong kind, of no package that is called something.
     #[error("`{0}` is missing or of the wrong kind")]
     BadShape(Key),
+    /// The first key of a package, by its name or else its id, whose value is so.
+    #[error("package {0}: `{1}` is missing or of the wrong kind")]
+    BadPackage(String, Key),
     /// A package's target, by its name, has a kind that is not known.
     #[error("{0}: target {1}: the kind `{2}` is not known")]
     UnknownKind(String, String, String),

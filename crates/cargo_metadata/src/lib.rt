@@ -2,6 +2,7 @@
 //! that they declare, what Cargo resolved these to, and the workspace's members.
 #![tactic(auto)]
 
+mod called;
 mod dependency;
 mod details;
 mod error;

@@ -4,9 +4,11 @@ ghost use Rattle.serde_json.specs.View.{view, items_view, members_view};
 ghost use Rattle.list_facts.specs.Texts.{texts};
 ghost use Rattle.cargo_metadata.specs.declared.key.Key.TheVariants as key;
 ghost use Rattle.cargo_metadata.specs.Outcomes.{Gives};
+ghost use Rattle.cargo_metadata.specs.Called.{of_package};
 ghost use Rattle.cargo_metadata.specs.Packages.{contents_of, each_feature, features_of, is_new_optional, optional_names, package_of};
 ghost use Rattle.cargo_metadata.specs.Values.{each, required, texts_of};
 
+use crate::called::at_package;
 use crate::dependency::{Dependency, dependencies_of};
 use crate::details::details_of;
 use crate::error::MetadataError;
@@ -37,13 +39,23 @@ pub(crate) fn packages_of(
     alloc: Global,
     values: &[Value],
 ) -> Result<Vec<DeclaringPackage>, MetadataError>
-    ensures { Gives (λ v. v.items) result (each package_of (items_view values.now)) }
+    ensures { Gives (λ v. v.items) result (each (of_package package_of) (items_view values.now)) }
 {
     let mut packages = Vec::new(alloc);
     for value in values {
-        packages.push(package_of(alloc, value)?)?;
+        packages.push(named_package(alloc, value)?)?;
     }
     Ok(packages)
+}
+
+/// A package, which its faults name.
+fn named_package(alloc: Global, value: &Value) -> Result<DeclaringPackage, MetadataError>
+    ensures { Gives (λ p. p) result (of_package package_of (view value.now)) }
+{
+    match package_of(alloc, value) {
+        Err(MetadataError::BadShape(key)) => Err(at_package(alloc, value, key)?),
+        read => read,
+    }
 }
 
 #[tactic(auto, unfolding(crate::specs::Packages::package_of))]

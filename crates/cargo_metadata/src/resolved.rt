@@ -1,9 +1,11 @@
 ghost use Rattle.std.specs.Prelude.{◌≡◌};
 ghost use Rattle.serde_json.specs.View.{view, items_view};
 ghost use Rattle.cargo_metadata.specs.Outcomes.{Gives};
+ghost use Rattle.cargo_metadata.specs.Called.{of_package};
 ghost use Rattle.cargo_metadata.specs.Resolved.{entry_of, kind_of, node_of};
 ghost use Rattle.cargo_metadata.specs.Values.{each};
 
+use crate::called::at_package;
 use crate::dependency::line_kind_at;
 use crate::error::MetadataError;
 use crate::key::Key;
@@ -66,13 +68,23 @@ pub(crate) fn nodes_of(
     alloc: Global,
     values: &[Value],
 ) -> Result<Vec<ResolvedPackage>, MetadataError>
-    ensures { Gives (λ v. v.items) result (each node_of (items_view values.now)) }
+    ensures { Gives (λ v. v.items) result (each (of_package node_of) (items_view values.now)) }
 {
     let mut nodes = Vec::new(alloc);
     for value in values {
-        nodes.push(node_of(alloc, value)?)?;
+        nodes.push(named_node(alloc, value)?)?;
     }
     Ok(nodes)
+}
+
+/// A package with what was resolved, which its faults name.
+fn named_node(alloc: Global, value: &Value) -> Result<ResolvedPackage, MetadataError>
+    ensures { Gives (λ n. n) result (of_package node_of (view value.now)) }
+{
+    match node_of(alloc, value) {
+        Err(MetadataError::BadShape(key)) => Err(at_package(alloc, value, key)?),
+        read => read,
+    }
 }
 
 #[tactic(auto, unfolding(crate::specs::Resolved::node_of))]

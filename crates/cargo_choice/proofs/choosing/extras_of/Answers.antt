@@ -19,4 +19,4 @@ loop-word-preserved c =
 pub returns-in_err-push_word-clause-refused : goal.returns-in_err-push_word-clause-refused
 returns-in_err-push_word-clause-refused c =
     let p = err_from_is_err_and c.from_residual.result c.from_residual.ensures.1 in
-    rw (p.1, p.2) (refuses_at c.args.index.now c.args.words.now c.loop-word.word-index no_word _ c.loop-word-test.true c.in_err-push_word.ensures.refused)
+    rw (p.1, p.2) (refuses_at c.args.index.now c.args.words.now c.loop-word.word-index no_word _ c.loop-word-test.true c.loop-word.invariant.known c.in_err-push_word.ensures.refused)
