@@ -1,7 +1,7 @@
 -- What faults print.
 use Rattle.std.specs.Prelude.{ℕ, List, [], ◌++◌, codes}
 use Rattle.nextest_filter_faults.specs.declared.parse_error.ParseSingleError.{ParseSingleError}
-use Rattle.nextest_filter_faults.specs.declared.parse_error.ParseSingleError.TheVariants.{InvalidRegex, InvalidGlob, BannedPredicate, InvalidRegexWithoutMessage, ExpectedCloseRegex, InvalidOrOperator, InvalidAndOperator, UnexpectedArgument, UnexpectedComma, InvalidString, ExpectedOpenParenthesis, ExpectedCloseParenthesis, InvalidEscapeCharacter, ExpectedExpr, ExprFoundBinaryOp, ExprFoundUnaryOp, ExpectedEndOfExpression, NoPackageMatch, NoGroupMatch, NoBinaryIdMatch, NoBinaryNameMatch, InvalidPlatformArgument, UnsupportedExpression, Unknown}
+use Rattle.nextest_filter_faults.specs.declared.parse_error.ParseSingleError.TheVariants.{InvalidRegex, InvalidGlob, BannedPredicate, InvalidRegexWithoutMessage, ExpectedCloseRegex, InvalidOrOperator, InvalidAndOperator, UnexpectedArgument, UnexpectedComma, InvalidString, ExpectedOpenParenthesis, ExpectedCloseParenthesis, InvalidEscapeCharacter, ExpectedExpr, ExprFoundBinaryOp, ExprFoundUnaryOp, ExpectedEndOfExpression, NoPackageMatch, NoGroupMatch, NoBinaryIdMatch, NoBinaryNameMatch, NoFeatureMatch, InvalidPlatformArgument, UnsupportedExpression, Unknown}
 use Rattle.nextest_filter_faults.specs.declared.filterset_kind.FiltersetKind.{FiltersetKind}
 use Rattle.nextest_filter_faults.specs.declared.filterset_kind.FiltersetKind.TheVariants as kind
 use Rattle.nextest_filter_faults.specs.declared.filterset_kind.BannedPredicateReason.{BannedPredicateReason}
@@ -43,6 +43,7 @@ plain_text (NoPackageMatch span) = codes "operator didn't match any packages"
 plain_text (NoGroupMatch span) = codes "operator didn't match any test groups"
 plain_text (NoBinaryIdMatch span) = codes "operator didn't match any binary IDs"
 plain_text (NoBinaryNameMatch span) = codes "operator didn't match any binary names"
+plain_text (NoFeatureMatch span) = codes "operator didn't match any features"
 plain_text (InvalidPlatformArgument span) = codes "invalid argument for platform"
 plain_text (UnsupportedExpression span) = codes "unsupported expression"
 plain_text Unknown = codes "unknown parsing error"

@@ -2,7 +2,7 @@
 use Rattle.std.specs.Prelude.{Bool, true, false}
 use Rattle.nextest_filter_matchers.specs.declared.source_span.SourceSpan.{SourceSpan}
 use Rattle.nextest_filter_faults.specs.declared.parse_error.ParseSingleError.{ParseSingleError}
-use Rattle.nextest_filter_faults.specs.declared.parse_error.ParseSingleError.TheVariants.{InvalidRegex, InvalidGlob, BannedPredicate, ExprFoundBinaryOp, ExprFoundUnaryOp, Unknown, InvalidRegexWithoutMessage, ExpectedCloseRegex, InvalidOrOperator, InvalidAndOperator, UnexpectedArgument, UnexpectedComma, InvalidString, ExpectedOpenParenthesis, ExpectedCloseParenthesis, InvalidEscapeCharacter, ExpectedExpr, ExpectedEndOfExpression, NoPackageMatch, NoGroupMatch, NoBinaryIdMatch, NoBinaryNameMatch, InvalidPlatformArgument, UnsupportedExpression}
+use Rattle.nextest_filter_faults.specs.declared.parse_error.ParseSingleError.TheVariants.{InvalidRegex, InvalidGlob, BannedPredicate, ExprFoundBinaryOp, ExprFoundUnaryOp, Unknown, InvalidRegexWithoutMessage, ExpectedCloseRegex, InvalidOrOperator, InvalidAndOperator, UnexpectedArgument, UnexpectedComma, InvalidString, ExpectedOpenParenthesis, ExpectedCloseParenthesis, InvalidEscapeCharacter, ExpectedExpr, ExpectedEndOfExpression, NoPackageMatch, NoGroupMatch, NoBinaryIdMatch, NoBinaryNameMatch, NoFeatureMatch, InvalidPlatformArgument, UnsupportedExpression}
 
 -- where a fault lies
 abbrev pub span_of : ParseSingleError → SourceSpan
@@ -28,6 +28,7 @@ span_of (NoPackageMatch span) = span
 span_of (NoGroupMatch span) = span
 span_of (NoBinaryIdMatch span) = span
 span_of (NoBinaryNameMatch span) = span
+span_of (NoFeatureMatch span) = span
 span_of (InvalidPlatformArgument span) = span
 span_of (UnsupportedExpression span) = span
 

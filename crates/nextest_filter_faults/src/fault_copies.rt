@@ -76,6 +76,7 @@ fn copied_plain(fault: &ParseSingleError) -> ParseSingleError
         Fault::NoGroupMatch(span) => Fault::NoGroupMatch(*span),
         Fault::NoBinaryIdMatch(span) => Fault::NoBinaryIdMatch(*span),
         Fault::NoBinaryNameMatch(span) => Fault::NoBinaryNameMatch(*span),
+        Fault::NoFeatureMatch(span) => Fault::NoFeatureMatch(*span),
         Fault::InvalidPlatformArgument(span) => Fault::InvalidPlatformArgument(*span),
         Fault::UnsupportedExpression(span) => Fault::UnsupportedExpression(*span),
     }

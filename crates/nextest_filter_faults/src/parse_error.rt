@@ -55,6 +55,7 @@ pub enum ParseSingleError {
     NoGroupMatch(SourceSpan),
     NoBinaryIdMatch(SourceSpan),
     NoBinaryNameMatch(SourceSpan),
+    NoFeatureMatch(SourceSpan),
     InvalidPlatformArgument(SourceSpan),
     /// More parentheses and negations inside each other than are read.
     UnsupportedExpression(SourceSpan),
@@ -92,6 +93,7 @@ impl ParseSingleError {
             | ParseSingleError::NoGroupMatch(span)
             | ParseSingleError::NoBinaryIdMatch(span)
             | ParseSingleError::NoBinaryNameMatch(span)
+            | ParseSingleError::NoFeatureMatch(span)
             | ParseSingleError::InvalidPlatformArgument(span)
             | ParseSingleError::UnsupportedExpression(span) => *span,
             ParseSingleError::Unknown => SourceSpan { offset: 0, len: 0 },
@@ -147,6 +149,7 @@ fn plain_text(fault: &ParseSingleError) -> &'static str
         ParseSingleError::NoGroupMatch(_) => "operator didn't match any test groups",
         ParseSingleError::NoBinaryIdMatch(_) => "operator didn't match any binary IDs",
         ParseSingleError::NoBinaryNameMatch(_) => "operator didn't match any binary names",
+        ParseSingleError::NoFeatureMatch(_) => "operator didn't match any features",
         ParseSingleError::InvalidPlatformArgument(_) => "invalid argument for platform",
         ParseSingleError::UnsupportedExpression(_) => "unsupported expression",
         ParseSingleError::Unknown => "unknown parsing error",

@@ -31,6 +31,7 @@ IsLeafAsWritten (leaf.BinaryId matcher span) = IsMatcherAsWritten matcher
 IsLeafAsWritten (leaf.Platform platform span) = Unit {0}
 IsLeafAsWritten (leaf.Test matcher span) = IsMatcherAsWritten matcher
 IsLeafAsWritten (leaf.Group matcher span) = IsMatcherAsWritten matcher
+IsLeafAsWritten (leaf.Feature matcher span) = IsMatcherAsWritten matcher
 IsLeafAsWritten (leaf.Default span) = Unit {0}
 IsLeafAsWritten leaf.All = Unit {0}
 IsLeafAsWritten leaf.None = Unit {0}

@@ -15,7 +15,7 @@ use Rattle.nextest_filter_tokens.specs.Patterns.{ReadsPattern}
 use Rattle.nextest_filter_tokens.specs.declared.heads.Head.{Head}
 use Rattle.nextest_filter_tokens.specs.declared.heads.Head.TheVariants as head
 use Rattle.nextest_filter_tokens.specs.declared.heads.Predicate.{Predicate}
-use Rattle.nextest_filter_tokens.specs.declared.heads.Predicate.TheVariants.{Package, Deps, Rdeps, Kind, Binary, BinaryId, Test, Group}
+use Rattle.nextest_filter_tokens.specs.declared.heads.Predicate.TheVariants.{Package, Deps, Rdeps, Kind, Binary, BinaryId, Test, Group, Feature}
 use Rattle.nextest_filter_tokens.specs.declared.heads.Nullary.{Nullary}
 use Rattle.nextest_filter_tokens.specs.declared.heads.Nullary.TheVariants as nullary
 use Rattle.nextest_filter_texts.specs.Texts.{ReadsText}
@@ -55,6 +55,7 @@ default_style Rdeps = Globs
 default_style Binary = Globs
 default_style BinaryId = Globs
 default_style Group = Globs
+default_style Feature = Globs
 
 abbrev pub glob_made : Bool → List ℕ → Result Glob GlobError → Option Matcher
 glob_made implicit text (Ok tokens) = Some (m.Glob text tokens implicit)

@@ -3,7 +3,7 @@ use Rattle.std.specs.Prelude.{ℕ, List, ◌++◌, codes}
 use Rattle.nextest_filter_matchers.specs.Printing.{matcher_text}
 use Rattle.nextest_filter_faults.specs.Signs.{platform_text}
 use Rattle.nextest_filter_tokens.specs.declared.heads.Predicate.{Predicate}
-use Rattle.nextest_filter_tokens.specs.declared.heads.Predicate.TheVariants.{Package, Deps, Rdeps, Kind, Binary, BinaryId, Test, Group}
+use Rattle.nextest_filter_tokens.specs.declared.heads.Predicate.TheVariants.{Package, Deps, Rdeps, Kind, Binary, BinaryId, Test, Group, Feature}
 use Rattle.nextest_filter_leaves.specs.Leaves.{Leaf, Named, Platform, Default, All, None}
 
 abbrev pub predicate_name : Predicate → List ℕ
@@ -15,6 +15,7 @@ predicate_name Binary = codes "binary"
 predicate_name BinaryId = codes "binary_id"
 predicate_name Test = codes "test"
 predicate_name Group = codes "group"
+predicate_name Feature = codes "feature"
 
 abbrev pub leaf_text : {S : Type 0} → Leaf S → List ℕ
 leaf_text (Named predicate matcher span) = predicate_name predicate ++ (codes "(" ++ (matcher_text matcher ++ codes ")"))

@@ -3,7 +3,7 @@ use Rattle.std.specs.Prelude.{Bool, true, false}
 use Rattle.nextest_filter_matchers.specs.Matchers.{Matcher, matcher_of}
 use Rattle.nextest_filter_faults.specs.declared.platform.BuildPlatform.{BuildPlatform}
 use Rattle.nextest_filter_tokens.specs.declared.heads.Predicate.{Predicate}
-use Rattle.nextest_filter_tokens.specs.declared.heads.Predicate.TheVariants.{Package, Deps, Rdeps, Kind, Binary, BinaryId, Test, Group}
+use Rattle.nextest_filter_tokens.specs.declared.heads.Predicate.TheVariants.{Package, Deps, Rdeps, Kind, Binary, BinaryId, Test, Group, Feature}
 use Rattle.nextest_filter_leaves.specs.declared.parsed_leaf.ParsedLeaf.{ParsedLeaf}
 use Rattle.nextest_filter_leaves.specs.declared.parsed_leaf.ParsedLeaf.TheVariants as leaf
 
@@ -24,6 +24,7 @@ leaf_of (leaf.BinaryId matcher span) = Named BinaryId (matcher_of matcher) span
 leaf_of (leaf.Platform platform span) = Platform platform span
 leaf_of (leaf.Test matcher span) = Named Test (matcher_of matcher) span
 leaf_of (leaf.Group matcher span) = Named Group (matcher_of matcher) span
+leaf_of (leaf.Feature matcher span) = Named Feature (matcher_of matcher) span
 leaf_of (leaf.Default span) = Default span
 leaf_of leaf.All = All
 leaf_of leaf.None = None
@@ -37,6 +38,7 @@ is_runtime_predicate Rdeps = false
 is_runtime_predicate Kind = false
 is_runtime_predicate Binary = false
 is_runtime_predicate BinaryId = false
+is_runtime_predicate Feature = false
 
 -- the leaf can be told only of a test, or only at run time
 abbrev pub is_runtime_leaf : {S : Type 0} → Leaf S → Bool

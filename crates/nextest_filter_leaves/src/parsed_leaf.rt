@@ -24,6 +24,8 @@ pub enum ParsedLeaf<S = SourceSpan> {
     Test(NameMatcher, S),
     /// All tests of groups.
     Group(NameMatcher, S),
+    /// All tests of packages that have a feature which is on.
+    Feature(NameMatcher, S),
     /// The tests of the default filter.
     Default(S),
     All,
@@ -87,6 +89,10 @@ impl<S: Copy> ParsedLeaf<S> {
                 let matcher = matcher.copy(alloc)?;
                 Ok(ParsedLeaf::Group(matcher, *span))
             }
+            ParsedLeaf::Feature(matcher, span) => {
+                let matcher = matcher.copy(alloc)?;
+                Ok(ParsedLeaf::Feature(matcher, *span))
+            }
             ParsedLeaf::Default(span) => Ok(ParsedLeaf::Default(*span)),
             ParsedLeaf::All => Ok(ParsedLeaf::All),
             ParsedLeaf::None => Ok(ParsedLeaf::None),
@@ -112,6 +118,7 @@ impl<S> fmt::Display for ParsedLeaf<S> {
             ParsedLeaf::Platform(platform, _) => write!(f, "platform({platform})"),
             ParsedLeaf::Test(matcher, _) => write!(f, "test({matcher})"),
             ParsedLeaf::Group(matcher, _) => write!(f, "group({matcher})"),
+            ParsedLeaf::Feature(matcher, _) => write!(f, "feature({matcher})"),
             ParsedLeaf::Default(_) => f.write_str("default()"),
             ParsedLeaf::All => f.write_str("all()"),
             ParsedLeaf::None => f.write_str("none()"),

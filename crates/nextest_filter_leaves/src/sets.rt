@@ -32,6 +32,7 @@ fn leaf_with(predicate: Predicate, matcher: NameMatcher, span: SourceSpan) -> Pa
         Predicate::BinaryId => ParsedLeaf::BinaryId(matcher, span),
         Predicate::Test => ParsedLeaf::Test(matcher, span),
         Predicate::Group => ParsedLeaf::Group(matcher, span),
+        Predicate::Feature => ParsedLeaf::Feature(matcher, span),
     }
 }
 

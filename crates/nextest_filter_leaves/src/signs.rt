@@ -54,6 +54,7 @@ pub(crate) fn default_style(predicate: Predicate) -> Style
         | Predicate::Rdeps
         | Predicate::Binary
         | Predicate::BinaryId
-        | Predicate::Group => Style::Glob,
+        | Predicate::Group
+        | Predicate::Feature => Style::Glob,
     }
 }

@@ -15,7 +15,7 @@ use Rattle.nextest_filter_tokens.proofs.BlankFacts.{byte_within}
 use Rattle.nextest_filter_tokens.specs.Heads.{head_at, plain_set_at}
 use Rattle.nextest_filter_tokens.specs.declared.heads.Head.TheVariants as head
 use Rattle.nextest_filter_tokens.specs.declared.heads.Predicate.{Predicate}
-use Rattle.nextest_filter_tokens.specs.declared.heads.Predicate.TheVariants.{Package, Deps, Rdeps, Kind, Binary, BinaryId, Test, Group}
+use Rattle.nextest_filter_tokens.specs.declared.heads.Predicate.TheVariants.{Package, Deps, Rdeps, Kind, Binary, BinaryId, Test, Group, Feature}
 use Rattle.nextest_filter_tokens.specs.declared.heads.Nullary.{Nullary}
 use Rattle.nextest_filter_tokens.specs.declared.heads.Nullary.TheVariants as nullary
 use Rattle.nextest_filter_texts.specs.Texts.{ReadsText, ended, is_plain, is_text_end, plain}
@@ -45,6 +45,7 @@ leaf_made (leaf.BinaryId matcher span) = matcher_made matcher
 leaf_made (leaf.Platform platform span) = tt
 leaf_made (leaf.Test matcher span) = matcher_made matcher
 leaf_made (leaf.Group matcher span) = matcher_made matcher
+leaf_made (leaf.Feature matcher span) = matcher_made matcher
 leaf_made (leaf.Default span) = tt
 leaf_made leaf.All = tt
 leaf_made leaf.None = tt
@@ -91,18 +92,21 @@ module _ (text : List ℕ) where
   head_named Group i h =
       let other = not_there (codes "group(") i h in
       cond-false _ _ _ (other (codes "package") refl) ∙ cond-false _ _ _ (other (codes "deps") refl) ∙ cond-false _ _ _ (other (codes "rdeps") refl) ∙ cond-false _ _ _ (other (codes "kind") refl) ∙ cond-false _ _ _ (other (codes "binary_id") refl) ∙ cond-false _ _ _ (other (codes "binary") refl) ∙ cond-false _ _ _ (other (codes "test") refl) ∙ cond-true _ _ _ (first_part text (codes "group") (codes "(") i h)
+  head_named Feature i h =
+      let other = not_there (codes "feature(") i h in
+      cond-false _ _ _ (other (codes "package") refl) ∙ cond-false _ _ _ (other (codes "deps") refl) ∙ cond-false _ _ _ (other (codes "rdeps") refl) ∙ cond-false _ _ _ (other (codes "kind") refl) ∙ cond-false _ _ _ (other (codes "binary_id") refl) ∙ cond-false _ _ _ (other (codes "binary") refl) ∙ cond-false _ _ _ (other (codes "test") refl) ∙ cond-false _ _ _ (other (codes "group") refl) ∙ cond-true _ _ _ (first_part text (codes "feature") (codes "(") i h)
 
   -- no name of a predicate with a matcher
-  pub not_named : (known : List ℕ) (i : ℕ) → has_word text i known ≡ true → clash known (codes "package") ≡ true → clash known (codes "deps") ≡ true → clash known (codes "rdeps") ≡ true → clash known (codes "kind") ≡ true → clash known (codes "binary_id") ≡ true → clash known (codes "binary") ≡ true → clash known (codes "test") ≡ true → clash known (codes "group") ≡ true → head_at text i ≡ plain_set_at text i
+  pub not_named : (known : List ℕ) (i : ℕ) → has_word text i known ≡ true → clash known (codes "package") ≡ true → clash known (codes "deps") ≡ true → clash known (codes "rdeps") ≡ true → clash known (codes "kind") ≡ true → clash known (codes "binary_id") ≡ true → clash known (codes "binary") ≡ true → clash known (codes "test") ≡ true → clash known (codes "group") ≡ true → clash known (codes "feature") ≡ true → head_at text i ≡ plain_set_at text i
   unfolding head_at
-  not_named known i h a b c d e f g k =
+  not_named known i h a b c d e f g k l =
       let other = not_there known i h in
-      cond-false _ _ _ (other (codes "package") a) ∙ cond-false _ _ _ (other (codes "deps") b) ∙ cond-false _ _ _ (other (codes "rdeps") c) ∙ cond-false _ _ _ (other (codes "kind") d) ∙ cond-false _ _ _ (other (codes "binary_id") e) ∙ cond-false _ _ _ (other (codes "binary") f) ∙ cond-false _ _ _ (other (codes "test") g) ∙ cond-false _ _ _ (other (codes "group") k)
+      cond-false _ _ _ (other (codes "package") a) ∙ cond-false _ _ _ (other (codes "deps") b) ∙ cond-false _ _ _ (other (codes "rdeps") c) ∙ cond-false _ _ _ (other (codes "kind") d) ∙ cond-false _ _ _ (other (codes "binary_id") e) ∙ cond-false _ _ _ (other (codes "binary") f) ∙ cond-false _ _ _ (other (codes "test") g) ∙ cond-false _ _ _ (other (codes "group") k) ∙ cond-false _ _ _ (other (codes "feature") l)
 
   head_platform : (i : ℕ) → has_word text i (codes "platform(") ≡ true → head_at text i ≡ head.Platform (i + 8)
   unfolding plain_set_at
   head_platform i h =
-      not_named (codes "platform(") i h refl refl refl refl refl refl refl refl ∙ cond-true _ _ _ (first_part text (codes "platform") (codes "(") i h)
+      not_named (codes "platform(") i h refl refl refl refl refl refl refl refl refl ∙ cond-true _ _ _ (first_part text (codes "platform") (codes "(") i h)
 
   abbrev nullary_name : Nullary → List ℕ
   nullary_name nullary.Default = codes "default"
@@ -113,13 +117,13 @@ module _ (text : List ℕ) where
   unfolding plain_set_at
   head_nullary nullary.Default i h =
       let other = not_there (codes "default()") i h in
-      not_named (codes "default()") i h refl refl refl refl refl refl refl refl ∙ cond-false _ _ _ (other (codes "platform") refl) ∙ cond-true _ _ _ (first_part text (codes "default") (codes "()") i h)
+      not_named (codes "default()") i h refl refl refl refl refl refl refl refl refl ∙ cond-false _ _ _ (other (codes "platform") refl) ∙ cond-true _ _ _ (first_part text (codes "default") (codes "()") i h)
   head_nullary nullary.All i h =
       let other = not_there (codes "all()") i h in
-      not_named (codes "all()") i h refl refl refl refl refl refl refl refl ∙ cond-false _ _ _ (other (codes "platform") refl) ∙ cond-false _ _ _ (other (codes "default") refl) ∙ cond-true _ _ _ (first_part text (codes "all") (codes "()") i h)
+      not_named (codes "all()") i h refl refl refl refl refl refl refl refl refl ∙ cond-false _ _ _ (other (codes "platform") refl) ∙ cond-false _ _ _ (other (codes "default") refl) ∙ cond-true _ _ _ (first_part text (codes "all") (codes "()") i h)
   head_nullary nullary.None i h =
       let other = not_there (codes "none()") i h in
-      not_named (codes "none()") i h refl refl refl refl refl refl refl refl ∙ cond-false _ _ _ (other (codes "platform") refl) ∙ cond-false _ _ _ (other (codes "default") refl) ∙ cond-false _ _ _ (other (codes "all") refl) ∙ cond-true _ _ _ (first_part text (codes "none") (codes "()") i h)
+      not_named (codes "none()") i h refl refl refl refl refl refl refl refl refl ∙ cond-false _ _ _ (other (codes "platform") refl) ∙ cond-false _ _ _ (other (codes "default") refl) ∙ cond-false _ _ _ (other (codes "all") refl) ∙ cond-true _ _ _ (first_part text (codes "none") (codes "()") i h)
 
   -- a leaf is read, which is the printed one but for its span
   abbrev pub IsLeafBack : {S : Type 0} → ℕ → Leaf S → ℕ → Type 0

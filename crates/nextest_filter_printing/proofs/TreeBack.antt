@@ -15,7 +15,7 @@ use Rattle.nextest_filter_tokens.proofs.BlankFacts.{blanks_from-none}
 use Rattle.nextest_filter_tokens.specs.Heads.{head_at, plain_set_at, sign_at}
 use Rattle.nextest_filter_tokens.specs.Operators.{and_at, or_at}
 use Rattle.nextest_filter_tokens.specs.declared.heads.Head.TheVariants.{Negates, Opens}
-use Rattle.nextest_filter_tokens.specs.declared.heads.Predicate.TheVariants.{Package, Deps, Rdeps, Kind, Binary, BinaryId, Test, Group}
+use Rattle.nextest_filter_tokens.specs.declared.heads.Predicate.TheVariants.{Package, Deps, Rdeps, Kind, Binary, BinaryId, Test, Group, Feature}
 use Rattle.nextest_filter_tokens.specs.declared.operators.Operator.{Operator}
 use Rattle.nextest_filter_tokens.specs.declared.operators.Operator.TheVariants.{Or, And, Minus}
 use Rattle.nextest_filter_tokens.specs.declared.operators.Found.TheVariants.{Right}
@@ -127,6 +127,7 @@ module _ (text : List ℕ) where
   first_of_leaf (Named BinaryId matcher span) rest i h = (98, (and_parts (is_byte text i 98) _ h).0, refl)
   first_of_leaf (Named Test matcher span) rest i h = (116, (and_parts (is_byte text i 116) _ h).0, refl)
   first_of_leaf (Named Group matcher span) rest i h = (103, (and_parts (is_byte text i 103) _ h).0, refl)
+  first_of_leaf (Named Feature matcher span) rest i h = (102, (and_parts (is_byte text i 102) _ h).0, refl)
   first_of_leaf (Platform platform span) rest i h = (112, (and_parts (is_byte text i 112) _ h).0, refl)
   first_of_leaf (Default span) rest i h = (100, (and_parts (is_byte text i 100) _ h).0, refl)
   first_of_leaf All rest i h = (97, (and_parts (is_byte text i 97) _ h).0, refl)
@@ -237,14 +238,14 @@ module _ (text : List ℕ) where
   not_head : (op : NotOperator) (i : ℕ) → has_word text i (not_sign op ++ 32 ∷ []) ≡ true → head_at text i ≡ Negates op (i + length (not_sign op))
   unfolding plain_set_at sign_at
   not_head LiteralNot i h =
-      not_named text (codes "not ") i h refl refl refl refl refl refl refl refl ∙ cond-false _ _ _ (other_word text (codes "not ") (codes "platform") i h refl) ∙ cond-false _ _ _ (other_word text (codes "not ") (codes "default") i h refl) ∙ cond-false _ _ _ (other_word text (codes "not ") (codes "all") i h refl) ∙ cond-false _ _ _ (other_word text (codes "not ") (codes "none") i h refl) ∙ cond-true _ _ _ (whole_word text (codes "not") i h)
+      not_named text (codes "not ") i h refl refl refl refl refl refl refl refl refl ∙ cond-false _ _ _ (other_word text (codes "not ") (codes "platform") i h refl) ∙ cond-false _ _ _ (other_word text (codes "not ") (codes "default") i h refl) ∙ cond-false _ _ _ (other_word text (codes "not ") (codes "all") i h refl) ∙ cond-false _ _ _ (other_word text (codes "not ") (codes "none") i h refl) ∙ cond-true _ _ _ (whole_word text (codes "not") i h)
   not_head Exclamation i h =
-      not_named text (codes "! ") i h refl refl refl refl refl refl refl refl ∙ cond-false _ _ _ (other_word text (codes "! ") (codes "platform") i h refl) ∙ cond-false _ _ _ (other_word text (codes "! ") (codes "default") i h refl) ∙ cond-false _ _ _ (other_word text (codes "! ") (codes "all") i h refl) ∙ cond-false _ _ _ (other_word text (codes "! ") (codes "none") i h refl) ∙ cond-false _ _ _ (other_whole text (codes "! ") (codes "not") i h refl) ∙ cond-true _ _ _ (first_part text (codes "!") (codes " ") i h)
+      not_named text (codes "! ") i h refl refl refl refl refl refl refl refl refl ∙ cond-false _ _ _ (other_word text (codes "! ") (codes "platform") i h refl) ∙ cond-false _ _ _ (other_word text (codes "! ") (codes "default") i h refl) ∙ cond-false _ _ _ (other_word text (codes "! ") (codes "all") i h refl) ∙ cond-false _ _ _ (other_word text (codes "! ") (codes "none") i h refl) ∙ cond-false _ _ _ (other_whole text (codes "! ") (codes "not") i h refl) ∙ cond-true _ _ _ (first_part text (codes "!") (codes " ") i h)
 
   parens_head : (i : ℕ) → has_word text i (codes "(") ≡ true → head_at text i ≡ Opens (i + 1)
   unfolding plain_set_at sign_at
   parens_head i h =
-      not_named text (codes "(") i h refl refl refl refl refl refl refl refl ∙ cond-false _ _ _ (other_word text (codes "(") (codes "platform") i h refl) ∙ cond-false _ _ _ (other_word text (codes "(") (codes "default") i h refl) ∙ cond-false _ _ _ (other_word text (codes "(") (codes "all") i h refl) ∙ cond-false _ _ _ (other_word text (codes "(") (codes "none") i h refl) ∙ cond-false _ _ _ (other_whole text (codes "(") (codes "not") i h refl) ∙ cond-false _ _ _ (other_word text (codes "(") (codes "!") i h refl) ∙ cond-true _ _ _ h
+      not_named text (codes "(") i h refl refl refl refl refl refl refl refl refl ∙ cond-false _ _ _ (other_word text (codes "(") (codes "platform") i h refl) ∙ cond-false _ _ _ (other_word text (codes "(") (codes "default") i h refl) ∙ cond-false _ _ _ (other_word text (codes "(") (codes "all") i h refl) ∙ cond-false _ _ _ (other_word text (codes "(") (codes "none") i h refl) ∙ cond-false _ _ _ (other_whole text (codes "(") (codes "not") i h refl) ∙ cond-false _ _ _ (other_word text (codes "(") (codes "!") i h refl) ∙ cond-true _ _ _ h
 
   negated_back : {S : Type 0} (op : NotOperator) (room : ℕ) (x : Tree S) (i : ℕ) → has_word text i (tree_text (not_of op x)) ≡ true → ((k : ℕ) → has_word text k (tree_text x) ≡ true → IsBack room 0 k x (k + length (tree_text x))) → IsBack (suc room) 0 i (not_of op x) (i + length (tree_text (not_of op x)))
   negated_back op room x i h right =

@@ -20,6 +20,7 @@ A filter names a set of tests by predicates and operators.
 | `platform(name)` | those built for `host` or `target` | `platform(host)` |
 | `test(name)` | those whose names match | `test(parses)` |
 | `group(name)` | those of groups | `group(serial)` |
+| `feature(name)` | those of packages with a feature that is on | `feature(simd)` |
 
 ## Matchers
 

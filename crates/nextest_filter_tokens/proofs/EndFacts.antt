@@ -47,7 +47,7 @@ module _ (text : List ℕ) (utf8 : IsUtf8 text) where
   pub head_ends : (i : ℕ) → HeadEndsWithin text i (head_at text i)
   unfolding head_at
   head_ends i =
-      cond_both _ _ _ (HeadEndsWithin text i) (word_ends (codes "package") i (omega arith) refl) (λ _. cond_both _ _ _ (HeadEndsWithin text i) (word_ends (codes "deps") i (omega arith) refl) (λ _. cond_both _ _ _ (HeadEndsWithin text i) (word_ends (codes "rdeps") i (omega arith) refl) (λ _. cond_both _ _ _ (HeadEndsWithin text i) (word_ends (codes "kind") i (omega arith) refl) (λ _. cond_both _ _ _ (HeadEndsWithin text i) (word_ends (codes "binary_id") i (omega arith) refl) (λ _. cond_both _ _ _ (HeadEndsWithin text i) (word_ends (codes "binary") i (omega arith) refl) (λ _. cond_both _ _ _ (HeadEndsWithin text i) (word_ends (codes "test") i (omega arith) refl) (λ _. cond_both _ _ _ (HeadEndsWithin text i) (word_ends (codes "group") i (omega arith) refl) (λ _. plain_set_ends i))))))))
+      cond_both _ _ _ (HeadEndsWithin text i) (word_ends (codes "package") i (omega arith) refl) (λ _. cond_both _ _ _ (HeadEndsWithin text i) (word_ends (codes "deps") i (omega arith) refl) (λ _. cond_both _ _ _ (HeadEndsWithin text i) (word_ends (codes "rdeps") i (omega arith) refl) (λ _. cond_both _ _ _ (HeadEndsWithin text i) (word_ends (codes "kind") i (omega arith) refl) (λ _. cond_both _ _ _ (HeadEndsWithin text i) (word_ends (codes "binary_id") i (omega arith) refl) (λ _. cond_both _ _ _ (HeadEndsWithin text i) (word_ends (codes "binary") i (omega arith) refl) (λ _. cond_both _ _ _ (HeadEndsWithin text i) (word_ends (codes "test") i (omega arith) refl) (λ _. cond_both _ _ _ (HeadEndsWithin text i) (word_ends (codes "group") i (omega arith) refl) (λ _. cond_both _ _ _ (HeadEndsWithin text i) (word_ends (codes "feature") i (omega arith) refl) (λ _. plain_set_ends i)))))))))
 
   pub or_ends : (i : ℕ) → FoundEndsWithin text i (or_at text i)
   unfolding or_at

@@ -2,7 +2,7 @@
 use Rattle.std.specs.Prelude.{ℕ, ◌+◌, List, codes, if◌then◌else◌}
 use Rattle.nextest_filter_faults.specs.declared.operators.NotOperator.TheVariants.{LiteralNot, Exclamation}
 use Rattle.nextest_filter_tokens.specs.Bytes.{IsEnd, has_word, has_whole_word}
-use Rattle.nextest_filter_tokens.specs.declared.heads.Predicate.TheVariants.{Package, Deps, Rdeps, Kind, Binary, BinaryId, Test, Group}
+use Rattle.nextest_filter_tokens.specs.declared.heads.Predicate.TheVariants.{Package, Deps, Rdeps, Kind, Binary, BinaryId, Test, Group, Feature}
 use Rattle.nextest_filter_tokens.specs.declared.heads.Nullary.TheVariants.{Default, All, None}
 use Rattle.nextest_filter_tokens.specs.declared.heads.WrongOperator.TheVariants.{LowerAnd, LowerOr, UpperAnd, UpperOr, DoubleAmpersand, DoublePipe, UpperNot}
 use Rattle.nextest_filter_tokens.specs.declared.heads.Head.{Head}
@@ -26,7 +26,7 @@ plain_set_at text i =
 -- what an operand begins with, and the place after it; `binary_id` is tried before `binary`
 unfoldable pub head_at : List ℕ → ℕ → Head
 head_at text i =
-    if has_word text i (codes "package") then Names Package (i + 7) else (if has_word text i (codes "deps") then Names Deps (i + 4) else (if has_word text i (codes "rdeps") then Names Rdeps (i + 5) else (if has_word text i (codes "kind") then Names Kind (i + 4) else (if has_word text i (codes "binary_id") then Names BinaryId (i + 9) else (if has_word text i (codes "binary") then Names Binary (i + 6) else (if has_word text i (codes "test") then Names Test (i + 4) else (if has_word text i (codes "group") then Names Group (i + 5) else plain_set_at text i)))))))
+    if has_word text i (codes "package") then Names Package (i + 7) else (if has_word text i (codes "deps") then Names Deps (i + 4) else (if has_word text i (codes "rdeps") then Names Rdeps (i + 5) else (if has_word text i (codes "kind") then Names Kind (i + 4) else (if has_word text i (codes "binary_id") then Names BinaryId (i + 9) else (if has_word text i (codes "binary") then Names Binary (i + 6) else (if has_word text i (codes "test") then Names Test (i + 4) else (if has_word text i (codes "group") then Names Group (i + 5) else (if has_word text i (codes "feature") then Names Feature (i + 7) else plain_set_at text i))))))))
 
 -- what an operand begins with ends within the text, where it may be cut
 abbrev pub HeadEndsWithin : List ℕ → ℕ → Head → Type 0

@@ -16,6 +16,7 @@ pub enum Predicate {
     BinaryId,
     Test,
     Group,
+    Feature,
 }
 
 /// A set that takes nothing.
@@ -86,6 +87,9 @@ fn named_set_of(text: &str, at: usize) -> Head
     }
     if has_word(text, at, b"group") {
         return Head::Names(Predicate::Group, at + 5);
+    }
+    if has_word(text, at, b"feature") {
+        return Head::Names(Predicate::Feature, at + 7);
     }
     plain_set_of(text, at)
 }

@@ -42,6 +42,7 @@ leaf_group k (Named names.Kind test span) g e = absurd (true≢false (sym g))
 leaf_group k (Named names.Binary test span) g e = absurd (true≢false (sym g))
 leaf_group k (Named names.BinaryId test span) g e = absurd (true≢false (sym g))
 leaf_group k (Named names.Test test span) g e = absurd (true≢false (sym g))
+leaf_group k (Named names.Feature test span) g e = absurd (true≢false (sym g))
 leaf_group kind.Test (Named names.Group test span) g e = refl
 leaf_group kind.TestArchive (Named names.Group test span) g e = not_none _ [] e
 leaf_group kind.OverrideFilter (Named names.Group test span) g e = not_none _ [] e
@@ -72,6 +73,7 @@ module _ (cx : ContextValue) (groups : KnownGroups) where
   leaf_matches (Named names.BinaryId test span) e = not_none _ [] (sym e)
   leaf_matches (Named names.Test test span) e = tt
   leaf_matches (Named names.Group test span) e = not_none _ [] (sym e)
+  leaf_matches (Named names.Feature test span) e = not_none _ [] (sym e)
   leaf_matches (Platform platform span) e = tt
   leaf_matches (Default span) e = tt
   leaf_matches All e = tt

@@ -30,7 +30,7 @@ use Rattle.nextest_filtering.specs.Acceptance.{MatchesSome, ban_of}
 use Rattle.nextest_filtering.specs.Contexts.{ContextValue, Leads}
 use Rattle.nextest_filtering.specs.Filters.{FilterLeaf, Named, Platform, Default, All}
 use Rattle.nextest_filtering.specs.Filters as filter
-use Rattle.nextest_filtering.specs.Meaning.{FilterLeafHolds, FilterLeafGives, IsMatched, IsReachedOf, LeadsAlong}
+use Rattle.nextest_filtering.specs.Meaning.{FilterLeafHolds, FilterLeafGives, IsFeatured, IsMatched, IsReachedOf, LeadsAlong}
 use Rattle.nextest_filtering.specs.SameFilters.{AreBytes, HasByteNames, HasSamePackages, IsByteBinary, SaysTheSame}
 use Rattle.nextest_filtering.proofs.SameFacts.{gives_same, same}
 
@@ -107,7 +107,7 @@ module _ (P Q : FilterLeaf → Bool → Type 0) (alike : (l m : FilterLeaf) → 
   gives_alike f g (leaves l m h) v = alike l m h v
 
 -- contexts with the same packages and paths name them alike
-module _ (cx dx : ContextValue) (one : HasSamePackages cx dx) (byte_packages : (p : Text × Text) → Contains cx.packages p → AreBytes p.1) where
+module _ (cx dx : ContextValue) (one : HasSamePackages cx dx) (byte_packages : (p : Text × Text) → Contains cx.packages p → AreBytes p.1) (byte_on : (f : Text × Text) → Contains cx.on f → AreBytes f.1) where
   leads_alike : (d : DependencyDirection) (start id : Text) → LeadsAlong d cx.graph start id ↔ LeadsAlong d dx.graph start id
   leads_alike direction.Forward start id = one.leads start id
   leads_alike direction.Reverse start id = one.leads id start
@@ -117,6 +117,12 @@ module _ (cx dx : ContextValue) (one : HasSamePackages cx dx) (byte_packages : (
     matched_alike id = (
       λ h. record { found = h.found; listed = (one.packages h.found).0 h.listed; suits = (alike h.found.1 (byte_packages h.found h.listed)).0 h.suits; is_its = h.is_its },
       λ h. let listed = (one.packages h.found).1 h.listed in record { found = h.found; listed = listed; suits = (alike h.found.1 (byte_packages h.found listed)).1 h.suits; is_its = h.is_its },
+    )
+
+    featured_alike : (id : Text) → IsFeatured cx a id ↔ IsFeatured dx b id
+    featured_alike id = (
+      λ h. record { found = h.found; listed = (one.packages h.found).0 h.listed; is_its = h.is_its; feature = h.feature; is_on = (one.on (id, h.feature)).0 h.is_on; suits = (alike h.feature (byte_on (id, h.feature) h.is_on)).0 h.suits },
+      λ h. let on = (one.on (id, h.feature)).1 h.is_on in record { found = h.found; listed = (one.packages h.found).1 h.listed; is_its = h.is_its; feature = h.feature; is_on = on; suits = (alike h.feature (byte_on (id, h.feature) on)).1 h.suits },
     )
 
     reached_alike : (d : DependencyDirection) (id : Text) → IsReachedOf cx (IsMatched cx a) d id ↔ IsReachedOf dx (IsMatched dx b) d id
@@ -135,6 +141,7 @@ module _ (cx dx : ContextValue) (one : HasSamePackages cx dx) (byte_packages : (
     named_holds names.BinaryId a b s u alike = alike t.binary.id byte_binary.id
     named_holds names.Test a b s u alike = alike t.name byte_test
     named_holds names.Group a b s u alike = members a b alike
+    named_holds names.Feature a b s u alike = featured_alike a b alike t.binary.package_id
 
     pub leaves_hold_alike : (l m : FilterLeaf) → AlikeLeaf l m → FilterLeafHolds cx member default t l ↔ FilterLeafHolds dx fellow fallback t m
     leaves_hold_alike l m (named p a b s u alike) = named_holds p a b s u alike
@@ -153,6 +160,7 @@ module _ (cx dx : ContextValue) (one : HasSamePackages cx dx) (byte_packages : (
     named_gives names.BinaryId x y s u alike v = gives_same _ _ (alike b.id byte_binary.id) v
     named_gives names.Test x y s u alike v = same (Unit {0})
     named_gives names.Group x y s u alike v = same (Unit {0})
+    named_gives names.Feature x y s u alike v = gives_same _ _ (featured_alike x y alike b.package_id) v
 
     pub leaves_give_alike : (l m : FilterLeaf) → AlikeLeaf l m → (v : Bool) → FilterLeafGives cx default b l v ↔ FilterLeafGives dx fallback b m v
     leaves_give_alike l m (named p x y s u alike) v = named_gives p x y s u alike v
@@ -187,6 +195,7 @@ module _ (cx : ContextValue) (byte_names : HasByteNames cx) where
     named_match names.BinaryId x y s u alike = one_of_alike x y alike _ binary_ids
     named_match names.Test x y s u alike = same (Unit {0})
     named_match names.Group x y s u alike = one_of_alike x y alike _ byte_groups
+    named_match names.Feature x y s u alike = one_of_alike x y alike _ byte_names.features
 
     leaves_match_alike : (l m : FilterLeaf) → AlikeLeaf l m → MatchesSome cx groups l ↔ MatchesSome cx groups m
     leaves_match_alike l m (named p x y s u alike) = named_match p x y s u alike
@@ -209,6 +218,7 @@ named_banned kind.TestArchive names.Binary x y s u = same _
 named_banned kind.TestArchive names.BinaryId x y s u = same _
 named_banned kind.TestArchive names.Test x y s u = both_faulty _ _
 named_banned kind.TestArchive names.Group x y s u = both_faulty _ _
+named_banned kind.TestArchive names.Feature x y s u = same _
 named_banned kind.OverrideFilter names.Package x y s u = same _
 named_banned kind.OverrideFilter names.Deps x y s u = same _
 named_banned kind.OverrideFilter names.Rdeps x y s u = same _
@@ -217,6 +227,7 @@ named_banned kind.OverrideFilter names.Binary x y s u = same _
 named_banned kind.OverrideFilter names.BinaryId x y s u = same _
 named_banned kind.OverrideFilter names.Test x y s u = same _
 named_banned kind.OverrideFilter names.Group x y s u = both_faulty _ _
+named_banned kind.OverrideFilter names.Feature x y s u = same _
 named_banned kind.DefaultFilter names.Package x y s u = same _
 named_banned kind.DefaultFilter names.Deps x y s u = same _
 named_banned kind.DefaultFilter names.Rdeps x y s u = same _
@@ -225,6 +236,7 @@ named_banned kind.DefaultFilter names.Binary x y s u = same _
 named_banned kind.DefaultFilter names.BinaryId x y s u = same _
 named_banned kind.DefaultFilter names.Test x y s u = same _
 named_banned kind.DefaultFilter names.Group x y s u = both_faulty _ _
+named_banned kind.DefaultFilter names.Feature x y s u = same _
 
 default_banned : (k : FiltersetKind) (s u : SourceSpan) → (ban_of k (Default s) ≡ []) ↔ (ban_of k (Default u) ≡ [])
 default_banned kind.Test s u = same _
@@ -250,12 +262,12 @@ both_alike A B C D h k = (λ s. (h.0 s.0, k.0 s.1), λ s. (h.1 s.0, k.1 s.1))
 
 -- a context has the packages and paths that it has
 its_own : (cx : ContextValue) → HasSamePackages cx cx
-its_own cx = record { packages = λ p. same (Contains cx.packages p); leads = λ a b. same (Leads cx.graph a b) }
+its_own cx = record { packages = λ p. same (Contains cx.packages p); leads = λ a b. same (Leads cx.graph a b); on = λ f. same (Contains cx.on f) }
 
 -- filters that differ in their spans, and in patterns that suit alike, say the same
 pub alike_say_the_same : (f g : Formula FilterLeaf) → AlikeFormula f g → SaysTheSame f g
 alike_say_the_same f g h = record {
   accepted = λ cx groups k byte_names byte_groups. each_alike _ _ (λ l m alike. both_alike _ _ _ _ (leaves_banned_alike k l m alike) (leaves_match_alike cx byte_names groups byte_groups l m alike)) f g h;
-  holds = λ cx group default t byte_names byte_group byte_binary byte_test. holds_alike _ _ (leaves_hold_alike cx cx (its_own cx) byte_names.packages (λ m. Suits m group) (λ m. Suits m group) (λ a b alike. alike group byte_group) (IsTrue default) (IsTrue default) (same (IsTrue default)) t byte_binary byte_test) f g h;
-  gives = λ cx default b v byte_names byte_binary. gives_alike _ _ (leaves_give_alike cx cx (its_own cx) byte_names.packages (λ x. IsTrue (default x)) (λ x. IsTrue (default x)) (λ x. same (IsTrue (default x))) b byte_binary) f g h v;
+  holds = λ cx group default t byte_names byte_group byte_binary byte_test. holds_alike _ _ (leaves_hold_alike cx cx (its_own cx) byte_names.packages byte_names.on (λ m. Suits m group) (λ m. Suits m group) (λ a b alike. alike group byte_group) (IsTrue default) (IsTrue default) (same (IsTrue default)) t byte_binary byte_test) f g h;
+  gives = λ cx default b v byte_names byte_binary. gives_alike _ _ (leaves_give_alike cx cx (its_own cx) byte_names.packages byte_names.on (λ x. IsTrue (default x)) (λ x. IsTrue (default x)) (λ x. same (IsTrue (default x))) b byte_binary) f g h v;
 }

@@ -69,6 +69,7 @@ by_sort (code.BinaryId m s) = record { parts = of_names names.BinaryId m s; is_l
 by_sort (code.Platform x s) = record { parts = of_platform x s; is_leaf = refl; is_filter = refl; as_written = λ h. h }
 by_sort (code.Test m s) = record { parts = of_names names.Test m s; is_leaf = refl; is_filter = refl; as_written = λ h. h }
 by_sort (code.Group m s) = record { parts = of_names names.Group m s; is_leaf = refl; is_filter = refl; as_written = λ h. h }
+by_sort (code.Feature m s) = record { parts = of_names names.Feature m s; is_leaf = refl; is_filter = refl; as_written = λ h. h }
 by_sort (code.Default s) = record { parts = of_the_default s; is_leaf = refl; is_filter = refl; as_written = λ h. h }
 by_sort code.All = record { parts = of_all; is_leaf = refl; is_filter = refl; as_written = λ h. h }
 by_sort code.None = record { parts = of_none; is_leaf = refl; is_filter = refl; as_written = λ h. h }

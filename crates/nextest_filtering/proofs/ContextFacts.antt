@@ -2,14 +2,14 @@
 use Rattle.std.proofs.Common.{rules, ◌≡◌, ◌∙◌, ◌↔◌, IsTrue, refl, sym, ap, ap₂, subst, append_assoc, append-nil, ℕ, List, [], ◌∷◌, ◌++◌, map, flat_map, Contains, Option, Some, None, slice_get}
 use Rattle.list_facts.proofs.Membership.{Contains-map, Contains-map_cases}
 use Rattle.list_facts.proofs.Lists.{flat_map-append}
-use Rattle.workspace_record.specs.Records.{Package}
+use Rattle.workspace_record.specs.Records.{Package, Text}
 use Rattle.numbered_graph.specs.Sets.{has}
 use Rattle.guppy_package_table.specs.Tables.{TableValue}
 use Rattle.guppy_package_graph.specs.PackagesViews.{all_left, packages_graph_of, packages_left}
 use Rattle.guppy_package_graph.specs.SetValues.{IsSetOf, SetValue}
 use Rattle.guppy_package_graph.specs.declared.packages.Packages.{Packages}
-use Rattle.nextest_filtering.specs.Contexts.{AreRowsAt, IsContextOf, binaries_of}
-use Rattle.nextest_filtering.specs.ContextViews.{AreNamesOf, packages_in, binaries_in}
+use Rattle.nextest_filtering.specs.Contexts.{AreRowsAt, IsContextOf, binaries_of, features_of}
+use Rattle.nextest_filtering.specs.ContextViews.{AreNamesOf, packages_in, binaries_in, features_in}
 use Rattle.nextest_filtering.specs.declared.context_names.ContextNames.{ContextNames}
 
 pub map-append : {A B : Type 0} (f : A → B) (xs ys : List A) → map f (xs ++ ys) ≡ map f xs ++ map f ys
@@ -36,13 +36,14 @@ pub record IsAdding (g : TableValue) (all : List ℕ) (pairs : List (TableValue 
   pub seen : map Some rows ++ map (slice_get g.packages) left ≡ map (slice_get g.packages) all
   pub named : packages_in names ≡ map (λ (p : Package). (p.id, p.name)) rows
   pub built : binaries_in names ≡ flat_map binaries_of rows
+  pub featured : features_in names ≡ flat_map features_of rows
 
-pub starts : (g : TableValue) (all : List ℕ) (pairs : List (TableValue × ℕ)) (names : ContextNames) → pairs ≡ map (λ v. (g, v)) all → packages_in names ≡ [] → binaries_in names ≡ [] → IsAdding g all pairs names
-starts g all pairs names e named built = record { left = all; is_left = e; rows = []; seen = refl; named = named; built = built }
+pub starts : (g : TableValue) (all : List ℕ) (pairs : List (TableValue × ℕ)) (names : ContextNames) → pairs ≡ map (λ v. (g, v)) all → packages_in names ≡ [] → binaries_in names ≡ [] → features_in names ≡ [] → IsAdding g all pairs names
+starts g all pairs names e named built featured = record { left = all; is_left = e; rows = []; seen = refl; named = named; built = built; featured = featured }
 
 pub adds : (g : TableValue) (all : List ℕ) (pairs rest : List (TableValue × ℕ)) (old new : ContextNames) (h : TableValue) (v : ℕ) → IsAdding g all pairs old → pairs ≡ (h, v) ∷ rest →
-    ((p : Package) × (slice_get h.packages v ≡ Some p) × (packages_in new ≡ packages_in old ++ (p.id, p.name) ∷ []) × (binaries_in new ≡ binaries_in old ++ binaries_of p)) → IsAdding g all rest new
-adds g all pairs rest old new h v was steps (p, at, named, built) = by was.left was.is_left was.seen
+    ((p : Package) × (slice_get h.packages v ≡ Some p) × (packages_in new ≡ packages_in old ++ (p.id, p.name) ∷ []) × (binaries_in new ≡ binaries_in old ++ binaries_of p) × (features_in new ≡ features_in old ++ features_of p)) → IsAdding g all rest new
+adds g all pairs rest old new h v was steps (p, at, named, built, featured) = by was.left was.is_left was.seen
   where
     by : (left : List ℕ) → pairs ≡ map (λ v. (g, v)) left → map Some was.rows ++ map (slice_get g.packages) left ≡ map (slice_get g.packages) all → IsAdding g all rest new
     by [] e seen = absurd (search rules)
@@ -57,6 +58,7 @@ adds g all pairs rest old new h v was steps (p, at, named, built) = by was.left 
           seen = ap (λ ys. ys ++ map (slice_get g.packages) xs) (map-append Some was.rows (p ∷ [])) ∙ append_assoc (map Some was.rows) (Some p ∷ []) (map (slice_get g.packages) xs) ∙ ap (λ o. map Some was.rows ++ o ∷ map (slice_get g.packages) xs) (sym at_x) ∙ seen;
           named = named ∙ ap (λ ys. ys ++ (p.id, p.name) ∷ []) was.named ∙ sym (map-append (λ (p : Package). (p.id, p.name)) was.rows (p ∷ []));
           built = built ∙ ap (λ ys. ys ++ binaries_of p) was.built ∙ ap (λ ys. flat_map binaries_of was.rows ++ ys) (sym (append-nil (binaries_of p))) ∙ sym (flat_map-append binaries_of was.rows (p ∷ []));
+          featured = featured ∙ ap (λ ys. ys ++ features_of p) was.featured ∙ ap (λ ys. flat_map features_of was.rows ++ ys) (sym (append-nil (features_of p))) ∙ sym (flat_map-append features_of was.rows (p ∷ []));
         }
 
 abbrev value_or : {A : Type 0} → A → Option A → A
@@ -68,7 +70,7 @@ some_same d a b e = ap (value_or d) e
 
 -- once no package is left, the rows are those at the places
 pub added : (g : TableValue) (passes : ℕ → Type 0) (all : List ℕ) (pairs : List (TableValue × ℕ)) (names : ContextNames) → IsAdding g all pairs names → pairs ≡ [] → ((v : ℕ) → Contains all v ↔ passes v) → AreNamesOf g passes names
-added g passes all pairs names was none each = record { rows = was.rows; are_rows = rows_at; named = was.named; built = was.built }
+added g passes all pairs names was none each = record { rows = was.rows; are_rows = rows_at; named = was.named; built = was.built; featured = was.featured }
   where
     no_left : (left : List ℕ) → pairs ≡ map (λ v. (g, v)) left → left ≡ []
     no_left [] e = refl
@@ -95,9 +97,9 @@ added g passes all pairs names was none each = record { rows = was.rows; are_row
 pub left_as : (p : Packages) (g : TableValue) (vs : List ℕ) → packages_graph_of p ≡ g → packages_left p ≡ vs → all_left p ≡ map (λ v. (g, v)) vs
 left_as p g vs eg el = ap₂ (λ (h : TableValue) (us : List ℕ). map (λ v. (h, v)) us) eg el
 
-pub context_as : (g : TableValue) (passes : ℕ → Type 0) (s : SetValue) (names : ContextNames) → IsSetOf g passes s → AreNamesOf s.graph (λ v. IsTrue (has s.included v)) names →
-    IsContextOf g g passes (record { graph = g; packages = packages_in names; binaries = binaries_in names })
-context_as g passes s names set were = record { graph = refl; rows = were.rows; are_rows = rows_at; named = were.named; built = were.built }
+pub context_as : (g : TableValue) (passes : ℕ → Type 0) (s : SetValue) (names : ContextNames) (on : List (Text × Text)) → IsSetOf g passes s → AreNamesOf s.graph (λ v. IsTrue (has s.included v)) names →
+    IsContextOf g g passes (record { graph = g; packages = packages_in names; binaries = binaries_in names; features = features_in names; on = on })
+context_as g passes s names on set were = record { graph = refl; rows = were.rows; are_rows = rows_at; named = were.named; built = were.built; featured = were.featured }
   where
     rows_at : AreRowsAt g passes were.rows
     rows_at p = (

@@ -1,4 +1,5 @@
 pub mod ContextFacts
+pub mod FeatureFacts
 pub mod PickFacts
 pub mod ReachFacts
 pub mod AcceptFacts

@@ -43,6 +43,7 @@ module _ (n : ℕ) where
   leaf_within (code.Platform platform span) p = p
   leaf_within (code.Test matcher span) p = p
   leaf_within (code.Group matcher span) p = p
+  leaf_within (code.Feature matcher span) p = p
   leaf_within (code.Default span) p = p
   leaf_within code.All p = tt
   leaf_within code.None p = tt
@@ -71,6 +72,7 @@ module _ (n : ℕ) where
   ban_within kind.TestArchive (Named names.BinaryId test span) p = none
   ban_within kind.TestArchive (Named names.Test test span) p = one _ p
   ban_within kind.TestArchive (Named names.Group test span) p = one _ p
+  ban_within kind.TestArchive (Named names.Feature test span) p = none
   ban_within kind.TestArchive (Platform platform span) p = none
   ban_within kind.TestArchive (Default span) p = none
   ban_within kind.TestArchive Everything p = none
@@ -83,6 +85,7 @@ module _ (n : ℕ) where
   ban_within kind.OverrideFilter (Named names.BinaryId test span) p = none
   ban_within kind.OverrideFilter (Named names.Test test span) p = none
   ban_within kind.OverrideFilter (Named names.Group test span) p = one _ p
+  ban_within kind.OverrideFilter (Named names.Feature test span) p = none
   ban_within kind.OverrideFilter (Platform platform span) p = none
   ban_within kind.OverrideFilter (Default span) p = none
   ban_within kind.OverrideFilter Everything p = none
@@ -95,6 +98,7 @@ module _ (n : ℕ) where
   ban_within kind.DefaultFilter (Named names.BinaryId test span) p = none
   ban_within kind.DefaultFilter (Named names.Test test span) p = none
   ban_within kind.DefaultFilter (Named names.Group test span) p = one _ p
+  ban_within kind.DefaultFilter (Named names.Feature test span) p = none
   ban_within kind.DefaultFilter (Platform platform span) p = none
   ban_within kind.DefaultFilter (Default span) p = one _ p
   ban_within kind.DefaultFilter Everything p = none
@@ -115,6 +119,7 @@ module _ (n : ℕ) where
   no_match_within (Named names.BinaryId test span) p = one _ p
   no_match_within (Named names.Test test span) p = none
   no_match_within (Named names.Group test span) p = one _ p
+  no_match_within (Named names.Feature test span) p = one _ p
   no_match_within (Platform platform span) p = none
   no_match_within (Default span) p = none
   no_match_within Everything p = none

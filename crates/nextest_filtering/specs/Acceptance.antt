@@ -4,7 +4,7 @@ use Rattle.nextest_filter_faults.specs.declared.filterset_kind.FiltersetKind.{Fi
 use Rattle.nextest_filter_faults.specs.declared.filterset_kind.FiltersetKind.TheVariants as kind
 use Rattle.nextest_filter_faults.specs.declared.filterset_kind.BannedPredicateReason.TheVariants.{DefaultInfiniteRecursion, GroupCircularDependency, GroupNotAvailableInDefaultFilter, GroupNotAvailableInArchive, TestNotAvailableInArchive}
 use Rattle.nextest_filter_faults.specs.declared.parse_error.ParseSingleError.{ParseSingleError}
-use Rattle.nextest_filter_faults.specs.declared.parse_error.ParseSingleError.TheVariants.{BannedPredicate, NoPackageMatch, NoGroupMatch, NoBinaryIdMatch, NoBinaryNameMatch}
+use Rattle.nextest_filter_faults.specs.declared.parse_error.ParseSingleError.TheVariants.{BannedPredicate, NoPackageMatch, NoGroupMatch, NoBinaryIdMatch, NoBinaryNameMatch, NoFeatureMatch}
 use Rattle.nextest_filter_tokens.specs.declared.heads.Predicate.TheVariants as names
 use Rattle.nextest_filter_queries.specs.NameTests.{SuitsOneOf}
 use Rattle.nextest_filter_queries.specs.Groups.{known_groups}
@@ -34,7 +34,7 @@ bans kind (both a b) = bans kind a ++ bans kind b
 bans kind (leaf l) = ban_of kind l
 
 module _ (cx : ContextValue) (groups : KnownGroups) where
-  -- the matcher of a leaf that names packages, binaries or groups matches one of their names
+  -- the matcher of a leaf that names packages, binaries, groups or features matches one of their names; a feature may be off
   abbrev pub MatchesSome : FilterLeaf → Type 0
   MatchesSome (Named names.Package test span) = SuitsOneOf test (map (λ p. p.1) cx.packages)
   MatchesSome (Named names.Deps test span) = SuitsOneOf test (map (λ p. p.1) cx.packages)
@@ -42,6 +42,7 @@ module _ (cx : ContextValue) (groups : KnownGroups) where
   MatchesSome (Named names.Binary test span) = SuitsOneOf test (map (λ b. b.1) cx.binaries)
   MatchesSome (Named names.BinaryId test span) = SuitsOneOf test (map (λ b. b.0) cx.binaries)
   MatchesSome (Named names.Group test span) = SuitsOneOf test (known_groups groups)
+  MatchesSome (Named names.Feature test span) = SuitsOneOf test cx.features
   MatchesSome _ = Unit {0}
 
   -- no leaf is banned, and each matches some name that it has to
@@ -56,6 +57,7 @@ no_match (Named names.Rdeps test span) = NoPackageMatch span ∷ []
 no_match (Named names.Binary test span) = NoBinaryNameMatch span ∷ []
 no_match (Named names.BinaryId test span) = NoBinaryIdMatch span ∷ []
 no_match (Named names.Group test span) = NoGroupMatch span ∷ []
+no_match (Named names.Feature test span) = NoFeatureMatch span ∷ []
 no_match _ = []
 
 -- the faults are those of the leaves that match nothing, from left to right

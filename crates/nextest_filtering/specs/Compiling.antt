@@ -12,7 +12,7 @@ use Rattle.nextest_filter_evaluation.specs.Compiled.{Leaf}
 use Rattle.nextest_filtering.specs.Contexts.{ContextValue}
 use Rattle.nextest_filtering.specs.Filters.{FilterLeaf, Named, Platform, Default, All}
 use Rattle.nextest_filtering.specs.Filters as filter
-use Rattle.nextest_filtering.specs.Meaning.{IsMatched, IsReachedOf, IsDependency, IsDependent}
+use Rattle.nextest_filtering.specs.Meaning.{IsMatched, IsFeatured, IsReachedOf, IsDependency, IsDependent}
 use Rattle.nextest_filtering.specs.Acceptance.{AreUnmatched}
 
 -- the leaf has the packages that pass and no other
@@ -36,6 +36,7 @@ IsCompiledLeaf cx (Named names.Binary test span) l = l ≡ compiled.Binary test 
 IsCompiledLeaf cx (Named names.BinaryId test span) l = l ≡ compiled.BinaryId test span
 IsCompiledLeaf cx (Named names.Test test span) l = l ≡ compiled.Test test span
 IsCompiledLeaf cx (Named names.Group test span) l = l ≡ compiled.Group test span
+IsCompiledLeaf cx (Named names.Feature test span) l = ArePackages (IsFeatured cx test) l
 IsCompiledLeaf cx (Platform platform span) l = l ≡ compiled.Platform platform span
 IsCompiledLeaf cx (Default span) l = l ≡ compiled.Default
 IsCompiledLeaf cx All l = l ≡ compiled.All

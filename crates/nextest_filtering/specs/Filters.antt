@@ -27,6 +27,7 @@ filter_leaf (code.BinaryId matcher span) = Named names.BinaryId (name_test match
 filter_leaf (code.Platform platform span) = Platform platform span
 filter_leaf (code.Test matcher span) = Named names.Test (name_test matcher) span
 filter_leaf (code.Group matcher span) = Named names.Group (name_test matcher) span
+filter_leaf (code.Feature matcher span) = Named names.Feature (name_test matcher) span
 filter_leaf (code.Default span) = Default span
 filter_leaf code.All = All
 filter_leaf code.None = None

@@ -18,6 +18,15 @@ pub record IsMatched (cx : ContextValue) (test : NameTest) (id : Text) : Type 0 
   pub suits : Suits test found.1
   pub is_its : found.0 ≡ id
 
+-- a package of the context has the id, and a feature of it that is said to be on suits
+pub record IsFeatured (cx : ContextValue) (test : NameTest) (id : Text) : Type 0 where
+  pub found : Text × Text
+  pub listed : Contains cx.packages found
+  pub is_its : found.0 ≡ id
+  pub feature : Text
+  pub is_on : Contains cx.on (id, feature)
+  pub suits : Suits test feature
+
 -- a path, maybe empty, leads from the one package to the other, or in reverse to the one from the other
 abbrev pub LeadsAlong : DependencyDirection → TableValue → Text → Text → Type 0
 LeadsAlong Forward g a b = Leads g a b
@@ -51,6 +60,7 @@ module _ (cx : ContextValue) where
   FilterLeafHolds member default t (Named names.BinaryId test span) = Suits test t.binary.id
   FilterLeafHolds member default t (Named names.Test test span) = Suits test t.name
   FilterLeafHolds member default t (Named names.Group test span) = member test
+  FilterLeafHolds member default t (Named names.Feature test span) = IsFeatured cx test t.binary.package_id
   FilterLeafHolds member default t (Platform platform span) = t.binary.platform ≡ platform
   FilterLeafHolds member default t (Default span) = default
   FilterLeafHolds member default t All = Unit {0}
@@ -66,6 +76,7 @@ module _ (cx : ContextValue) where
   FilterLeafGives default b (Named names.BinaryId test span) v = Gives (Suits test b.id) v
   FilterLeafGives default b (Named names.Test test span) v = Unit {0}
   FilterLeafGives default b (Named names.Group test span) v = Unit {0}
+  FilterLeafGives default b (Named names.Feature test span) v = Gives (IsFeatured cx test b.package_id) v
   FilterLeafGives default b (Platform platform span) v = Gives (b.platform ≡ platform) v
   FilterLeafGives default b (Default span) v = default v
   FilterLeafGives default b All v = Gives (Unit {0}) v

@@ -21,6 +21,8 @@ pub record HasByteNames (cx : ContextValue) : Type 0 where
   pub packages : (p : Text × Text) → Contains cx.packages p → AreBytes p.1
   pub binary_ids : (b : Text × Text) → Contains cx.binaries b → AreBytes b.0
   pub binary_names : (b : Text × Text) → Contains cx.binaries b → AreBytes b.1
+  pub features : (name : Text) → Contains cx.features name → AreBytes name
+  pub on : (f : Text × Text) → Contains cx.on f → AreBytes f.1
 
 -- what is known of a binary is
 pub record IsByteBinary (b : asked.Binary) : Type 0 where
@@ -28,10 +30,11 @@ pub record IsByteBinary (b : asked.Binary) : Type 0 where
   pub name : AreBytes b.name
   pub kind : AreBytes b.kind
 
--- two contexts have the same packages, and paths lead from the same to the same
+-- two contexts have the same packages, paths lead from the same to the same, and the same features are on
 pub record HasSamePackages (cx dx : ContextValue) : Type 0 where
   pub packages : (p : Text × Text) → Contains cx.packages p ↔ Contains dx.packages p
   pub leads : (a b : Text) → Leads cx.graph a b ↔ Leads dx.graph a b
+  pub on : (f : Text × Text) → Contains cx.on f ↔ Contains dx.on f
 
 -- two filters are accepted alike, hold of the same tests, and may take the same values; of each test it is said in which group it is, and whether the default filter holds
 pub record SaysTheSame (f g : Formula FilterLeaf) : Type 0 where

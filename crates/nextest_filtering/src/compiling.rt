@@ -1,7 +1,7 @@
 //! Filters with their names of packages looked up.
 
 ghost use Rattle.std.specs.Prelude.{◌≡◌, ◌++◌, ◌∷◌, [], true, IfOk, OnOk, if◌then◌else◌, map};
-ghost use Rattle.nextest_filter_faults.specs.declared.parse_error.ParseSingleError.TheVariants.{NoPackageMatch};
+ghost use Rattle.nextest_filter_faults.specs.declared.parse_error.ParseSingleError.TheVariants.{NoFeatureMatch, NoPackageMatch};
 ghost use Rattle.nextest_filter_queries.specs.NameTests.{SuitsOneOf, name_test};
 ghost use Rattle.nextest_filter_queries.specs.Groups.{AreKnown};
 ghost use Rattle.nextest_filter_evaluation.specs.Formulas as formula;
@@ -11,6 +11,7 @@ ghost use Rattle.nextest_filtering.specs.Acceptance.{names_group};
 ghost use Rattle.nextest_filtering.specs.Compiling.{AddsUnmatched, ArePackages, IsCompiled, IsCompiledLeaf, IsPicked};
 ghost use Rattle.nextest_filtering.specs.ContextViews.{AddsUnless};
 ghost use Rattle.nextest_filtering.specs.Filters.{filter_leaf, filter_of};
+ghost use Rattle.nextest_filtering.specs.Meaning.{IsFeatured};
 
 use crate::matching::id_set;
 use crate::parse_context::ParseContext;
@@ -118,6 +119,10 @@ fn compile_leaf(
             let matcher = same_matcher(alloc, matcher)?;
             Ok(FiltersetLeaf::Group(matcher, *span))
         }
+        ParsedLeaf::Feature(matcher, span) => {
+            let packages = featured_of(alloc, matcher, *span, cx, errors)?;
+            Ok(packages)
+        }
         ParsedLeaf::Default(_) => Ok(FiltersetLeaf::Default),
         ParsedLeaf::All => Ok(FiltersetLeaf::All),
         ParsedLeaf::None => Ok(FiltersetLeaf::None),
@@ -136,6 +141,25 @@ fn expect(
         errors.push(fault)?;
     }
     Ok(())
+}
+
+/// The packages with a feature that is on and matches. Adds a fault where no feature of a package
+/// matches, on or off.
+fn featured_of(
+    alloc: Global,
+    matcher: &NameMatcher,
+    span: SourceSpan,
+    cx: &ParseContext<'_>,
+    errors: &mut Vec<ParseSingleError>,
+) -> Result<FiltersetLeaf, AllocError>
+    ensures packages { IfOk result (λ l. ArePackages (IsFeatured cx.now (name_test matcher.now)) (leaf_of l)) }
+    ensures faults { OnOk result (AddsUnless (SuitsOneOf (name_test matcher.now) cx.now.features) (NoFeatureMatch span ∷ []) errors.old.items errors.new.items) }
+{
+    let is_some = cx.has_feature(alloc, matcher)?;
+    expect(is_some, ParseSingleError::NoFeatureMatch(span), errors)?;
+    let featured = cx.featured(alloc, matcher)?;
+    let ids = id_set(alloc, &featured)?;
+    Ok(FiltersetLeaf::Packages(ids))
 }
 
 /// The packages that match, or all that paths join with them in the direction. Adds a fault where none

@@ -1,19 +1,19 @@
-//! Packages and binaries by their ids and names.
+//! Packages and binaries by their ids and names, and features by their names.
 
-ghost use Rattle.std.specs.Prelude.{◌≡◌, ◌++◌, ◌∷◌, [], OnOk, Some, IfOk, codes, option_map, slice_get};
+ghost use Rattle.std.specs.Prelude.{◌≡◌, ◌++◌, ◌∷◌, [], OnOk, Some, IfOk, codes, map, option_map, slice_get, string_bytes};
 ghost use Rattle.workspace_record.specs.Records.{Package};
 ghost use Rattle.guppy_row_parts.specs.BuildTargetViews.{target_view};
 ghost use Rattle.guppy_row_parts.specs.BuildTargets.{id_of};
 ghost use Rattle.guppy_package_graph.specs.Views.{graph_of, place_of};
-ghost use Rattle.nextest_filtering.specs.Contexts.{binaries_of, binary_kind, named_binary};
-ghost use Rattle.nextest_filtering.specs.ContextViews.{binaries_in, list_of, packages_in};
+ghost use Rattle.nextest_filtering.specs.Contexts.{binaries_of, binary_kind, features_of, named_binary};
+ghost use Rattle.nextest_filtering.specs.ContextViews.{binaries_in, features_in, list_of, packages_in};
 
 use guppy_package_graph::{BuildTarget, BuildTargetId, PackageId, PackageMetadata, PackageRow};
 use nextest_filter_queries::{RustBinaryId, RustTestBinaryKind};
 use std::alloc::{AllocError, Global};
 use std::marker::Model;
 
-/// A package by its id and its name.
+/// A package by its id, and a name: its own, or that of a feature of it.
 #[derive(Debug, Drop)]
 pub(crate) struct NamedPackage {
     pub(crate) id: PackageId,
@@ -45,11 +45,23 @@ impl Model for NamedBinary {
     ghost view = { λ b. (b.id, string_bytes b.name) };
 }
 
-/// The packages of a context, and their binaries.
+impl NamedPackage {
+    /// The package with the id, and the name, in memory of their own.
+    pub(crate) fn of(alloc: Global, id: &str, name: &str) -> Result<NamedPackage, AllocError>
+        ensures { IfOk result (λ p. p ≡ (id.now, name.now)) }
+    {
+        let id = PackageId::new(String::from_str(alloc, id)?);
+        let name = String::from_str(alloc, name)?;
+        Ok(NamedPackage { id, name })
+    }
+}
+
+/// The packages of a context, their binaries, and the names of their features.
 #[derive(Debug)]
 pub(crate) struct ContextNames {
     pub(crate) packages: Vec<NamedPackage>,
     pub(crate) binaries: Vec<NamedBinary>,
+    pub(crate) features: Vec<String>,
 }
 
 // Written out, so that a function that lets one go takes one step.
@@ -58,26 +70,42 @@ impl Drop for ContextNames {
         let ContextNames {
             packages: _,
             binaries: _,
+            features: _,
         } = self;
     }
 }
 
 impl ContextNames {
-    /// Adds a package with its binaries.
+    /// Adds a package with its binaries and its features.
     pub(crate) fn add(
         &mut self,
         alloc: Global,
         added: PackageMetadata<'_>,
     ) -> Result<(), AllocError>
-        ensures { OnOk result ((p : Package) × (slice_get (graph_of added.entry).packages (place_of added.entry) ≡ Some p) × (packages_in self.new ≡ packages_in self.old ++ (p.id, p.name) ∷ []) × (binaries_in self.new ≡ binaries_in self.old ++ binaries_of p)) }
+        ensures { OnOk result ((p : Package) × (slice_get (graph_of added.entry).packages (place_of added.entry) ≡ Some p) × (packages_in self.new ≡ packages_in self.old ++ (p.id, p.name) ∷ []) × (binaries_in self.new ≡ binaries_in self.old ++ binaries_of p) × (features_in self.new ≡ features_in self.old ++ features_of p)) }
     {
         let row = added.row();
-        let id = PackageId::new(String::from_str(alloc, row.id.as_str())?);
-        let name = String::from_str(alloc, row.name.as_str())?;
+        let package = NamedPackage::of(alloc, row.id.as_str(), row.name.as_str())?;
         push_binaries(alloc, row, &mut self.binaries)?;
-        self.packages.push(NamedPackage { id, name })?;
+        push_features(alloc, row, &mut self.features)?;
+        self.packages.push(package)?;
         Ok(())
     }
+}
+
+/// Adds the names of the features of a package.
+fn push_features(
+    alloc: Global,
+    row: &PackageRow,
+    features: &mut Vec<String>,
+) -> Result<(), AllocError>
+    ensures { OnOk result (map string_bytes features.new.items ≡ map string_bytes features.old.items ++ features_of row.now) }
+{
+    for feature in &row.features {
+        let name = String::from_str(alloc, feature.name.as_str())?;
+        features.push(name)?;
+    }
+    Ok(())
 }
 
 /// Adds the binaries of a package.

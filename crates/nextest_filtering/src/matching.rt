@@ -1,9 +1,9 @@
 //! Names and paths of a context, as matchers ask for them.
 
-ghost use Rattle.std.specs.Prelude.{◌≡◌, ◌↔◌, ◌++◌, ◌∷◌, [], Contains, IfOk, IsTrue, OnOk, if◌then◌else◌, map};
+ghost use Rattle.std.specs.Prelude.{◌≡◌, ◌↔◌, ◌++◌, ◌∷◌, [], Contains, IfOk, IsTrue, OnOk, if◌then◌else◌, map, string_bytes};
 ghost use Rattle.workspace_record.specs.Records.{Text};
 ghost use Rattle.nextest_filter_queries.specs.NameTests.{Suits, SuitsOneOf, name_test};
-ghost use Rattle.nextest_filtering.specs.Meaning.{IsMatched, IsReachedOf};
+ghost use Rattle.nextest_filtering.specs.Meaning.{IsFeatured, IsMatched, IsReachedOf};
 ghost use Rattle.nextest_filtering.specs.ContextViews.{ArePicked, IsInSet};
 
 use crate::context_names::{NamedBinary, NamedPackage};
@@ -45,6 +45,31 @@ impl ParseContext<'_> {
             }
             Err(_) => Err(AllocError),
         }
+    }
+
+    /// The ids of the packages with a feature that is said to be on and that the matcher matches.
+    pub(crate) fn featured(
+        &self,
+        alloc: Global,
+        matcher: &NameMatcher,
+    ) -> Result<Vec<&PackageId>, AllocError>
+        ensures { IfOk result (λ v. (id : Text) → Contains (map (λ i. i.now) v.items) id ↔ IsFeatured self.now (name_test matcher.now) id) }
+    {
+        let listed = named_so(alloc, self.on(), matcher)?;
+        let wanted = id_set(alloc, &listed)?;
+        let ids = those_in(alloc, self.packages(), &wanted)?;
+        Ok(ids)
+    }
+
+    /// Whether the matcher matches the name of a package's feature, be it on or off.
+    pub(crate) fn has_feature(
+        &self,
+        alloc: Global,
+        matcher: &NameMatcher,
+    ) -> Result<bool, AllocError>
+        ensures { IfOk result (λ r. IsTrue r ↔ SuitsOneOf (name_test matcher.now) self.now.features) }
+    {
+        some_text_suits(alloc, self.features(), matcher)
     }
 
     /// Whether the matcher matches the id of a binary.
@@ -101,6 +126,28 @@ fn in_set<'a>(
     Ok(ids)
 }
 
+/// The ids of the packages whose ids are wanted.
+fn those_in<'a>(
+    alloc: Global,
+    packages: &'a [NamedPackage],
+    wanted: &BTreeSet<PackageId>,
+) -> Result<Vec<&'a PackageId>, AllocError>
+    ensures { IfOk result (λ v. ArePicked (λ p. Contains wanted.now.keys p.0) packages.entry.now (map (λ i. i.now) v.items)) }
+{
+    let mut ids = Vec::new(alloc);
+    for found in packages {
+        let is_in = is_wanted(wanted, &found.id);
+        push_if(is_in, &found.id, &mut ids)?;
+    }
+    Ok(ids)
+}
+
+fn is_wanted(wanted: &BTreeSet<PackageId>, id: &PackageId) -> bool
+    ensures { IsTrue result ↔ Contains wanted.now.keys id.now }
+{
+    wanted.contains(id)
+}
+
 fn push_if<'a>(
     is_wanted: bool,
     id: &'a PackageId,
@@ -147,6 +194,21 @@ fn some_name_suits(
 {
     for binary in binaries {
         if suits(alloc, matcher, binary.name.as_str())? {
+            return Ok(true);
+        }
+    }
+    Ok(false)
+}
+
+fn some_text_suits(
+    alloc: Global,
+    names: &[String],
+    matcher: &NameMatcher,
+) -> Result<bool, AllocError>
+    ensures { IfOk result (λ r. IsTrue r ↔ SuitsOneOf (name_test matcher.now) (map string_bytes names.now)) }
+{
+    for name in names {
+        if suits(alloc, matcher, name.as_str())? {
             return Ok(true);
         }
     }

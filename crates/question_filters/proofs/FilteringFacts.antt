@@ -34,8 +34,9 @@ use Rattle.record_checks.proofs.AlikeFacts.{alike_more, alike_there}
 use Rattle.question_filters.specs.Errors.{text_error_of}
 use Rattle.question_filters.specs.Filtering.{AreCompiledTexts, CompilesGiven, CompilesText, CompilesTexts, Filters}
 use Rattle.question_filters.specs.Following.{IsFollowedIn}
+use Rattle.question_filters.specs.NamedFeatures.{AreNamedOn}
 use Rattle.question_filters.specs.declared.question_filters.QuestionFilters.{QuestionFilters}
-use Rattle.question_filters.specs.declared.scope.LinkScope.TheVariants.{SwitchedOn}
+use Rattle.question_filters.specs.declared.scope.LinkScope.TheVariants.{Declared, SwitchedOn}
 
 module _ (cx : ContextValue) (groups : KnownGroups) where
   -- one text more
@@ -108,7 +109,11 @@ record_faulted right P w texts (refused.Broken rule place) e is h = subst (λ x.
 record_faulted right P w texts (refused.Filter place errors) e is h = subst (λ x. Filters P w texts (Err x)) (sym is) h
 record_faulted right P w texts refused.Memory e is h = subst (λ x. Filters P w texts (Err x)) (sym is) tt
 
--- paths along the links that are on
-pub followed_switched : (w : Workspace) (on : List FeatureValue) (table : PlatformTable) (declared followed : TableValue) (cx : ContextValue) → IsDeclaredGraph w declared → IsTableOf declared.packages (links_on declared on table) declared.workspace followed → HasNamesOf w cx × (cx.graph ≡ followed) → HasNamesOf w cx × IsFollowedIn SwitchedOn w on table cx.graph
-followed_switched w on table declared followed cx is made h =
-    (h.0, (declared, is, subst (λ (g : TableValue). IsTableOf declared.packages (links_on declared on table) declared.workspace g) (sym h.1) made))
+-- paths along the links that are on, with the named features that are on
+pub followed_switched : (w : Workspace) (on : List FeatureValue) (table : PlatformTable) (declared followed : TableValue) (named : List (Text × Text)) (cx : ContextValue) → IsDeclaredGraph w declared → IsTableOf declared.packages (links_on declared on table) declared.workspace followed → AreNamedOn on named → HasNamesOf w cx × (cx.graph ≡ followed) × (cx.on ≡ named) → HasNamesOf w cx × IsFollowedIn SwitchedOn w on table cx.graph × AreNamedOn on cx.on
+followed_switched w on table declared followed named cx is made are h =
+    (h.0, (declared, is, subst (λ (g : TableValue). IsTableOf declared.packages (links_on declared on table) declared.workspace g) (sym h.1) made), subst (AreNamedOn on) (sym h.2) are)
+
+-- paths along declared links
+pub followed_declared : (w : Workspace) (on : List FeatureValue) (table : PlatformTable) (declared : TableValue) (named : List (Text × Text)) (cx : ContextValue) → IsDeclaredGraph w declared → AreNamedOn on named → HasNamesOf w cx × (cx.graph ≡ declared) × (cx.on ≡ named) → HasNamesOf w cx × IsFollowedIn Declared w on table cx.graph × AreNamedOn on cx.on
+followed_declared w on table declared named cx is are h = (h.0, subst (IsDeclaredGraph w) (sym h.1) is, subst (AreNamedOn on) (sym h.2) are)

@@ -2,3 +2,4 @@ pub mod FilteringFacts
 pub mod KnownFacts
 pub mod SomeFacts
 pub mod LendingFacts
+pub mod NamedFacts

@@ -1,4 +1,5 @@
 pub mod Errors
 pub mod Filtering
 pub mod Following
+pub mod NamedFeatures
 pub mod QuestionFilters

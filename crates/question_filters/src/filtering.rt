@@ -12,12 +12,15 @@ ghost use Rattle.record_checks.specs.Contexts.{HasNamesOf, IsDeclaredGraph};
 ghost use Rattle.question_filters.specs.Errors.{text_error_of};
 ghost use Rattle.question_filters.specs.Filtering.{CompilesGiven, CompilesText, CompilesTexts, Filters};
 ghost use Rattle.question_filters.specs.Following.{IsFollowedIn};
+ghost use Rattle.question_filters.specs.NamedFeatures.{AreNamedOn};
+ghost use Rattle.nextest_filtering.specs.ContextViews.{listed_as};
 
+use crate::named_features::named_features;
 use crate::question_filters::QuestionFilters;
 use crate::scope::LinkScope;
 use feature_switching::FeaturesOn;
 use graph_switching::switched_on;
-use guppy_package_graph::PackageGraph;
+use guppy_package_graph::{PackageGraph, PackageId};
 use nextest_filtering::errors::FiltersetError;
 use nextest_filtering::{CompiledExpr, FiltersetKind, FiltersetLeaf, KnownGroups, ParseContext};
 use record_checks::{
@@ -28,7 +31,8 @@ use std::alloc::{AllocError, Global};
 use workspace_record::{PlatformTable, WorkspaceRecord};
 
 /// The filters of the record and of the texts. Names are matched over the packages that the members need
-/// by declared links, and paths follow the links of the scope.
+/// by declared links, paths follow the links of the scope, and `feature` finds the named features that
+/// are on.
 pub fn filters_over(
     alloc: Global,
     record: &WorkspaceRecord,
@@ -37,7 +41,7 @@ pub fn filters_over(
     scope: LinkScope,
     texts: &[&str],
 ) -> Result<QuestionFilters, SelectError>
-    ensures { Filters (λ cx. HasNamesOf record.now cx × IsFollowedIn scope record.now on.now table.now cx.graph) record.now (map (λ t. t.now) texts.now) result }
+    ensures { Filters (λ cx. HasNamesOf record.now cx × IsFollowedIn scope record.now on.now table.now cx.graph × AreNamedOn on.now cx.on) record.now (map (λ t. t.now) texts.now) result }
 {
     match declared_graph(alloc, record) {
         Ok(declared) => in_scope(alloc, record, on, table, scope, texts, &declared),
@@ -55,30 +59,32 @@ fn in_scope(
     declared: &PackageGraph,
 ) -> Result<QuestionFilters, SelectError>
     requires declared { IsDeclaredGraph record.now declared.now }
-    ensures { Filters (λ cx. HasNamesOf record.now cx × IsFollowedIn scope record.now on.now table.now cx.graph) record.now (map (λ t. t.now) texts.now) result }
+    ensures { Filters (λ cx. HasNamesOf record.now cx × IsFollowedIn scope record.now on.now table.now cx.graph × AreNamedOn on.now cx.on) record.now (map (λ t. t.now) texts.now) result }
 {
+    let named = named_features(alloc, on)?;
     match scope {
-        LinkScope::Declared => filters_along(alloc, record, texts, declared, declared),
+        LinkScope::Declared => filters_along(alloc, record, texts, declared, declared, &named),
         LinkScope::SwitchedOn => {
             let followed = switched_on(alloc, declared, on, table)?;
-            filters_along(alloc, record, texts, declared, &followed)
+            filters_along(alloc, record, texts, declared, &followed, &named)
         }
     }
 }
 
-/// The same, with paths along the links of one graph.
+/// The same, with paths along the links of one graph, and these features on.
 fn filters_along(
     alloc: Global,
     record: &WorkspaceRecord,
     texts: &[&str],
     declared: &PackageGraph,
     followed: &PackageGraph,
+    on: &[(PackageId, String)],
 ) -> Result<QuestionFilters, SelectError>
     requires declared { IsDeclaredGraph record.now declared.now }
     requires same { ids_of followed.now.packages ≡ ids_of declared.now.packages }
-    ensures { Filters (λ cx. HasNamesOf record.now cx × (cx.graph ≡ followed.now)) record.now (map (λ t. t.now) texts.now) result }
+    ensures { Filters (λ cx. HasNamesOf record.now cx × (cx.graph ≡ followed.now) × (cx.on ≡ map listed_as on.now)) record.now (map (λ t. t.now) texts.now) result }
 {
-    let cx = context_over(alloc, declared, followed)?;
+    let cx = context_over(alloc, declared, followed, on)?;
     filters_in(alloc, record, texts, &cx)
 }
 

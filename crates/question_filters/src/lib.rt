@@ -4,6 +4,7 @@
 mod evaluation;
 mod filtering;
 mod lending;
+mod named_features;
 mod question_filters;
 mod scope;
 

@@ -42,6 +42,7 @@ module _ (cx : ContextValue) where
   default_free (Named names.BinaryId test span) m h e = rw h refl
   default_free (Named names.Test test span) m h e = rw h refl
   default_free (Named names.Group test span) m h e = rw h refl
+  default_free (Named names.Feature test span) m h e = rw h.is_leaf refl
   default_free (Platform platform span) m h e = rw h refl
   default_free (Default span) m h e = absurd cc
   default_free All m h e = rw h refl
@@ -56,6 +57,7 @@ module _ (cx : ContextValue) where
   group_free (Named names.BinaryId test span) m h e = rw h refl
   group_free (Named names.Test test span) m h e = rw h refl
   group_free (Named names.Group test span) m h e = absurd cc
+  group_free (Named names.Feature test span) m h e = rw h.is_leaf refl
   group_free (Platform platform span) m h e = rw h refl
   group_free (Default span) m h e = absurd cc
   group_free All m h e = rw h refl

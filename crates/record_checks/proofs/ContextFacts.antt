@@ -43,6 +43,7 @@ context_needed g links q s cx asked reach is =
       are_rows = rows_alike s.graph g _ _ is.rows (reach.graph ∙ asked.graph) (needed_by g q.initials s.included asked.initials forward) is.are_rows;
       named = is.named;
       built = is.built;
+      featured = is.featured;
     }
 
 -- a context over what the members need has the record's names
@@ -50,7 +51,7 @@ pub names_of_record : (w : Workspace) (g links : TableValue) (cx : ContextValue)
 names_of_record w g links cx declared is = record {
   declared = g;
   is_declared = declared;
-  needed = record { graph = refl; rows = is.rows; are_rows = is.are_rows; named = is.named; built = is.built };
+  needed = record { graph = refl; rows = is.rows; are_rows = is.are_rows; named = is.named; built = is.built; featured = is.featured };
 }
 
 pub first_of_two : {X : Type 0} (a b : Option X) (x : X) → a ≡ Some x → option_or a b ≡ Some x

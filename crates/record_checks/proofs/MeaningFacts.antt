@@ -36,6 +36,7 @@ module _ (cx : ContextValue) where
     leaf_alike (Named names.BinaryId test span) = same _
     leaf_alike (Named names.Test test span) = same _
     leaf_alike (Named names.Group test span) = members test
+    leaf_alike (Named names.Feature test span) = same _
     leaf_alike (Platform platform span) = same _
     leaf_alike (Default span) = defaults
     leaf_alike All = same _
@@ -54,6 +55,7 @@ module _ (cx : ContextValue) where
     leaf_gives_alike (Named names.BinaryId test span) v = same _
     leaf_gives_alike (Named names.Test test span) v = same _
     leaf_gives_alike (Named names.Group test span) v = same _
+    leaf_gives_alike (Named names.Feature test span) v = same _
     leaf_gives_alike (Platform platform span) v = same _
     leaf_gives_alike (Default span) v = defaults v
     leaf_gives_alike All v = same _

@@ -59,10 +59,11 @@ module _ (P Q : Formula FilterLeaf → Type 0) (alike : (f g : Formula FilterLea
       (λ later. inr ((λ holds. later.0 (one.1 holds)), groups_alike gs rs ss p.1 q.1 name later.1))
       is
 
--- two readings of one record, over contexts with the same packages
+-- two readings of one record, over contexts with the same packages in which the same is on
 pub record AreOneReading (w : Workspace) (cx dx : ContextValue) (r s : FilterReadings) : Type 0 where
   pub one : HasSamePackages cx dx
   pub byte_packages : (p : Text × Text) → Contains cx.packages p → AreBytes p.1
+  pub byte_on : (f : Text × Text) → Contains cx.on f → AreBytes f.1
   pub byte_groups : (g : Group) → Contains w.groups g → AreBytes g.name
   pub of_first : AreReadingsOf w r
   pub of_second : AreReadingsOf w s
@@ -70,8 +71,9 @@ pub record AreOneReading (w : Workspace) (cx dx : ContextValue) (r s : FilterRea
 module _ {w : Workspace} {cx dx : ContextValue} {r s : FilterReadings} (o : AreOneReading w cx dx r s) where
   pub other_way : AreOneReading w dx cx s r
   other_way = record {
-    one = record { packages = λ p. turned (o.one.packages p); leads = λ a b. turned (o.one.leads a b) };
+    one = record { packages = λ p. turned (o.one.packages p); leads = λ a b. turned (o.one.leads a b); on = λ f. turned (o.one.on f) };
     byte_packages = λ p listed. o.byte_packages p ((o.one.packages p).1 listed);
+    byte_on = λ f listed. o.byte_on f ((o.one.on f).1 listed);
     byte_groups = o.byte_groups;
     of_first = o.of_second;
     of_second = o.of_first;
@@ -83,22 +85,22 @@ module _ {w : Workspace} {cx dx : ContextValue} {r s : FilterReadings} (o : AreO
 
     pub default_holds_alike : DefaultHoldsIn cx r t ↔ DefaultHoldsIn dx s t
     default_holds_alike =
-        holds_alike _ _ (leaves_hold_alike cx dx o.one o.byte_packages (λ _. ⊥) (λ _. ⊥) no_group ⊥ ⊥ (same ⊥) t byte_binary byte_test)
+        holds_alike _ _ (leaves_hold_alike cx dx o.one o.byte_packages o.byte_on (λ _. ⊥) (λ _. ⊥) no_group ⊥ ⊥ (same ⊥) t byte_binary byte_test)
         r.default s.default (defaults_alike w.default_filter r.default s.default o.of_first.default o.of_second.default)
 
     pub group_holds_alike : (f g : Formula FilterLeaf) → AlikeFormula f g → GroupHoldsIn cx r t f ↔ GroupHoldsIn dx s t g
     group_holds_alike f g alike =
-        holds_alike _ _ (leaves_hold_alike cx dx o.one o.byte_packages (λ _. ⊥) (λ _. ⊥) no_group (DefaultHoldsIn cx r t) (DefaultHoldsIn dx s t) default_holds_alike t byte_binary byte_test) f g alike
+        holds_alike _ _ (leaves_hold_alike cx dx o.one o.byte_packages o.byte_on (λ _. ⊥) (λ _. ⊥) no_group (DefaultHoldsIn cx r t) (DefaultHoldsIn dx s t) default_holds_alike t byte_binary byte_test) f g alike
 
   module _ (b : asked.Binary) (byte_binary : IsByteBinary b) where
     pub default_gives_alike : (v : Bool) → DefaultGivesIn cx r b v ↔ DefaultGivesIn dx s b v
     default_gives_alike v =
-        gives_alike _ _ (leaves_give_alike cx dx o.one o.byte_packages (λ _. Unit {0}) (λ _. Unit {0}) (λ x. same (Unit {0})) b byte_binary)
+        gives_alike _ _ (leaves_give_alike cx dx o.one o.byte_packages o.byte_on (λ _. Unit {0}) (λ _. Unit {0}) (λ x. same (Unit {0})) b byte_binary)
         r.default s.default (defaults_alike w.default_filter r.default s.default o.of_first.default o.of_second.default) v
 
     pub may_hold_alike : (f g : Formula FilterLeaf) → AlikeFormula f g → MayHoldIn cx r b f ↔ MayHoldIn dx s b g
     may_hold_alike f g alike =
-        gives_alike _ _ (leaves_give_alike cx dx o.one o.byte_packages (DefaultGivesIn cx r b) (DefaultGivesIn dx s b) default_gives_alike b byte_binary) f g alike true
+        gives_alike _ _ (leaves_give_alike cx dx o.one o.byte_packages o.byte_on (DefaultGivesIn cx r b) (DefaultGivesIn dx s b) default_gives_alike b byte_binary) f g alike true
 
 module _ {w : Workspace} {cx dx : ContextValue} {r s : FilterReadings} (o : AreOneReading w cx dx r s) (t : asked.Test) (byte_binary : IsByteBinary t.binary) (byte_test : AreBytes t.name) where
   group_too : (a b : NameTest) → SuitAlike a b → IsInGroup cx r t a → IsInGroup dx s t b
@@ -114,4 +116,4 @@ module _ {w : Workspace} {cx dx : ContextValue} {r s : FilterReadings} (o : AreO
 
   pub holds_in_alike : (f g : Formula FilterLeaf) → AlikeFormula f g → HoldsIn cx r t f ↔ HoldsIn dx s t g
   holds_in_alike f g alike =
-      holds_alike _ _ (leaves_hold_alike cx dx o.one o.byte_packages (IsInGroup cx r t) (IsInGroup dx s t) in_groups_alike (DefaultHoldsIn cx r t) (DefaultHoldsIn dx s t) (default_holds_alike o t byte_binary byte_test) t byte_binary byte_test) f g alike
+      holds_alike _ _ (leaves_hold_alike cx dx o.one o.byte_packages o.byte_on (IsInGroup cx r t) (IsInGroup dx s t) in_groups_alike (DefaultHoldsIn cx r t) (DefaultHoldsIn dx s t) (default_holds_alike o t byte_binary byte_test) t byte_binary byte_test) f g alike

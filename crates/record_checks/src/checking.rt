@@ -54,7 +54,7 @@ fn check_over(
     requires declared { IsDeclaredGraph record.now graph.now }
     ensures { ChecksFilters record.now result }
 {
-    let cx = context_over(alloc, graph, graph)?;
+    let cx = context_over(alloc, graph, graph, &[])?;
     match record_filters(alloc, record, &cx) {
         Ok(_) => Ok(()),
         Err(refused) => Err(refused),

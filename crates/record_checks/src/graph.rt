@@ -1,12 +1,13 @@
 //! The graph of a record's packages, and the packages over which its filters are matched.
 
-ghost use Rattle.std.specs.Prelude.{◌≡◌, IfErr, IfOk};
+ghost use Rattle.std.specs.Prelude.{◌≡◌, IfErr, IfOk, map};
 ghost use Rattle.guppy_package_table.specs.Refusals.{IsRefusal};
 ghost use Rattle.guppy_package_table.specs.Tables.{ids_of};
 ghost use Rattle.nextest_filtering.specs.Contexts.{IsContextOf};
+ghost use Rattle.nextest_filtering.specs.ContextViews.{listed_as};
 ghost use Rattle.record_checks.specs.Contexts.{IsDeclaredGraph, IsNeeded};
 
-use guppy_package_graph::{PackageGraph, PackageGraphError};
+use guppy_package_graph::{PackageGraph, PackageGraphError, PackageId};
 use nextest_filtering::ParseContext;
 use std::alloc::{AllocError, Global};
 use workspace_record::WorkspaceRecord;
@@ -25,16 +26,19 @@ pub fn graph_of(alloc: Global, record: &WorkspaceRecord) -> Result<PackageGraph,
 }
 
 /// The context of filters whose names are matched over the packages to which declared links lead from
-/// the members, and whose paths follow the links of `followed`, a graph of the same packages.
+/// the members, whose paths follow the links of `followed`, a graph of the same packages, and in which
+/// these features are said to be on.
 pub fn context_over<'g>(
     alloc: Global,
     declared: &PackageGraph,
     followed: &'g PackageGraph,
+    on: &[(PackageId, String)],
 ) -> Result<ParseContext<'g>, AllocError>
     requires same { ids_of followed.now.packages ≡ ids_of declared.now.packages }
     ensures context { IfOk result (IsContextOf followed.now declared.now (IsNeeded declared.now)) }
+    ensures on { IfOk result (λ cx. cx.on ≡ map listed_as on.now) }
 {
     let query = declared.query_workspace(alloc)?;
     let needed = query.resolve(alloc)?;
-    ParseContext::with_packages(alloc, followed, &needed)
+    ParseContext::with_features(alloc, followed, &needed, on)
 }

@@ -64,6 +64,7 @@ module _ (cx : ContextValue) where
   leaf_takes member default gives t d (Named names.BinaryId test span) = known _
   leaf_takes member default gives t d (Named names.Test test span) = unknown _
   leaf_takes member default gives t d (Named names.Group test span) = unknown _
+  leaf_takes member default gives t d (Named names.Feature test span) = known _
   leaf_takes member default gives t d (Platform platform span) = known _
   leaf_takes member default gives t d (Default span) = d
   leaf_takes member default gives t d All = known _

@@ -29,6 +29,7 @@ use Rattle.selection_making.specs.Queries.{binary_asked, test_asked}
 use Rattle.question_filters.specs.QuestionFilters.{CompiledQuestion}
 use Rattle.selection_making.specs.Questions.{Question}
 use Rattle.question_filters.specs.Following.{IsFollowedIn}
+use Rattle.question_filters.specs.NamedFeatures.{AreNamedOn}
 use Rattle.selection_making.specs.Readings.{AreReadAs, AreReadings, Readings}
 use Rattle.selection_making.specs.Selecting.{IsAvailableBinary, IsWanted, IsAsked}
 use Rattle.selection_making.proofs.PassFacts.{may_iff, pass_iff, texts_accepted, texts_read}
@@ -46,7 +47,7 @@ module _ (q : Question) (on : List FeatureValue) (are_on : AreOn q.workspace q.c
   abbrev IsIn : FeatureValue → Type 0
   IsIn f = Contains on f
 
-  module _ (filters : CompiledQuestion) (cx : ContextValue) (names : HasNamesOf q.workspace cx) (followed : IsFollowedIn q.scope q.workspace on q.table cx.graph) (are : AreFiltersIn cx q.workspace q.texts filters) where
+  module _ (filters : CompiledQuestion) (cx : ContextValue) (names : HasNamesOf q.workspace cx) (followed : IsFollowedIn q.scope q.workspace on q.table cx.graph × AreNamedOn on cx.on) (are : AreFiltersIn cx q.workspace q.texts filters) where
     abbrev of_record : (r : FilterReadings) × AreReadingsOf q.workspace r × AreMadeOf cx r filters.filters
     of_record = readings_of cx q.workspace filters.filters are.filters
 
@@ -126,7 +127,7 @@ module _ (q : Question) (on : List FeatureValue) (are_on : AreOn q.workspace q.c
       }
 
   -- what is refused while the filters are compiled is refused
-  pub plan_err : (e : SelectError) → Filters (λ cx. HasNamesOf q.workspace cx × IsFollowedIn q.scope q.workspace on q.table cx.graph) q.workspace q.texts (Err e) → Plans q (Err e)
+  pub plan_err : (e : SelectError) → Filters (λ cx. HasNamesOf q.workspace cx × IsFollowedIn q.scope q.workspace on q.table cx.graph × AreNamedOn on cx.on) q.workspace q.texts (Err e) → Plans q (Err e)
   plan_err (Record (refused.Broken rule place)) h = h
   plan_err (Record (refused.Filter place errors)) h = (are_on.served.checked.0, h)
   plan_err (Record refused.Memory) h = absurd h

@@ -9,6 +9,7 @@ use Rattle.workspace_record.specs.declared.choice.PlatformTable.{PlatformTable}
 use Rattle.workspace_record.specs.declared.kinds.TargetKind.{TargetKind}
 use Rattle.workspace_record.specs.declared.kinds.TargetKind.TheVariants.{Lib, ProcMacro, Test, Bench, Bin, Example, BuildScript}
 use Rattle.feature_account.specs.Lines.{is_member}
+use Rattle.feature_account.specs.RuleList.{named_of}
 use Rattle.feature_switching.proofs.FeatureOrder.{feature_exact}
 use Rattle.graph_switching.specs.LinesOn.{links_on}
 use Rattle.guppy_package_table.specs.Tables.{TableValue}
@@ -23,12 +24,13 @@ use Rattle.nextest_filtering.proofs.SameFacts.{same}
 use Rattle.record_checks.specs.FilterTexts.{IsFilterOf}
 use Rattle.record_checks.specs.Switching.{AreOn}
 use Rattle.record_checks.proofs.AlikeFacts.{alike_back, alike_there}
-use Rattle.record_checks.proofs.OneReadingFacts.{AreOneReading, all_alike, default_gives_alike, default_holds_alike, holds_in_alike, may_hold_alike, texts_alike}
+use Rattle.record_checks.proofs.OneReadingFacts.{AreOneReading, all_alike, default_gives_alike, default_holds_alike, holds_in_alike, may_hold_alike, other_way, texts_alike}
 use Rattle.record_checks.proofs.OneRecordFacts.{byte_packages, one_context}
-use Rattle.selection_making.specs.Laws.{HasByteTests, HasByteTexts, SayTheSame}
+use Rattle.selection_making.specs.Laws.{HasByteFeatures, HasByteTests, HasByteTexts, SayTheSame}
 use Rattle.selection_making.specs.Queries.{binary_asked, test_asked}
 use Rattle.selection_making.specs.Questions.{Question, WantedIn}
 use Rattle.question_filters.specs.Following.{IsFollowedIn}
+use Rattle.question_filters.specs.NamedFeatures.{AreNamedOn}
 use Rattle.selection_making.specs.Readings.{AreReadAs, AreReadings, Readings}
 use Rattle.selection_making.specs.Selecting.{IsAvailableBinary, IsChosen, IsLetThrough, IsWanted}
 use Rattle.selection_making.specs.declared.asked_binaries.AskedBinaries.{AskedBinaries}
@@ -53,11 +55,11 @@ module _ (on : List FeatureValue) (table : PlatformTable) where
       ap (λ ps. links_of_rows ps g.links g.workspace) packages ∙ ap (λ ls. links_of_rows h.packages ls g.workspace) links ∙ ap (λ w. links_of_rows h.packages h.links w) workspace
 
 -- two graphs that are followed have the same packages and links
-record HaveSameRows (g h : TableValue) : Type 0 where
-  packages : g.packages ≡ h.packages
-  links : g.links ≡ h.links
+pub record HaveSameRows (g h : TableValue) : Type 0 where
+  pub packages : g.packages ≡ h.packages
+  pub links : g.links ≡ h.links
 
-one_followed : (scope : LinkScope) (w : Workspace) (on : List FeatureValue) (table : PlatformTable) (g h : TableValue) → IsFollowedIn scope w on table g → IsFollowedIn scope w on table h → HaveSameRows g h
+pub one_followed : (scope : LinkScope) (w : Workspace) (on : List FeatureValue) (table : PlatformTable) (g h : TableValue) → IsFollowedIn scope w on table g → IsFollowedIn scope w on table h → HaveSameRows g h
 one_followed Declared w on table g h p q = record { packages = p.rows ∙ sym q.rows; links = p.link_rows ∙ sym q.link_rows }
 one_followed SwitchedOn w on table g h (d, is_d, p) (e, is_e, q) =
     let packages : d.packages ≡ e.packages = is_d.rows ∙ sym is_e.rows in
@@ -109,26 +111,12 @@ text_too (text ∷ texts) fs gs p q f inside =
     (g, there, texts_alike t f g of_f of_g)
 
 module _ (q : Question) (bytes : HasByteTexts q.workspace) where
-  one_reading : (r s : Readings) → AreReadings q r → AreReadings q s → AreOneReading q.workspace r.context s.context r.filters s.filters
-  one_reading r s p o =
-      let (on, is_on, followed) = p.followed in
-      let (other, is_other, too) = o.followed in
-      let rows = one_followed q.scope q.workspace on q.table r.context.graph s.context.graph followed (subst (λ (xs : List FeatureValue). IsFollowedIn q.scope q.workspace xs q.table s.context.graph) (one_on q other on is_other is_on) too) in
-      record {
-        one = one_context q.workspace r.context s.context p.names o.names rows.packages rows.links;
-        byte_packages = byte_packages q.workspace r.context p.names bytes.packages;
-        byte_groups = bytes.groups;
-        of_first = p.filters;
-        of_second = o.filters;
-      }
-
-  -- what the one reading says, the other says too
-  module _ (r s : Readings) (p : AreReadings q r) (o : AreReadings q s) where
+  -- what the one reading says, the other says too, where they are one but for their patterns
+  module _ (r s : Readings) (alike : AreOneReading q.workspace r.context s.context r.filters s.filters) (p : AreReadAs q.texts r.texts) (o : AreReadAs q.texts s.texts) where
     through_too : (b : Binary) → Contains (binaries q.workspace) b → IsLetThrough q r b → IsLetThrough q s b
     through_too b declared ((f, read, may_hold), by_default) =
-        let alike = one_reading r s p o in
         let asked = byte_binary q.workspace bytes b declared in
-        let (g, there, like) = text_too q.texts r.texts s.texts p.texts o.texts f read in
+        let (g, there, like) = text_too q.texts r.texts s.texts p o f read in
         ((g, there, (may_hold_alike alike (binary_asked b) asked f g like).0 may_hold), (default_gives_alike alike (binary_asked b) asked true).0 by_default)
 
     wanted_too : (b : Binary) → Contains (binaries q.workspace) b → (asks : AskedBinaries) → WantedIn asks (IsLetThrough q r b) → WantedIn asks (IsLetThrough q s b)
@@ -138,13 +126,12 @@ module _ (q : Question) (bytes : HasByteTexts q.workspace) where
     asked_too : (id : Text) → ((b : Binary) × (b.id ≡ id) × IsAvailableBinary q b × IsWanted q r b) → (b : Binary) × (b.id ≡ id) × IsAvailableBinary q b × IsWanted q s b
     asked_too id (b, is, available, wanted) = (b, is, available, wanted_too b available.declared q.asks wanted)
 
-    pub chosen_as_well : (listing_of : Text → Option (List Text)) → HasByteTests listing_of → (pair : Text × Text) → IsChosen q r listing_of pair → IsChosen q s listing_of pair
-    chosen_as_well listing_of byte_tests pair h =
-        let alike = one_reading r s p o in
+    chosen_too : (listing_of : Text → Option (List Text)) → HasByteTests listing_of → (pair : Text × Text) → IsChosen q r listing_of pair → IsChosen q s listing_of pair
+    chosen_too listing_of byte_tests pair h =
         let asked = byte_binary q.workspace bytes h.binary h.available.declared in
         let test = byte_tests h.binary.id h.names h.listing pair.1 h.listed in
         let (f, read, holds) = h.holds in
-        let (g, there, like) = text_too q.texts r.texts s.texts p.texts o.texts f read in
+        let (g, there, like) = text_too q.texts r.texts s.texts p o f read in
         record {
           binary = h.binary;
           available = h.available;
@@ -156,14 +143,36 @@ module _ (q : Question) (bytes : HasByteTexts q.workspace) where
           default_holds = (default_holds_alike alike (test_asked h.binary pair.1) asked test).0 h.default_holds;
         }
 
-  pub say_the_same : (r s : Readings) → AreReadings q r → AreReadings q s → SayTheSame q r s
-  say_the_same r s p o = record {
-    chosen = λ listing_of byte_tests pair. (chosen_as_well r s p o listing_of byte_tests pair, chosen_as_well s r o p listing_of byte_tests pair);
-    asked = λ ids. (
-      λ h. record { members = λ id. (λ i. asked_too r s p o id ((h.members id).0 i), λ b. (h.members id).1 (asked_too s r o p id b)); ascending = h.ascending },
-      λ h. record { members = λ id. (λ i. asked_too s r o p id ((h.members id).0 i), λ b. (h.members id).1 (asked_too r s p o id b)); ascending = h.ascending },
-    );
-  }
+  pub one_says_the_same : (r s : Readings) → AreOneReading q.workspace r.context s.context r.filters s.filters → AreReadAs q.texts r.texts → AreReadAs q.texts s.texts → SayTheSame q r s
+  one_says_the_same r s alike p o =
+      let back = other_way alike in
+      record {
+        chosen = λ listing_of byte_tests pair. (chosen_too r s alike p o listing_of byte_tests pair, chosen_too s r back o p listing_of byte_tests pair);
+        asked = λ ids. (
+          λ h. record { members = λ id. (λ i. asked_too r s alike p o id ((h.members id).0 i), λ b. (h.members id).1 (asked_too s r back o p id b)); ascending = h.ascending },
+          λ h. record { members = λ id. (λ i. asked_too s r back o p id ((h.members id).0 i), λ b. (h.members id).1 (asked_too r s alike p o id b)); ascending = h.ascending },
+        );
+      }
+
+  module _ (byte_features : HasByteFeatures q) where
+    one_reading : (r s : Readings) → AreReadings q r → AreReadings q s → AreOneReading q.workspace r.context s.context r.filters s.filters
+    one_reading r s p o =
+        let (on, is_on, followed, named) = p.followed in
+        let (other, is_other, too, again) = o.followed in
+        let same_on = one_on q other on is_other is_on in
+        let rows = one_followed q.scope q.workspace on q.table r.context.graph s.context.graph followed (subst (λ (xs : List FeatureValue). IsFollowedIn q.scope q.workspace xs q.table s.context.graph) same_on too) in
+        let named_too = subst (λ (xs : List FeatureValue). AreNamedOn xs s.context.on) same_on again in
+        record {
+          one = one_context q.workspace r.context s.context p.names o.names rows.packages rows.links (λ f. (λ h. (named_too f).1 ((named f).0 h), λ h. (named f).1 ((named_too f).0 h)));
+          byte_packages = byte_packages q.workspace r.context p.names bytes.packages;
+          byte_on = λ f listed. byte_features f.0 f.1 ((is_on.members (named_of f.0 f.1)).0 ((named f).0 listed));
+          byte_groups = bytes.groups;
+          of_first = p.filters;
+          of_second = o.filters;
+        }
+
+    pub say_the_same : (r s : Readings) → AreReadings q r → AreReadings q s → SayTheSame q r s
+    say_the_same r s p o = one_says_the_same r s (one_reading r s p o) p.texts o.texts
 
 -- the filters of a question are read alike, whichever binaries are asked
 pub read_before : (q : Question) (asks : AskedBinaries) (s : Readings) → AreReadings (record q { asks = asks }) s → AreReadings q s

@@ -63,7 +63,7 @@ module _ (q : Question) where
       one_ascending text_total text_exact a a b itself other
 
   -- where a text and the default filter hold of a test, it is not denied that its binary is let through
-  let_through_twice : (r : Readings) (b : Binary) (test : Text) → TextsHold q r b test → DefaultHolds q r b test → (IsLetThrough q r b → ⊥) → ⊥
+  pub let_through_twice : (r : Readings) (b : Binary) (test : Text) → TextsHold q r b test → DefaultHolds q r b test → (IsLetThrough q r b → ⊥) → ⊥
   let_through_twice r b test h default out =
       filter_may r.context r.filters (test_asked b test) h.0 h.2 (λ may. default_may r.context r.filters (test_asked b test) default (λ gives. out ((h.0, h.1, may), gives)))
 

@@ -2,7 +2,8 @@
 use Rattle.std.specs.Prelude.{◌≡◌, ◌↔◌, List, Option, Some, Contains}
 use Rattle.workspace_record.specs.Records.{Group, Package, Target, Text, Workspace}
 use Rattle.nextest_filtering.specs.SameFilters.{AreBytes}
-use Rattle.selection_making.specs.Questions.{Question}
+use Rattle.feature_account.specs.RuleList.{named_of}
+use Rattle.selection_making.specs.Questions.{IsFeatureOn, Question}
 use Rattle.selection_making.specs.Readings.{AreReadings, Readings}
 use Rattle.selection_making.specs.Selecting.{IsAsked, IsChosen, IsReport}
 use Rattle.selection_making.specs.declared.asked_binaries.AskedBinaries.{AskedBinaries}
@@ -12,6 +13,10 @@ pub record HasByteTexts (w : Workspace) : Type 0 where
   pub packages : (p : Package) → Contains w.packages p → AreBytes p.name
   pub targets : (p : Package) → Contains w.packages p → (t : Target) → Contains p.targets t → AreBytes t.name
   pub groups : (g : Group) → Contains w.groups g → AreBytes g.name
+
+-- the names of the features that are on are
+abbrev pub HasByteFeatures : Question → Type 0
+HasByteFeatures q = (id name : Text) → IsFeatureOn q (named_of id name) → AreBytes name
 
 -- the names of the tests are
 abbrev pub HasByteTests : (Text → Option (List Text)) → Type 0
@@ -24,13 +29,23 @@ pub record SayTheSame (q : Question) (r s : Readings) : Type 0 where
 
 -- in whichever way the filters of a question are read, they say the same
 abbrev pub ReadingsSayTheSame : Type 0
-ReadingsSayTheSame = (q : Question) (r s : Readings) → HasByteTexts q.workspace → AreReadings q r → AreReadings q s → SayTheSame q r s
+ReadingsSayTheSame = (q : Question) (r s : Readings) → HasByteTexts q.workspace → HasByteFeatures q → AreReadings q r → AreReadings q s → SayTheSame q r s
+
+-- a binary that is not asked has no chosen test
+abbrev pub UnaskedHaveNoChosenTest : Type 0
+UnaskedHaveNoChosenTest =
+    (q : Question) (r : Readings) (ids : List Text) (listing_of : Text → Option (List Text)) (pair : Text × Text)
+    → IsAsked q r ids
+    → (Contains ids pair.0 → ⊥)
+    → IsChosen q r listing_of pair
+    → ⊥
 
 -- over the same listings, a question has one report, whichever binaries are asked
 abbrev pub ReportsAgree : Type 0
 ReportsAgree =
     (q : Question) (r s : Readings) (asks : AskedBinaries) (listing_of : Text → Option (List Text)) (pairs others : List (Text × Text))
     → HasByteTexts q.workspace
+    → HasByteFeatures q
     → HasByteTests listing_of
     → AreReadings q r
     → AreReadings (record q { asks = asks }) s

@@ -2,7 +2,6 @@
 use Rattle.std.specs.Prelude.{◌≡◌, List, [], ◌∷◌}
 use Rattle.workspace_record.specs.Records.{Text}
 use Rattle.workspace_record.specs.Features.{FeatureValue}
-use Rattle.guppy_package_table.specs.Tables.{TableValue}
 use Rattle.nextest_filter_queries.specs.declared.groups.KnownGroups.{KnownGroups}
 use Rattle.nextest_filter_evaluation.specs.Formulas.{Formula, leaf}
 use Rattle.nextest_filtering.specs.Contexts.{ContextValue}
@@ -16,6 +15,7 @@ use Rattle.record_checks.specs.RecordFilters.{AreReadingsOf, FilterReadings}
 use Rattle.record_checks.specs.Switching.{AreOn}
 use Rattle.selection_making.specs.Questions.{Question}
 use Rattle.question_filters.specs.Following.{IsFollowedIn}
+use Rattle.question_filters.specs.NamedFeatures.{AreNamedOn}
 
 -- what the texts read as; where none is given, the filter of all tests
 abbrev pub AreReadAs : List Text → List (Formula FilterLeaf) → Type 0
@@ -30,14 +30,14 @@ pub record Readings : Type 0 where
   pub texts : List (Formula FilterLeaf)
 
 module _ (q : Question) where
-  -- paths follow the links of the graph
-  abbrev pub IsFollowed : TableValue → Type 0
-  IsFollowed g = (on : List FeatureValue) × AreOn q.workspace q.choice q.table on × IsFollowedIn q.scope q.workspace on q.table g
+  -- where these features are on, paths follow the links of the scope, and the named ones among them are said to be on
+  abbrev pub IsFollowed : ContextValue → Type 0
+  IsFollowed cx = (on : List FeatureValue) × AreOn q.workspace q.choice q.table on × IsFollowedIn q.scope q.workspace on q.table cx.graph × AreNamedOn on cx.on
 
-  -- names are matched over what the members need by declared links, paths follow the links of the scope, and each filter is what its text reads as
+  -- names are matched over what the members need by declared links, paths follow the links of the scope, features are those that are on, and each filter is what its text reads as
   pub record AreReadings (r : Readings) : Type 0 where
     pub names : HasNamesOf q.workspace r.context
-    pub followed : IsFollowed r.context.graph
+    pub followed : IsFollowed r.context
     pub groups : AreGroupsOf q.workspace r.groups
     pub filters : AreReadingsOf q.workspace r.filters
     pub texts : AreReadAs q.texts r.texts

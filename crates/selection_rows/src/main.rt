@@ -1,5 +1,6 @@
 //! Selections over records, choices, tables and listings, and runs of the program `test_select` on
-//! files and words, compared with what each has to answer, ask and print.
+//! files and words, those of `examples/cargo_workspace` too, compared with what each has to answer, ask
+//! and print.
 #![tactic(auto)]
 
 mod runs;
@@ -14,6 +15,7 @@ use std::{fs, io};
 fn main(rt: HostRuntime) -> io::Result<ExitCode> {
     let selections = fs::read(&rt, "selections.json")?;
     let runs = fs::read(&rt, "runs.json")?;
+    let example = fs::read(&rt, "example.json")?;
     let alloc = rt.alloc();
     let mut out = rt.stdout();
     let mut same = true;
@@ -25,5 +27,6 @@ fn main(rt: HostRuntime) -> io::Result<ExitCode> {
         &mut out,
     )?;
     same &= run_rows(alloc, "runs", &runs, &mut ProgramRows, &mut out)?;
+    same &= run_rows(alloc, "example", &example, &mut ProgramRows, &mut out)?;
     Ok(ExitCode::from(if same { 0 } else { 1 }))
 }

@@ -15,7 +15,7 @@ use serde_json::Value;
 use std::alloc::{AllocError, Global};
 
 /// Rows of one filter each: its `text` and its `kind` (test, archive, override or default), over the
-/// `record`, and over the packages under `context`; `groups` are known, and `default` is the filter
+/// `record`, and over the packages under `context`, with the features under `on`; `groups` are known, and `default` is the filter
 /// that stands for `default()`, all tests where there is none. Asked are the `owners`, `binary_names`, `binary_kinds`, `platforms` or
 /// `test_names` that are listed, with `owner`, `binary_name`, `binary_kind`, `built_for` and
 /// `test_name` for the rest, of tests in the group `member_of`. Told is besides whether a group is
@@ -30,6 +30,7 @@ impl RowRunner for CompiledRows {
             "text",
             "kind",
             "context",
+            "on",
             "groups",
             "default",
             "owners",

@@ -21,7 +21,8 @@ fn graph_of(alloc: Global, record: WorkspaceRecord) -> Result<PackageGraph, Pack
     PackageGraph::from_records(alloc, packages, links, workspace)
 }
 
-/// The context of the packages under `context`; of the members where there are none.
+/// The context of the packages under `context`, in which the features under `on` are said to be on; of
+/// the members where there are no packages.
 pub(crate) fn context_in<'g>(
     alloc: Global,
     row: Row<'_>,
@@ -32,7 +33,9 @@ pub(crate) fn context_in<'g>(
         return Ok(ParseContext::new(alloc, graph)?);
     }
     let ids = ids_of(alloc, &texts)?;
-    context_of(alloc, graph, &ids)
+    let on = row.texts(alloc, "on")?;
+    let features = features_of(alloc, &on)?;
+    context_of(alloc, graph, &ids, &features)
 }
 
 fn ids_of(alloc: Global, texts: &[&str]) -> Result<Vec<PackageId>, AllocError> {
@@ -43,14 +46,29 @@ fn ids_of(alloc: Global, texts: &[&str]) -> Result<Vec<PackageId>, AllocError> {
     Ok(ids)
 }
 
+/// The features that texts such as `util/simd` name.
+fn features_of(alloc: Global, texts: &[&str]) -> Result<Vec<(PackageId, String)>, RowFault> {
+    let mut features = Vec::new(alloc);
+    for text in texts {
+        let Some((package, name)) = text.split_once('/') else {
+            return Err(RowFault::Key("on"));
+        };
+        let id = PackageId::new(String::from_str(alloc, package)?);
+        features.push((id, String::from_str(alloc, name)?))?;
+    }
+    Ok(features)
+}
+
 fn context_of<'g>(
     alloc: Global,
     graph: &'g PackageGraph,
     ids: &[PackageId],
+    on: &[(PackageId, String)],
 ) -> Result<ParseContext<'g>, RowFault> {
     let lent = lent(alloc, ids)?;
     match graph.resolve_ids(alloc, &lent) {
-        Ok(set) => Ok(ParseContext::with_packages(alloc, graph, &set)?),
+        Ok(set) if on.is_empty() => Ok(ParseContext::with_packages(alloc, graph, &set)?),
+        Ok(set) => Ok(ParseContext::with_features(alloc, graph, &set, on)?),
         Err(error) => Err(RowFault::Refused(format!(in alloc; "{error}")?)),
     }
 }

@@ -218,6 +218,7 @@ fn span_of(leaf: &ParsedLeaf) -> Option<SourceSpan> {
         | ParsedLeaf::Platform(_, span)
         | ParsedLeaf::Test(_, span)
         | ParsedLeaf::Group(_, span)
+        | ParsedLeaf::Feature(_, span)
         | ParsedLeaf::Default(span) => Some(*span),
         ParsedLeaf::All | ParsedLeaf::None => None,
     }

@@ -18,3 +18,6 @@ returns-in_ok-matcher-in-BinaryId-clause-faults c = rw c.in-BinaryId.is (expecte
 
 pub returns-in_ok-matcher-in-Group-clause-faults : goal.returns-in_ok-matcher-in-Group-clause-faults
 returns-in_ok-matcher-in-Group-clause-faults c = rw c.in-Group.is (expected _ _ _ _ _ c.in_ok-is_some-in-Group.ensures.some c.in_ok-expect-in-Group.ensures)
+
+pub returns-in_ok-packages-in-Feature-clause-faults : goal.returns-in_ok-packages-in-Feature-clause-faults
+returns-in_ok-packages-in-Feature-clause-faults c = rw c.in-Feature.is c.in_ok-packages-in-Feature.ensures.faults

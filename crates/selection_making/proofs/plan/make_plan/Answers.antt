@@ -15,4 +15,4 @@ pub returns : goal.returns
 returns c =
     let q : Question = record { workspace = c.args.record.now; choice = c.args.choice.now; table = c.args.table.now; scope = c.args.scope; texts = map (λ t. t.now) c.args.texts.now; asks = c.args.asks } in
     let f = c.in_ok-filters.ensures in
-    plan_made q c.in_ok-on.on c.in_ok-on.ensures (question_view c.in_ok-filters.filters) f.0 f.1.0 f.1.1 f.2 c.in_ok-let_through.field-0.items c.in_ok-asked.asked.items c.in_ok-let_through.ensures c.in_ok-asked.ensures.ascending c.in_ok-asked.ensures.all_of_them
+    plan_made q c.in_ok-on.on c.in_ok-on.ensures (question_view c.in_ok-filters.filters) f.0 f.1.0 (f.1.1, f.1.2) f.2 c.in_ok-let_through.field-0.items c.in_ok-asked.asked.items c.in_ok-let_through.ensures c.in_ok-asked.ensures.ascending c.in_ok-asked.ensures.all_of_them
