@@ -1,25 +1,36 @@
--- Selections over declared links look at a choice only for which binaries are available.
-use Rattle.std.proofs.Common.{List, Option}
+-- Selections over declared links look at a choice only for which binaries are available, where no filter names features.
+use Rattle.std.proofs.Common.{List, [], Contains, Option}
+use Rattle.list_facts.proofs.Membership.{Contains-none}
 use Rattle.workspace_record.specs.Records.{Text, Workspace}
 use Rattle.workspace_record.specs.Choices.{Choice}
 use Rattle.workspace_record.specs.declared.choice.PlatformTable.{PlatformTable}
+use Rattle.nextest_filtering.proofs.SameFacts.{same}
+use Rattle.record_checks.proofs.OneReadingFacts.{AreOneReading}
+use Rattle.record_checks.proofs.OneRecordFacts.{byte_packages, one_context}
+use Rattle.selection_making.specs.Laws.{HasByteTexts}
 use Rattle.selection_making.specs.Readings.{AreReadings, Readings}
 use Rattle.selection_making.specs.Selecting.{IsAsked, IsChosen}
 use Rattle.selection_making.specs.declared.asked_binaries.AskedBinaries.{AskedBinaries}
-use Rattle.selection_making.proofs.ReadingFacts.{say_the_same}
+use Rattle.selection_making.proofs.ReadingFacts.{one_followed, one_says_the_same}
 use Rattle.selection_making.proofs.SelectingFacts.{one_asked, one_report}
+use Rattle.question_filters.specs.declared.scope.LinkScope.TheVariants.{Declared}
 use Rattle.scope_laws.specs.Laws.{AreAvailableAlike, DeclaredSelectionsAgree, over_declared}
+use Rattle.scope_laws.proofs.PlainFacts.{asked_plain, chosen_plain, plain, plain_names}
 
 module _ (w : Workspace) (texts : List Text) (asks : AskedBinaries) (choice other : Choice) (table known : PlatformTable) where
-  -- a reading of the one question is one of the other
-  read_here : (r s : Readings) → AreReadings (over_declared w texts asks choice table) r → AreReadings (over_declared w texts asks other known) s → AreReadings (over_declared w texts asks choice table) s
-  read_here r s o h = record {
-    names = h.names;
-    followed = (o.followed.0, o.followed.1, h.followed.2);
-    groups = h.groups;
-    filters = h.filters;
-    texts = h.texts;
-  }
+  -- with nothing said to be on, the readings of both questions are one but for their patterns
+  one_plain : HasByteTexts w → (r s : Readings) → AreReadings (over_declared w texts asks choice table) r → AreReadings (over_declared w texts asks other known) s → AreOneReading w (plain r).context (plain s).context r.filters s.filters
+  one_plain bytes r s p o =
+      let names = plain_names w r.context p.names in
+      let rows = one_followed Declared w p.followed.0 table r.context.graph s.context.graph p.followed.2 o.followed.2 in
+      record {
+        one = one_context w (plain r).context (plain s).context names (plain_names w s.context o.names) rows.packages rows.links (λ f. same (Contains [] f));
+        byte_packages = byte_packages w (plain r).context names bytes.packages;
+        byte_on = λ f listed. absurd (Contains-none f listed);
+        byte_groups = bytes.groups;
+        of_first = p.filters;
+        of_second = o.filters;
+      }
 
   module _ (alike : AreAvailableAlike (over_declared w texts asks choice table) (over_declared w texts asks other known)) (s : Readings) where
     chosen_there : (listing_of : Text → Option (List Text)) (pair : Text × Text) → IsChosen (over_declared w texts asks choice table) s listing_of pair → IsChosen (over_declared w texts asks other known) s listing_of pair
@@ -56,17 +67,22 @@ module _ (w : Workspace) (texts : List Text) (asks : AskedBinaries) (choice othe
     }
 
 pub selections_agree : DeclaredSelectionsAgree
-selections_agree w texts asks choice other table known r s bytes p o alike =
-    let both = read_here w texts asks choice other table known r s p o in
-    let same = say_the_same (over_declared w texts asks choice table) bytes r s p both in
+selections_agree w texts asks choice other table known r s bytes p o none nor alike =
+    let mine = over_declared w texts asks choice table in
+    let theirs = over_declared w texts asks other known in
+    let says = one_says_the_same mine bytes (plain r) (plain s) (one_plain w texts asks choice other table known bytes r s p o) p.texts o.texts in
     record {
       reports = λ listing_of pairs others byte_tests report told.
           one_report
           (λ pair. (
-            λ h. (told.members pair).1 (chosen_there w texts asks choice other table known alike s listing_of pair ((same.chosen listing_of byte_tests pair).0 ((report.members pair).0 h))),
-            λ h. (report.members pair).1 ((same.chosen listing_of byte_tests pair).1 (chosen_here w texts asks choice other table known alike s listing_of pair ((told.members pair).0 h))),
+            λ h. let here = (says.chosen listing_of byte_tests pair).0 ((chosen_plain r none mine listing_of pair).0 ((report.members pair).0 h)) in
+                (told.members pair).1 ((chosen_plain s nor theirs listing_of pair).1 (chosen_there w texts asks choice other table known alike (plain s) listing_of pair here)),
+            λ h. let there = (chosen_plain s nor theirs listing_of pair).0 ((told.members pair).0 h) in
+                (report.members pair).1 ((chosen_plain r none mine listing_of pair).1 ((says.chosen listing_of byte_tests pair).1 (chosen_here w texts asks choice other table known alike (plain s) listing_of pair there))),
           ))
           report.ascending told.ascending;
-      asked = λ ids others mine told.
-          one_asked (over_declared w texts asks choice table) r ids others mine ((same.asked others).1 (asked_here w texts asks choice other table known alike s others told));
+      asked = λ ids others own told.
+          let there = (asked_plain s nor theirs others).0 told in
+          let here = (says.asked others).1 (asked_here w texts asks choice other table known alike (plain s) others there) in
+          one_asked mine r ids others own ((asked_plain r none mine others).1 here);
     }

@@ -1,2 +1,4 @@
+mod AcceptedFacts
 mod AgreeFacts
 mod PathFacts
+mod PlainFacts

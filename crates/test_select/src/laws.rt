@@ -13,5 +13,9 @@ pub use kept_records::laws::{
     workspace_packages_are_on,
 };
 pub use line_verdicts::laws::{edges_close_as_demands_do, edges_close_as_rules_do};
-pub use scope_laws::laws::{declared_selections_agree, switched_dependencies_are_declared};
-pub use selection_making::laws::{readings_say_the_same, reports_agree};
+pub use scope_laws::laws::{
+    accepted_texts_agree, declared_selections_agree, switched_dependencies_are_declared,
+};
+pub use selection_making::laws::{
+    readings_say_the_same, reports_agree, unasked_binaries_have_no_chosen_test,
+};
