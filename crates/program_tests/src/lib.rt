@@ -6,3 +6,5 @@
 mod runs;
 #[cfg(test)]
 mod selections;
+#[cfg(test)]
+mod workspace;

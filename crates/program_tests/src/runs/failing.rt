@@ -1,29 +1,104 @@
 //! Runs whose streams fail.
 
-use crate::runs::files::TwoFiles;
+use crate::runs::files::Files;
 use crate::runs::streams::{FailingStream, UnflushedStream};
+use std::alloc::Global;
+use std::process::Abort;
 use test_select::run;
 
-const TESTS: [&str; 6] = [
+const TESTS: [&str; 8] = [
     "test_select",
     "tests",
     "--record",
     "record.json",
+    "--choice",
+    "choice.json",
     "--listings",
     "listings.json",
 ];
 
-/// What was taken is a beginning of the report.
-#[test]
-fn an_output_that_fails(rt: HostRuntime) {
-    let alloc = rt.alloc();
-    for left in [0, 1, 3, 5] {
+/// Each subcommand with its words, and what it prints.
+const RUNS: [(&[&str], &[u8]); 5] = [
+    (
+        &TESTS,
+        b"app one\napp::net get\nutil two\nutil::wide lanes\n",
+    ),
+    (
+        &[
+            "test_select",
+            "account",
+            "--record",
+            "record.json",
+            "--choice",
+            "choice.json",
+        ],
+        b"{\"rules\":[0,1,2,3,8,9]}\n",
+    ),
+    (
+        &[
+            "test_select",
+            "check",
+            "--record",
+            "record.json",
+            "--choice",
+            "choice.json",
+            "--account",
+            "account.json",
+        ],
+        b"accepted\n",
+    ),
+    (
+        &[
+            "test_select",
+            "explain",
+            "--record",
+            "record.json",
+            "--choice",
+            "choice.json",
+            "util",
+            "simd",
+        ],
+        b"{\"goal\":{\"package\":\"util\",\"feature\":\"simd\"},\"rules\":[2,3,8,9]}\n",
+    ),
+    (
+        &[
+            "test_select",
+            "order",
+            "--record",
+            "record.json",
+            "--choice",
+            "choice.json",
+        ],
+        b"util\napp\n",
+    ),
+];
+
+/// How many writes an output takes at most before a run here is whole.
+const WRITES: usize = 100;
+
+/// Asserts that a run whose output takes any smaller number of writes says that it cannot write, and
+/// that what was taken is a beginning of what the whole run prints.
+fn expect_each_cut(rt: &impl Abort, alloc: Global, words: &[&str], whole: &[u8]) {
+    for left in 0..WRITES {
         let mut out = FailingStream::new(alloc, left);
         let mut err = Vec::new(alloc);
-        let status = run(alloc, &TESTS, &mut TwoFiles, &mut out, &mut err);
-        assert_eq!(rt; err.as_slice(), b"cannot write\n".as_slice());
-        assert!(rt; b"a t1\nb t2\n".as_slice().starts_with(out.taken()));
+        let status = run(alloc, words, &mut Files, &mut out, &mut err);
+        if status == 0 {
+            assert_eq!(rt; out.taken(), whole);
+            assert!(rt; left > 0);
+            return;
+        }
         assert_eq!(rt; status, 1);
+        assert_eq!(rt; err.as_slice(), b"cannot write\n".as_slice());
+        assert!(rt; whole.starts_with(out.taken()));
+    }
+    assert!(rt; false, "no run was whole");
+}
+
+#[test]
+fn an_output_that_fails_at_each_write(rt: HostRuntime) {
+    for (words, whole) in RUNS {
+        expect_each_cut(&rt, rt.alloc(), words, whole);
     }
 }
 
@@ -32,7 +107,7 @@ fn an_output_that_is_not_flushed(rt: HostRuntime) {
     let alloc = rt.alloc();
     for words in [TESTS.as_slice(), &["test_select", "--help"]] {
         let mut err = Vec::new(alloc);
-        let status = run(alloc, words, &mut TwoFiles, &mut UnflushedStream, &mut err);
+        let status = run(alloc, words, &mut Files, &mut UnflushedStream, &mut err);
         assert_eq!(rt; err.as_slice(), b"cannot write\n".as_slice());
         assert_eq!(rt; status, 1);
     }
@@ -53,7 +128,7 @@ fn a_standard_error_that_fails(rt: HostRuntime) {
     for (words, left, want) in STATUSES {
         let mut out = FailingStream::new(alloc, left);
         let mut err = FailingStream::new(alloc, 0);
-        let status = run(alloc, words, &mut TwoFiles, &mut out, &mut err);
+        let status = run(alloc, words, &mut Files, &mut out, &mut err);
         assert_eq!(rt; status, want);
     }
 }

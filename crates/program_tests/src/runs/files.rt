@@ -1,28 +1,21 @@
 //! The files of the runs.
 
+use crate::workspace::{CHOICE, LISTINGS, RECORD};
 use std::alloc::Global;
 use test_select::{FileFault, FileSource};
 
-const RECORD: &[u8] = br#"{
-    "packages": [
-        {"id": "a", "name": "a", "version": "1.0.0", "targets": [{"kind": "lib", "name": "a"}]},
-        {"id": "b", "name": "b", "version": "1.0.0", "targets": [{"kind": "lib", "name": "b"}]}
-    ],
-    "workspace": {"members": [{"package": "a", "path": "a"}, {"package": "b", "path": "b"}]}
-}"#;
-
-const LISTINGS: &[u8] = br#"{"a": ["t1"], "b": ["t2"]}"#;
-
-/// A record, and under every other name the listings.
+/// A record, a choice, listings and an account, each under its name.
 #[derive(Drop)]
-pub(crate) struct TwoFiles;
+pub(crate) struct Files;
 
-impl FileSource for TwoFiles {
+impl FileSource for Files {
     fn read(&mut self, alloc: Global, name: &str) -> Result<Vec<u8>, FileFault> {
-        let bytes = if name == "record.json" {
-            RECORD
-        } else {
-            LISTINGS
+        let bytes = match name {
+            "record.json" => RECORD,
+            "choice.json" => CHOICE,
+            "listings.json" => LISTINGS,
+            "account.json" => b"{\"rules\":[0,1,2,3,8,9]}",
+            _ => return Err(FileFault::CannotRead),
         };
         bytes.to_vec(alloc).map_err(|_| FileFault::Memory)
     }

@@ -4,13 +4,14 @@ ghost use Rattle.std.specs.Prelude.{◌≡◌, ◌<◌, ◌++◌, ◌∷◌, [],
 ghost use Rattle.list_facts.specs.Texts.{texts};
 ghost use Rattle.test_lister.specs.Listers.{largest};
 
-use crate::selections::three_packages::select_all;
+use crate::selections::questions::select_all;
+use crate::workspace::{CHOICE, RECORD};
 use std::alloc::{AllocError, Global};
 use std::process::Abort;
 use std::test::Fail;
 use test_select::{BinaryInfo, ListFault, Listing, SelectError, Selection, TestLister};
 
-/// Fails at one call, holds one test for each binary, and writes down what it is told of it.
+/// Fails at one call, holds one test for each binary, and writes down all that it is told of it.
 #[derive(Drop)]
 struct FailingLister {
     alloc: Global,
@@ -82,18 +83,26 @@ fn failing(alloc: Global, failures: u64, fails_at: usize) -> FailingLister {
     }
 }
 
-/// Asserts how a selection over the lister ends, with how many ids asked, and with which count.
+/// Asserts how a selection over the lister ends, that the first of the workspace's ids were asked, how
+/// many, and with which count.
 fn expect_end(
     rt: &impl Abort,
     mut lister: FailingLister,
-    refused: &str,
+    plain: bool,
+    end: &str,
     asked: usize,
     failures: u64,
 ) -> Result<(), Fail> {
     let alloc = lister.alloc;
-    let end = end_text(alloc, select_all(alloc, &mut lister)?)?;
-    assert_eq!(rt; end.as_str(), refused);
+    let came = end_text(
+        alloc,
+        select_all(alloc, RECORD, CHOICE, plain, &mut lister)?,
+    )?;
+    assert_eq!(rt; came.as_str(), end);
     assert_eq!(rt; lister.asked.len(), asked);
+    for (id, wanted) in lister.asked.iter().zip(IDS) {
+        assert_eq!(rt; id.as_str(), wanted);
+    }
     assert_eq!(rt; lister.failures, failures);
     Ok(())
 }
@@ -105,35 +114,62 @@ fn end_text(alloc: Global, answer: Result<Selection, SelectError>) -> Result<Str
     }
 }
 
+const IDS: [&str; 4] = ["app", "app::net", "util", "util::wide"];
+
 /// At which call the lister fails, its count before, how the selection ends, how many ids were asked,
 /// and the count after.
-const ENDS: [(usize, u64, &str, usize, u64); 8] = [
-    (0, 0, "lister: a", 1, 1),
-    (1, 5, "lister: b-b", 2, 6),
-    (2, u64::MAX - 1, "lister: c", 3, u64::MAX),
-    (0, u64::MAX - 1, "lister: a", 1, u64::MAX),
-    (3, 5, "3 chosen", 3, 5),
-    (3, u64::MAX - 1, "3 chosen", 3, u64::MAX - 1),
-    (0, u64::MAX, "lister: a", 1, u64::MAX),
-    (3, u64::MAX, "lister: a", 1, u64::MAX),
+const ENDS: [(usize, u64, &str, usize, u64); 9] = [
+    (0, 0, "lister: app", 1, 1),
+    (1, 5, "lister: app::net", 2, 6),
+    (2, 0, "lister: util", 3, 1),
+    (3, u64::MAX - 1, "lister: util::wide", 4, u64::MAX),
+    (0, u64::MAX - 1, "lister: app", 1, u64::MAX),
+    (4, 5, "4 chosen", 4, 5),
+    (4, u64::MAX - 1, "4 chosen", 4, u64::MAX - 1),
+    (0, u64::MAX, "lister: app", 1, u64::MAX),
+    (4, u64::MAX, "lister: app", 1, u64::MAX),
 ];
 
 #[test]
 fn a_lister_that_fails(rt: HostRuntime) -> Result<(), Fail> {
-    for (fails_at, before, refused, asked, after) in ENDS {
-        let lister = failing(rt.alloc(), before, fails_at);
-        expect_end(&rt, lister, refused, asked, after)?;
+    for (fails_at, before, end, asked, after) in ENDS {
+        for plain in [false, true] {
+            let lister = failing(rt.alloc(), before, fails_at);
+            expect_end(&rt, lister, plain, end, asked, after)?;
+        }
     }
     Ok(())
 }
 
+/// One target of each kind: a procedural macro, of which its tests run on the host, and a test binary
+/// among them.
+const KINDS: &[u8] = br#"{
+    "packages": [{
+        "id": "p 1.0.0", "name": "p-q", "version": "1.0.0",
+        "targets": [
+            {"kind": "proc-macro", "name": "p_q"},
+            {"kind": "test", "name": "t"},
+            {"kind": "bench", "name": "b"},
+            {"kind": "bin", "name": "c"},
+            {"kind": "example", "name": "e"}
+        ]
+    }],
+    "workspace": {"members": [{"package": "p 1.0.0", "path": "p"}]}
+}"#;
+
 #[test]
 fn what_a_lister_is_told(rt: HostRuntime) -> Result<(), Fail> {
-    let mut lister = failing(rt.alloc(), 0, 3);
-    let answer = select_all(rt.alloc(), &mut lister)?;
-    assert!(rt; answer.is_ok());
-    let told = "a, a, a, Lib, target\nb-b, b 1.0.0, b_b, Lib, target\nc, c, c, Lib, target\n";
-    assert_eq!(rt; lister.told.as_str(), told);
+    let told = "p-q, p 1.0.0, p_q, ProcMacro, host\n\
+        p-q::bench/b, p 1.0.0, b, Bench, target\n\
+        p-q::bin/c, p 1.0.0, c, Bin, target\n\
+        p-q::example/e, p 1.0.0, e, Example, target\n\
+        p-q::t, p 1.0.0, t, Test, target\n";
+    for plain in [false, true] {
+        let mut lister = failing(rt.alloc(), 0, 5);
+        let answer = select_all(rt.alloc(), KINDS, b"{}", plain, &mut lister)?;
+        assert!(rt; answer.is_ok());
+        assert_eq!(rt; lister.told.as_str(), told);
+    }
     Ok(())
 }
 
@@ -156,11 +192,14 @@ impl TestLister for FullLister {
 
 #[test]
 fn a_lister_without_room(rt: HostRuntime) -> Result<(), Fail> {
+    let alloc = rt.alloc();
     for (before, after) in [(0, 1), (u64::MAX - 1, u64::MAX), (u64::MAX, u64::MAX)] {
-        let mut lister = FullLister { failures: before };
-        let answer = select_all(rt.alloc(), &mut lister)?;
-        assert!(rt; answer.is_err());
-        assert_eq!(rt; lister.failures, after);
+        for plain in [false, true] {
+            let mut lister = FullLister { failures: before };
+            let answer = select_all(alloc, RECORD, CHOICE, plain, &mut lister)?;
+            assert_eq!(rt; end_text(alloc, answer)?.as_str(), "lister: app");
+            assert_eq!(rt; lister.failures, after);
+        }
     }
     Ok(())
 }

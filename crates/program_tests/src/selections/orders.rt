@@ -1,8 +1,8 @@
 //! Orders into writers that take little or fail.
 
-use crate::selections::writers::SlowWriter;
+use crate::selections::writers::{SlowWriter, Written, expect_each_cut};
 use std::alloc::{AllocError, Global};
-use std::io::ErrorKind;
+use std::io::{ErrorKind, Write};
 use std::process::Abort;
 use std::test::Fail;
 use test_select::write_order;
@@ -45,5 +45,23 @@ fn a_writer_of_orders_that_takes_little_or_fails(rt: HostRuntime) -> Result<(), 
         let writer = SlowWriter::new(rt.alloc(), most, left, ErrorKind::BrokenPipe);
         assert_eq!(&rt; expect_end(&rt, &ids, writer, error), taken);
     }
+    Ok(())
+}
+
+#[derive(Drop)]
+struct Order {
+    ids: Vec<String>,
+}
+
+impl Written for Order {
+    fn write<W: Write>(&self, _alloc: Global, writer: &mut W) -> Option<ErrorKind> {
+        write_order(&self.ids, writer).err().map(|e| e.kind())
+    }
+}
+
+#[test]
+fn orders(rt: HostRuntime) -> Result<(), Fail> {
+    let ids = ids(rt.alloc())?;
+    expect_each_cut(&rt, rt.alloc(), &Order { ids }, ORDER);
     Ok(())
 }

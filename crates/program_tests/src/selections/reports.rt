@@ -1,12 +1,22 @@
 //! Reports into writers that take little or fail.
 
-use crate::selections::three_packages::select_all;
-use crate::selections::writers::SlowWriter;
+use crate::selections::questions::select_all;
+use crate::selections::writers::{SlowWriter, Written, expect_each_cut};
 use std::alloc::Global;
-use std::io::ErrorKind;
+use std::io::{ErrorKind, Write};
 use std::process::Abort;
 use std::test::Fail;
 use test_select::{FileLister, Selection, read_listings, write_report};
+
+/// Three packages with a library each.
+const RECORD: &[u8] = br#"{"packages": [
+    {"id": "c", "name": "c", "version": "1.0.0", "targets": [{"kind": "lib", "name": "c"}]},
+    {"id": "a", "name": "a", "version": "1.0.0", "targets": [{"kind": "lib", "name": "a"}]},
+    {"id": "b 1.0.0", "name": "b-b", "version": "1.0.0", "targets": [{"kind": "lib", "name": "b_b"}]}
+], "workspace": {"members": [
+    {"package": "c", "path": "c"}, {"package": "a", "path": "a"},
+    {"package": "b 1.0.0", "path": "b"}
+]}}"#;
 
 const LISTINGS: &[u8] = br#"{"a": ["x y", "", "\u00fc"], "b-b": ["m::one"], "c": []}"#;
 
@@ -15,7 +25,7 @@ const REPORT: &[u8] = b"a \na x y\na \xc3\xbc\nb-b m::one\n";
 
 fn chosen(alloc: Global) -> Result<Selection, Fail> {
     let mut lister = FileLister::new(alloc, read_listings(alloc, LISTINGS)?);
-    Ok(select_all(alloc, &mut lister)??)
+    Ok(select_all(alloc, RECORD, b"{}", false, &mut lister)??)
 }
 
 /// Asserts with which error a report ends, and how many of its bytes were taken.
@@ -75,8 +85,29 @@ fn any_fault_ends_a_report(rt: HostRuntime) -> Result<(), Fail> {
 fn an_empty_report(rt: HostRuntime) -> Result<(), Fail> {
     let alloc = rt.alloc();
     let listings = read_listings(alloc, br#"{"a": [], "b-b": [], "c": []}"#)?;
-    let selection = select_all(alloc, &mut FileLister::new(alloc, listings))??;
+    let mut lister = FileLister::new(alloc, listings);
+    let selection = select_all(alloc, RECORD, b"{}", false, &mut lister)??;
     let writer = SlowWriter::new(alloc, 0, 0, ErrorKind::BrokenPipe);
     expect_end(&rt, &selection, writer, None, 0);
+    Ok(())
+}
+
+#[derive(Drop)]
+struct Report {
+    selection: Selection,
+}
+
+impl Written for Report {
+    fn write<W: Write>(&self, _alloc: Global, writer: &mut W) -> Option<ErrorKind> {
+        write_report(&self.selection, writer)
+            .err()
+            .map(|e| e.kind())
+    }
+}
+
+#[test]
+fn whole_reports(rt: HostRuntime) -> Result<(), Fail> {
+    let selection = chosen(rt.alloc())?;
+    expect_each_cut(&rt, rt.alloc(), &Report { selection }, REPORT);
     Ok(())
 }
