@@ -1,15 +1,10 @@
 -- The statuses of a run that fails.
 use Rattle.std.specs.Prelude.{ℕ}
+use Rattle.question_files.specs.Failures as files
 use Rattle.test_select.specs.declared.failure.Failure.{Failure}
-use Rattle.test_select.specs.declared.failure.Failure.TheVariants.{CommandLine, CannotRead, BadFile, Refused, AccountRefused, NotOn, CannotWrite, Memory}
+use Rattle.test_select.specs.declared.failure.Failure.TheVariants.{Refused, Run}
 
--- the status with which the program ends: 2 for a bad command line, and else 1
+-- the status with which the program ends: 1 where a question is refused, and else that of any program over these files
 abbrev pub status_of : Failure → ℕ
-status_of (CommandLine error) = 2
-status_of (CannotRead name) = 1
-status_of (BadFile name error) = 1
+status_of (Run failure) = files.status_of failure
 status_of (Refused error) = 1
-status_of AccountRefused = 1
-status_of NotOn = 1
-status_of CannotWrite = 1
-status_of Memory = 1

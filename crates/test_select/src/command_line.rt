@@ -1,6 +1,9 @@
 //! The command line, as `clap` reads it.
 
 use clap::{Arg, ArgAction, ArgMatches, Command};
+use question_files::{
+    CHECK_HELP, account_option, choice_option, file_option, record_option, required, table_option,
+};
 use question_filters::LinkScope;
 use selection_making::AskedBinaries;
 use std::alloc::{AllocError, Global};
@@ -55,7 +58,7 @@ impl Subcommand {
 }
 
 /// The subcommands, in the order of the help.
-const SUBCOMMANDS: [Subcommand; 5] = [
+const SUBCOMMANDS: [Subcommand; 7] = [
     Subcommand {
         name: "tests",
         about: "Prints the tests that run",
@@ -74,7 +77,7 @@ const SUBCOMMANDS: [Subcommand; 5] = [
         name: "account",
         about: "Prints an account of the features that are on",
         help: ACCOUNT_HELP,
-        words: &[Word::Record, Word::Choice, Word::Table],
+        words: &[Word::Record, Word::Choice, Word::Table, Word::Readable],
     },
     Subcommand {
         name: "check",
@@ -90,6 +93,7 @@ const SUBCOMMANDS: [Subcommand; 5] = [
             Word::Record,
             Word::Choice,
             Word::Table,
+            Word::Readable,
             Word::Package,
             Word::Feature,
         ],
@@ -98,6 +102,18 @@ const SUBCOMMANDS: [Subcommand; 5] = [
         name: "order",
         about: "Prints the packages that are on, dependencies first",
         help: ORDER_HELP,
+        words: &[Word::Record, Word::Choice, Word::Table],
+    },
+    Subcommand {
+        name: "features",
+        about: "Prints the features that are on",
+        help: FEATURES_HELP,
+        words: &[Word::Record, Word::Choice, Word::Table],
+    },
+    Subcommand {
+        name: "rules",
+        about: "Prints the rules by which features are on",
+        help: RULES_HELP,
         words: &[Word::Record, Word::Choice, Word::Table],
     },
 ];
@@ -110,6 +126,7 @@ enum Word {
     Choice,
     Table,
     Account,
+    Readable,
     Package,
     Feature,
     Declared,
@@ -125,6 +142,7 @@ impl Word {
             Word::Choice => choice_option(alloc),
             Word::Table => table_option(alloc),
             Word::Account => account_option(alloc),
+            Word::Readable => readable_flag(alloc),
             Word::Package => package_argument(alloc),
             Word::Feature => feature_argument(alloc),
             Word::Declared => declared_flag(alloc),
@@ -134,52 +152,17 @@ impl Word {
     }
 }
 
-/// What a question is asked of: the names of its files.
-#[derive(Clone, Copy)]
-pub(crate) struct QuestionFiles<'a> {
-    pub(crate) record: &'a str,
-    pub(crate) choice: Option<&'a str>,
-    pub(crate) table: Option<&'a str>,
-}
-
-fn record_option<'a>(alloc: Global) -> Arg<'a> {
-    file_option(alloc, "record").required(true).help(
-        "The record of the workspace: its packages, links and members, as JSON,
-made of what `cargo metadata` says of them; docs/FORMATS.md has its keys",
-    )
-}
-
 fn listings_option<'a>(alloc: Global) -> Arg<'a> {
     file_option(alloc, "listings").required(true).help(
         "The names of the tests in each test binary, under the binary's id, as JSON",
     )
 }
 
-fn choice_option<'a>(alloc: Global) -> Arg<'a> {
-    file_option(alloc, "choice").help(
-        "The features that are asked for, as JSON [default: the default features].
-A key that the format does not have is ignored, also a misspelt one",
-    )
-}
-
-fn table_option<'a>(alloc: Global) -> Arg<'a> {
-    file_option(alloc, "table").help(
-        "The platform's answers: which `cfg(..)` and target names hold, as JSON
-[default: no answer is known, and what is unknown counts]",
-    )
-}
-
-fn account_option<'a>(alloc: Global) -> Arg<'a> {
-    file_option(alloc, "account").required(true).help(
-        "The account or explanation to be checked: numbers of rules, as JSON",
-    )
-}
-
-fn file_option<'a>(alloc: Global, name: &'a str) -> Arg<'a> {
-    Arg::new(alloc, name)
-        .long(name)
-        .value_name("FILE")
-        .action(ArgAction::Set)
+fn readable_flag<'a>(alloc: Global) -> Arg<'a> {
+    Arg::new(alloc, "readable")
+        .long("readable")
+        .action(ArgAction::SetTrue)
+        .help("Prints a line for people in place of each number")
 }
 
 fn package_argument<'a>(alloc: Global) -> Arg<'a> {
@@ -221,23 +204,9 @@ fn filter_words<'a>(alloc: Global) -> Arg<'a> {
         .help("Which tests are wanted: those of which one filter holds [default: all]")
 }
 
-/// The files that the command line names for a question on features.
-pub(crate) fn question_files<'a>(asked: &ArgMatches<'a>) -> QuestionFiles<'a> {
-    QuestionFiles {
-        record: required(asked, "record"),
-        choice: asked.get_str("choice"),
-        table: asked.get_str("table"),
-    }
-}
-
 /// The file that the command line names for the listings.
 pub(crate) fn listings_file<'a>(asked: &ArgMatches<'a>) -> &'a str {
     required(asked, "listings")
-}
-
-/// The file that the command line names for the account.
-pub(crate) fn account_file<'a>(asked: &ArgMatches<'a>) -> &'a str {
-    required(asked, "account")
 }
 
 /// The package that the command line names, by its id.
@@ -250,9 +219,9 @@ pub(crate) fn feature_word<'a>(asked: &ArgMatches<'a>) -> &'a str {
     asked.get_str("feature").unwrap_or("")
 }
 
-/// The value of a required word, without which `clap` takes no command line.
-fn required<'a>(asked: &ArgMatches<'a>, name: &str) -> &'a str {
-    asked.get_str(name).unwrap_or("")
+/// Whether the command line wants lines for people.
+pub(crate) fn is_readable(asked: &ArgMatches<'_>) -> bool {
+    asked.get_flag("readable")
 }
 
 /// Which links the command line has followed.
@@ -289,6 +258,7 @@ const TESTS_HELP: &str = "Filters:
   kind(NAME)       the tests of lib, proc-macro, test, bench, bin or example targets
   platform(WORD)   the tests of binaries for the host, or for the target
   test(NAME)       the tests with such a name
+  feature(NAME)    the tests of packages of which such a feature is on
   group(NAME)      the tests of such groups of the record
   default()        the tests of the record's default filter
 
@@ -312,26 +282,19 @@ in which each rule has its premises from earlier ones. Each is the lowest rule t
 A rule says that a feature is on, or that it is on where one or two others are. Rules are numbered
 from 0: those of the choice, then those by which a feature needs its package, then those of the
 features' entries, then those of the links. `check` reads such a line, and says if it is valid.
+With --readable there is a line for each entry: its rule, as `rules` prints it, and in brackets what
+the rule comes from: the choice, that a feature needs its package, an entry of a feature, or the line
+of a dependency.
 
 Exit status: 0 if the account is printed; 1 if a file, the record or the choice is refused, or the
 output cannot be written, with the reasons on standard error; 2 for a bad command line.";
 
-const CHECK_HELP: &str =
-    "Output: `accepted`, or `refused: ` and the first fault of the account: `unknown rule at P`,
-`repeated conclusion at P` or `missing premise at P`, where P counts its entries from 0, or `not
-closed at N`, where N is the lowest rule that is left out. A file with a goal is an explanation, and
-is refused, in place of the last, as `goal not reached`, or as `unused at P` where no later entry
-needs what the one at P concludes.
-
-Exit status: 0 if the account or explanation is accepted; 1 if it or a file is refused, or the
-output cannot be written, with the reasons for the latter two on standard error; 2 for a bad command
-line.";
-
 const EXPLAIN_HELP: &str =
     "Output: a line of JSON with the feature as goal, and the numbers of the rules that switch it
 on: the last one concludes it, and each other one concludes what a later one needs. They stand in
-the order of the account, and are numbered as for `account`. Or else `not on`, also where there is
-no such package or feature.
+the order of the account, and are numbered as for `account`. With --readable there is a line for
+each, as `account --readable` prints them. Or else `not on`, also where there is no such package or
+feature.
 
 Exit status: 0 if the explanation is printed; 1 if the feature is not on, or a file, the record or
 the choice is refused, or the output cannot be written, with the reasons for the latter on standard
@@ -342,6 +305,23 @@ const ORDER_HELP: &str =
 comes after all that it depends on by lines that are on, but for packages that depend on it in turn.
 
 Exit status: 0 if the order is printed; 1 if a file, the record or the choice is refused, or the
+output cannot be written, with the reasons on standard error; 2 for a bad command line.";
+
+const FEATURES_HELP: &str =
+    "Output: a line PACKAGE/FEATURE for each feature that is on, with the package's id. A feature is
+printed by its name, an optional dependency as `dep:NAME`, and the package itself as `[base]`. The
+lines ascend by package; of one package `[base]` comes first, then its features by name, and then its
+optional dependencies.
+
+Exit status: 0 if the features are printed; 1 if a file, the record or the choice is refused, or the
+output cannot be written, with the reasons on standard error; 2 for a bad command line.";
+
+const RULES_HELP: &str =
+    "Output: a line for each rule, as `9: app/fast, app/dep:util -> util/simd`: its number, what has to
+be on for it, and what is on then. Rules are numbered from 0: those of the choice, then those by which
+a feature needs its package, then those of the features' entries, then those of the links.
+
+Exit status: 0 if the rules are printed; 1 if a file, the record or the choice is refused, or the
 output cannot be written, with the reasons on standard error; 2 for a bad command line.";
 
 const STATUSES: &str = "A file may be /dev/stdin.

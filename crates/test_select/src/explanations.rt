@@ -4,11 +4,11 @@ ghost use Rattle.std.specs.Prelude.{◌≡◌, IfErr, IfOk};
 ghost use Rattle.record_files.specs.Choices.{label_of};
 ghost use Rattle.test_select.specs.Failures.{status_of};
 
-use crate::command_line::{feature_word, package_word, question_files};
+use crate::command_line::{feature_word, is_readable, package_word};
 use crate::failure::Failure;
-use crate::file_source::FileSource;
-use crate::inputs::feature_question;
+use crate::readable::print_entries;
 use clap::ArgMatches;
+use question_files::{FeatureQuestion, FileSource, RunFailure, feature_question, named_files};
 use record_checks::{explain, write_explanation};
 use record_files::label_of;
 use std::alloc::{AllocError, Global};
@@ -24,17 +24,30 @@ pub(crate) fn print_explanation<'a, O: Write>(
 ) -> Result<(), Failure<'a>>
     ensures { IfErr result (λ f. status_of f ≡ 1) }
 {
-    let question = feature_question(alloc, question_files(asked), files)?;
+    let question = feature_question(alloc, named_files(asked), files)?;
     let feature = feature_named(alloc, package_word(asked), feature_word(asked))?;
-    let (record, choice) = (&question.record, &question.choice);
-    match explain(alloc, record, choice, &question.table, &feature)? {
-        Some(explanation) => {
-            write_explanation(alloc, &feature, &explanation, out)?;
+    print_explanation_of(alloc, &question, &feature, is_readable(asked), out)
+}
+
+fn print_explanation_of<'a, O: Write>(
+    alloc: Global,
+    question: &FeatureQuestion,
+    feature: &Feature,
+    readable: bool,
+    out: &mut O,
+) -> Result<(), Failure<'a>>
+    ensures { IfErr result (λ f. status_of f ≡ 1) }
+{
+    let (record, choice, table) = (&question.record, &question.choice, &question.table);
+    match explain(alloc, record, choice, table, feature)? {
+        Some(entries) if readable => print_entries(alloc, question, &entries, out),
+        Some(entries) => {
+            write_explanation(alloc, feature, &entries, out)?;
             Ok(())
         }
         None => {
             write_not_on(out)?;
-            Err(Failure::NotOn)
+            Err(Failure::Run(RunFailure::Denied))
         }
     }
 }

@@ -1,65 +1,33 @@
 //! Why a run of the program ends early.
 
 ghost use Rattle.std.specs.Prelude.{◌≡◌};
+ghost use Rattle.question_files.specs.declared.run_failure.RunFailure.TheVariants.{CannotWrite, Memory};
 ghost use Rattle.test_select.specs.Failures.{status_of};
-ghost use Rattle.test_select.specs.declared.failure.Failure.TheVariants.{Refused, CannotWrite, Memory};
+ghost use Rattle.test_select.specs.declared.failure.Failure.TheVariants.{Refused, Run};
 
-use crate::file_source::FileFault;
-use clap::error::ErrorKind;
+use question_files::RunFailure;
 use record_checks::{SelectError, WriteAccountError};
-use record_files::ReadError;
 use std::alloc::{AllocError, AllocFailed};
 use std::{fmt, io};
 
-/// Why a run of the program ends early. Names of files are as the command line gives them.
+/// Why a run of the program ends early.
 #[derive(Drop)]
 pub(crate) enum Failure<'a> {
-    /// The command line is refused.
-    CommandLine(clap::Error),
-    /// The file with this name cannot be read.
-    CannotRead(&'a str),
-    /// The file with this name was read and is refused.
-    BadFile(&'a str, ReadError),
+    /// The command line or a file is refused, the output takes no more, memory ran out, or what was asked
+    /// is denied, as the output says.
+    Run(RunFailure<'a>),
     /// The record, the choice, a filter text or a listing is refused.
     Refused(SelectError),
-    /// The account or the explanation is refused, as the output says.
-    AccountRefused,
-    /// The feature is not on, as the output says.
-    NotOn,
-    /// The output does not take what is written.
-    CannotWrite,
-    /// Memory ran out.
-    Memory,
 }
 
-impl<'a> Failure<'a> {
-    /// Why the file with this name was not read.
-    pub(crate) fn unread(name: &'a str, fault: FileFault) -> Failure<'a>
-        ensures { status_of result ≡ 1 }
-    {
-        match fault {
-            FileFault::CannotRead => Failure::CannotRead(name),
-            FileFault::Memory => Failure::Memory,
-        }
-    }
-
-    /// Why the file with this name was refused.
-    pub(crate) fn bad_file(name: &'a str, error: ReadError) -> Failure<'a>
-        ensures { status_of result ≡ 1 }
-    {
-        match error {
-            ReadError::Memory => Failure::Memory,
-            _ => Failure::BadFile(name, error),
-        }
-    }
-
+impl Failure<'_> {
     /// The status with which the program ends.
     pub(crate) fn status(&self) -> u8
         ensures { result ≡ status_of self.now }
     {
         match self {
-            Failure::CommandLine(_) => 2,
-            _ => 1,
+            Failure::Run(failure) => failure.status(),
+            Failure::Refused(_) => 1,
         }
     }
 }
@@ -68,35 +36,23 @@ impl<'a> Failure<'a> {
 impl fmt::Display for Failure<'_> {
     fn fmt<W: fmt::Write>(&self, f: &mut fmt::Formatter<W>) -> fmt::Result {
         match self {
-            Failure::CommandLine(error) => write!(f, "{error}"),
-            Failure::CannotRead(name) => writeln!(f, "cannot read {name}"),
-            Failure::BadFile(name, error) => write_bad_file(f, name, error),
+            Failure::Run(failure) => write!(f, "{failure}"),
             Failure::Refused(error) => writeln!(f, "{error}"),
-            Failure::AccountRefused | Failure::NotOn => Ok(()),
-            Failure::CannotWrite => f.write_str("cannot write\n"),
-            Failure::Memory => f.write_str("out of memory\n"),
         }
     }
 }
 
-fn write_bad_file<W: fmt::Write>(
-    f: &mut fmt::Formatter<W>,
-    name: &str,
-    error: &ReadError,
-) -> fmt::Result {
-    match error {
-        ReadError::BadJson => writeln!(f, "{name}: bad JSON"),
-        ReadError::BadShape(field) => writeln!(f, "{name}: bad shape at {field}"),
-        ReadError::Memory => f.write_str("out of memory\n"),
+impl<'a> From<RunFailure<'a>> for Failure<'a> {
+    ghost from_gives = { λ failure f. f ≡ Run failure };
+
+    fn from(failure: RunFailure<'a>) -> Self {
+        Failure::Run(failure)
     }
 }
 
 impl From<clap::Error> for Failure<'_> {
     fn from(error: clap::Error) -> Self {
-        match error.kind() {
-            ErrorKind::OutOfMemory => Failure::Memory,
-            _ => Failure::CommandLine(error),
-        }
+        Failure::Run(RunFailure::from(error))
     }
 }
 
@@ -113,32 +69,32 @@ impl From<WriteAccountError> for Failure<'_> {
 
     fn from(error: WriteAccountError) -> Self {
         match error {
-            WriteAccountError::Memory => Failure::Memory,
-            WriteAccountError::Write(_) => Failure::CannotWrite,
+            WriteAccountError::Memory => Failure::Run(RunFailure::Memory),
+            WriteAccountError::Write(_) => Failure::Run(RunFailure::CannotWrite),
         }
     }
 }
 
 impl From<io::Error> for Failure<'_> {
-    ghost from_gives = { λ _ f. f ≡ CannotWrite };
+    ghost from_gives = { λ _ f. f ≡ Run CannotWrite };
 
     fn from(_: io::Error) -> Self {
-        Failure::CannotWrite
+        Failure::Run(RunFailure::CannotWrite)
     }
 }
 
 impl From<AllocError> for Failure<'_> {
-    ghost from_gives = { λ _ f. f ≡ Memory };
+    ghost from_gives = { λ _ f. f ≡ Run Memory };
 
     fn from(_: AllocError) -> Self {
-        Failure::Memory
+        Failure::Run(RunFailure::Memory)
     }
 }
 
 impl<T: Drop> From<AllocFailed<T>> for Failure<'_> {
-    ghost from_gives = { λ _ f. f ≡ Memory };
+    ghost from_gives = { λ _ f. f ≡ Run Memory };
 
     fn from(_: AllocFailed<T>) -> Self {
-        Failure::Memory
+        Failure::Run(RunFailure::Memory)
     }
 }

@@ -6,14 +6,13 @@ mod accounts;
 mod command_line;
 mod explanations;
 mod failure;
-mod file_source;
 mod inputs;
 pub mod laws;
 mod order;
 mod program;
+mod readable;
 mod selections;
 
-pub use crate::file_source::{FileFault, FileSource};
 pub use crate::order::{package_order, write_order};
 pub use crate::program::run;
 pub use feature_account::{
@@ -24,6 +23,7 @@ pub use feature_account::{
 };
 pub use graph_switching::{dependency_order, switched_on};
 pub use line_verdicts::LineVerdict;
+pub use question_files::{FileFault, FileSource};
 pub use question_filters::LinkScope;
 pub use record_checks::{
     Account, FeaturesOn, GroupFilter, GroupTable, ParseSingleError, RecordError, RecordFilters,

@@ -5,14 +5,12 @@ ghost use Rattle.list_facts.specs.Writers.{Writes};
 ghost use Rattle.test_select.specs.Failures.{status_of};
 ghost use Rattle.test_select.specs.Orders.{Orders, OrdersBy, order_line};
 
-use crate::command_line::question_files;
 use crate::failure::Failure;
-use crate::file_source::FileSource;
-use crate::inputs::feature_question;
 use clap::ArgMatches;
 use feature_switching::FeaturesOn;
 use graph_switching::dependency_order;
 use list_facts::write_pieces;
+use question_files::{FileSource, feature_question, named_files};
 use record_checks::{SelectError, declared_graph, features_on};
 use std::alloc::Global;
 use std::io::{self, Write};
@@ -77,7 +75,7 @@ pub(crate) fn print_order<'a, O: Write>(
 ) -> Result<(), Failure<'a>>
     ensures { IfErr result (λ f. status_of f ≡ 1) }
 {
-    let question = feature_question(alloc, question_files(asked), files)?;
+    let question = feature_question(alloc, named_files(asked), files)?;
     let (record, choice) = (&question.record, &question.choice);
     let ids = package_order(alloc, record, choice, &question.table)?;
     write_order(&ids, out)?;

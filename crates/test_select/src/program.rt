@@ -3,14 +3,15 @@
 ghost use Rattle.std.specs.Prelude.{◌≡◌, ◌≤◌, IfErr};
 ghost use Rattle.test_select.specs.Failures.{status_of};
 
-use crate::accounts::{print_account, print_verdict};
+use crate::accounts::print_account;
 use crate::command_line::command;
 use crate::explanations::print_explanation;
 use crate::failure::Failure;
-use crate::file_source::FileSource;
 use crate::order::print_order;
+use crate::readable::{print_features, print_rules};
 use crate::selections::print_tests;
 use clap::ArgMatches;
+use question_files::{FileSource, print_verdict};
 use std::alloc::Global;
 use std::convert::AsStr;
 use std::io::Write;
@@ -30,8 +31,10 @@ use std::io::Write;
 /// or of an explanation where the file has a goal: a refused one has status 1 and no line on `err`.
 /// `test_select explain --record F [--choice F] [--table F] PACKAGE [FEATURE]` writes the explanation of
 /// the feature, which is named as in a choice and is without the word that of the package itself, or
-/// `not on` with status 1 and no line on `err`. `test_select order --record F [--choice F] [--table F]`
-/// writes the ids of the packages that are on, dependencies first.
+/// `not on` with status 1 and no line on `err`. With `--readable` the entries of an account or of an
+/// explanation are lines for people. `test_select order --record F [--choice F] [--table F]` writes the ids
+/// of the packages that are on, dependencies first; with the same options `test_select features` writes a
+/// line for each feature that is on, and `test_select rules` one for each rule.
 ///
 /// Help and the version go to `out` too. `err` gets a line for each other cause
 /// of a status other than 0; a fault of `err` changes nothing.
@@ -84,9 +87,11 @@ fn carry_out<'a, O: Write>(
     match matches.subcommand() {
         Some(("tests", asked)) => print_tests(alloc, asked, files, out),
         Some(("account", asked)) => print_account(alloc, asked, files, out),
-        Some(("check", asked)) => print_verdict(alloc, asked, files, out),
+        Some(("check", asked)) => Ok(print_verdict(alloc, asked, files, out)?),
         Some(("explain", asked)) => print_explanation(alloc, asked, files, out),
         Some(("order", asked)) => print_order(alloc, asked, files, out),
+        Some(("features", asked)) => print_features(alloc, asked, files, out),
+        Some(("rules", asked)) => print_rules(alloc, asked, files, out),
         _ => Ok(()),
     }
 }

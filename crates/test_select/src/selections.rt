@@ -4,11 +4,11 @@ ghost use Rattle.std.specs.Prelude.{◌≡◌, IfErr, map};
 ghost use Rattle.test_select.specs.Failures.{status_of};
 ghost use Rattle.test_select.specs.Runs.{AnswersQuestion};
 
-use crate::command_line::{asked_binaries, filters_in, link_scope, listings_file, question_files};
+use crate::command_line::{asked_binaries, filters_in, link_scope, listings_file};
 use crate::failure::Failure;
-use crate::file_source::FileSource;
-use crate::inputs::{FeatureQuestion, tests_inputs};
+use crate::inputs::tests_inputs;
 use clap::ArgMatches;
+use question_files::{FeatureQuestion, FileSource, named_files};
 use question_filters::LinkScope;
 use record_checks::SelectError;
 use selection_making::{AskedBinaries, Selection, select, select_plain, write_report};
@@ -25,7 +25,7 @@ pub(crate) fn print_tests<'a, O: Write>(
 ) -> Result<(), Failure<'a>>
     ensures { IfErr result (λ f. status_of f ≡ 1) }
 {
-    let mut inputs = tests_inputs(alloc, question_files(asked), listings_file(asked), files)?;
+    let mut inputs = tests_inputs(alloc, named_files(asked), listings_file(asked), files)?;
     let selection = selection_of(
         alloc,
         &inputs.question,

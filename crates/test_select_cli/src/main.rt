@@ -1,28 +1,11 @@
 //! The program `test_select`, with the files and streams of the system.
 #![tactic(auto)]
 
-use std::alloc::{AllocGlobal, Global};
-use std::fs;
+use question_files::SystemFiles;
+use std::alloc::AllocGlobal;
 use std::io::{self, ErrorKind};
 use std::process::ExitCode;
-use std::rt::Files;
-use test_select::{FileFault, FileSource, run};
-
-/// The files of the system, by their paths.
-#[derive(Drop)]
-struct SystemFiles<'a, R> {
-    rt: &'a R,
-}
-
-impl<R: Files + AllocGlobal> FileSource for SystemFiles<'_, R> {
-    fn read(&mut self, _alloc: Global, name: &str) -> Result<Vec<u8>, FileFault> {
-        match fs::read(self.rt, name) {
-            Ok(bytes) => Ok(bytes),
-            Err(error) if error.kind() == ErrorKind::OutOfMemory => Err(FileFault::Memory),
-            Err(_) => Err(FileFault::CannotRead),
-        }
-    }
-}
+use test_select::run;
 
 fn main(rt: HostRuntime) -> ExitCode {
     match words(&rt) {

@@ -1,0 +1,155 @@
+//! Filters that are parsed, compiled and asked.
+
+ghost use Rattle.std.specs.Prelude.{◌≡◌, false};
+ghost use Rattle.nextest_filter_evaluation.specs.Compiled.{compiled_of, is_group};
+ghost use Rattle.nextest_filter_evaluation.specs.Formulas.{has_leaf};
+
+use crate::turns::{Refusal, Wanting, refuse_in_turn};
+use crate::workspace::{id_of, packages};
+use guppy_package_graph::{PackageGraph, PackageId};
+use nextest_filtering::errors::FiltersetError;
+use nextest_filtering::{
+    BinaryQuery, BuildPlatform, CompiledExpr, EvalContext, Filterset, FiltersetKind, KnownGroups,
+    ParseContext, ParsedExpr, RustBinaryId, RustTestBinaryKind, TestCaseName, TestQuery,
+};
+use std::alloc::{AllocError, Global};
+use std::test::Fail;
+
+const FILTER: &str = r"test(/^o[a-z]+\d?$/) & (package(ap*) + deps(=app) - kind(bench))";
+
+/// Parses the filter, and tells it as it is printed.
+#[derive(Drop)]
+struct Parses;
+
+impl Wanting for Parses {
+    fn answer(&mut self, alloc: Global) -> Result<String, Refusal> {
+        let expr = ParsedExpr::parse(alloc, FILTER)?;
+        Ok(format!(in alloc; "{expr}")?)
+    }
+}
+
+#[test]
+fn parse(rt: HostRuntime) -> Result<(), Fail> {
+    let printed = "test(/^o[a-z]+\\d?$/) & (package(ap*) + deps(=app) - kind(bench))";
+    refuse_in_turn(&rt, rt.alloc(), 64, &mut Parses, printed)
+}
+
+/// Makes a context of all packages, and tells how many it knows.
+#[derive(Drop)]
+struct Knows<'g> {
+    graph: &'g PackageGraph,
+}
+
+impl Wanting for Knows<'_> {
+    fn answer(&mut self, alloc: Global) -> Result<String, Refusal> {
+        let all = self.graph.resolve_all(alloc)?;
+        ParseContext::with_packages(alloc, self.graph, &all)?;
+        Ok(format!(in alloc; "{}", all.len())?)
+    }
+}
+
+#[test]
+fn with_packages(rt: HostRuntime) -> Result<(), Fail> {
+    let graph = packages(rt.alloc())?;
+    refuse_in_turn(&rt, rt.alloc(), 16, &mut Knows { graph: &graph }, "2")
+}
+
+/// Compiles the filter.
+#[derive(Drop)]
+struct Compiles<'g, 'c> {
+    cx: &'c ParseContext<'g>,
+}
+
+impl Wanting for Compiles<'_, '_> {
+    fn answer(&mut self, alloc: Global) -> Result<String, Refusal> {
+        let filter = compiled(alloc, self.cx)?;
+        Ok(String::from_str(alloc, filter.input.as_str())?)
+    }
+}
+
+fn compiled(alloc: Global, cx: &ParseContext<'_>) -> Result<Filterset, FiltersetError> {
+    let input = String::from_str(alloc, FILTER)?;
+    let (kind, groups) = (FiltersetKind::OverrideFilter, KnownGroups::Unavailable);
+    Filterset::parse(alloc, input, cx, kind, &groups)
+}
+
+#[test]
+fn filterset(rt: HostRuntime) -> Result<(), Fail> {
+    let graph = packages(rt.alloc())?;
+    let cx = ParseContext::new(rt.alloc(), &graph)?;
+    refuse_in_turn(&rt, rt.alloc(), 64, &mut Compiles { cx: &cx }, FILTER)
+}
+
+/// The parts of a test of app's library.
+#[derive(Drop)]
+struct Parts {
+    package_id: PackageId,
+    kind: RustTestBinaryKind,
+    binary_id: RustBinaryId,
+    test_name: TestCaseName,
+}
+
+impl Parts {
+    fn new(alloc: Global) -> Result<Parts, AllocError> {
+        let kind = RustTestBinaryKind::new(String::from_str(alloc, "lib")?);
+        let binary_id = RustBinaryId::from_parts(alloc, "app", &kind, "app")?;
+        let test_name = TestCaseName::new(String::from_str(alloc, "one1")?);
+        Ok(Parts {
+            package_id: id_of(alloc, "app")?,
+            kind,
+            binary_id,
+            test_name,
+        })
+    }
+
+    fn query(&self) -> BinaryQuery<'_> {
+        BinaryQuery {
+            package_id: &self.package_id,
+            binary_id: &self.binary_id,
+            binary_name: "app",
+            kind: &self.kind,
+            platform: BuildPlatform::Target,
+        }
+    }
+}
+
+/// Asks the filter about the binary and about the test.
+#[derive(Drop)]
+struct Asks<'f> {
+    filter: &'f CompiledExpr,
+    parts: &'f Parts,
+}
+
+impl Wanting for Asks<'_> {
+    fn answer(&mut self, alloc: Global) -> Result<String, Refusal> {
+        let cx = EvalContext {
+            default_filter: &CompiledExpr::ALL,
+        };
+        let binary_query = self.parts.query();
+        let known = self.filter.matches_binary(alloc, &binary_query, &cx)?;
+        let test_name = &self.parts.test_name;
+        let query = TestQuery {
+            binary_query,
+            test_name,
+        };
+        if self.filter.has_group_matchers() {
+            return Err(Refusal::Other);
+        }
+        let holds = self.filter.matches_test(alloc, &query, &cx)?;
+        Ok(format!(in alloc; "{known:?} {holds}")?)
+    }
+}
+
+#[test]
+fn evaluators(rt: HostRuntime) -> Result<(), Fail> {
+    let alloc = rt.alloc();
+    let graph = packages(alloc)?;
+    let cx = ParseContext::new(alloc, &graph)?;
+    let filter = compiled(alloc, &cx)?;
+    let parts = Parts::new(alloc)?;
+    let mut run = Asks {
+        filter: &filter.compiled,
+        parts: &parts,
+    };
+    refuse_in_turn(&rt, alloc, 64, &mut run, "None true")
+}

@@ -1,0 +1,108 @@
+//! Runs of the program with each of its subcommands.
+
+use crate::turns::{Refusal, Wanting, refuse_in_turn};
+use crate::workspace::{CHOICE, LISTINGS, RECORD, TABLE};
+use std::alloc::Global;
+use std::test::Fail;
+use test_select::{FileFault, FileSource, run};
+
+/// The files that the program is given, by their names.
+const FILES: [(&str, &str); 5] = [
+    ("record.json", RECORD),
+    ("choice.json", CHOICE),
+    ("table.json", TABLE),
+    ("listings.json", LISTINGS),
+    ("account.json", r#"{"rules":[0,1,2,3,8,9]}"#),
+];
+
+#[derive(Drop)]
+struct Files;
+
+impl FileSource for Files {
+    fn read(&mut self, alloc: Global, name: &str) -> Result<Vec<u8>, FileFault> {
+        match FILES.iter().find(|(known, _)| *known == name) {
+            Some((_, text)) => text.as_bytes().to_vec(alloc).map_err(|_| FileFault::Memory),
+            None => Err(FileFault::CannotRead),
+        }
+    }
+}
+
+/// Runs the program into streams that have room for all that it writes.
+#[derive(Drop)]
+struct Runs<'a> {
+    words: &'a [&'a str],
+    out: Vec<u8>,
+    err: Vec<u8>,
+}
+
+impl Wanting for Runs<'_> {
+    fn answer(&mut self, alloc: Global) -> Result<String, Refusal> {
+        self.out.clear();
+        self.err.clear();
+        let status = run(alloc, self.words, &mut Files, &mut self.out, &mut self.err);
+        if status == 0 {
+            return Ok(text_of(alloc, &self.out)?);
+        }
+        if status == 1 && self.out.is_empty() && is_want_of_memory(&self.err) {
+            return Err(Refusal::Memory);
+        }
+        Err(Refusal::Other)
+    }
+}
+
+/// Whether a refused run says so, or that the lister had no room.
+fn is_want_of_memory(err: &[u8]) -> bool {
+    err == b"out of memory\n".as_slice() || err.starts_with(b"lister: ")
+}
+
+fn text_of(alloc: Global, bytes: &[u8]) -> Result<String, Refusal> {
+    match String::from_utf8(bytes.to_vec(alloc)?) {
+        Ok(text) => Ok(text),
+        Err(_) => Err(Refusal::Other),
+    }
+}
+
+const QUESTION: [&str; 6] = [
+    "--record",
+    "record.json",
+    "--choice",
+    "choice.json",
+    "--table",
+    "table.json",
+];
+
+/// The subcommand, its further words, and what it prints.
+const RUNS: [(&str, &[&str], &str); 5] = [
+    (
+        "tests",
+        &["--listings", "listings.json", "package(=app)"],
+        "app one\napp::net get\n",
+    ),
+    ("account", &[], "{\"rules\":[0,1,2,3,8,9]}\n"),
+    ("check", &["--account", "account.json"], "accepted\n"),
+    (
+        "explain",
+        &["util", "simd"],
+        "{\"goal\":{\"package\":\"util\",\"feature\":\"simd\"},\"rules\":[2,3,8,9]}\n",
+    ),
+    ("order", &[], "util\napp\n"),
+];
+
+#[test]
+fn subcommands(rt: HostRuntime) -> Result<(), Fail> {
+    let alloc = rt.alloc();
+    for (subcommand, further, wanted) in RUNS {
+        let mut words = Vec::with_capacity(alloc, 16)?;
+        words.push("test_select")?;
+        words.push(subcommand)?;
+        words.extend_from_slice(&QUESTION)?;
+        words.extend_from_slice(further)?;
+        let mut run = Runs {
+            words: &words,
+            out: Vec::with_capacity(alloc, 1024)?,
+            err: Vec::with_capacity(alloc, 1024)?,
+        };
+        refuse_in_turn(&rt, alloc, 256, &mut run, wanted)?;
+    }
+    Ok(())
+}

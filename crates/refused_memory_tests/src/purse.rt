@@ -1,0 +1,67 @@
+//! What holds the memory of the process, so that there is none for others.
+
+use std::alloc::{AllocError, Global};
+use std::test::Fail;
+
+/// Blocks that nobody uses. Together they have all the memory that can be had.
+#[derive(Drop)]
+pub(crate) struct Purse {
+    alloc: Global,
+    held: Vec<Vec<u8>>,
+}
+
+impl Purse {
+    /// Takes all memory but what a block of 1 MiB leaves.
+    pub(crate) fn new(alloc: Global) -> Result<Purse, AllocError> {
+        let held = Vec::with_capacity(alloc, 20_000)?;
+        let mut purse = Purse { alloc, held };
+        let ground: Vec<u8> = Vec::with_capacity(alloc, 1 << 20)?;
+        purse.take_all(46);
+        drop(ground);
+        Ok(purse)
+    }
+
+    /// Leaves this many bytes. Answers how many blocks are held for good.
+    pub(crate) fn leave(&mut self, bytes: usize) -> Result<usize, AllocError> {
+        let room: Vec<u8> = Vec::with_capacity(self.alloc, bytes)?;
+        let for_good = self.held.len();
+        self.take_all(26);
+        drop(room);
+        Ok(for_good)
+    }
+
+    /// Gives back all blocks but those that are held for good.
+    pub(crate) fn let_go(&mut self, for_good: usize) {
+        self.held.truncate(for_good);
+    }
+
+    /// Takes blocks of less than two to the power of `largest` bytes each until none is left, larger ones
+    /// first.
+    fn take_all(&mut self, largest: u32) {
+        for power in (4..largest.min(62)).rev() {
+            self.take_each(1 << power);
+        }
+    }
+
+    fn take_each(&mut self, bytes: usize) {
+        while self.held.len() < self.held.capacity() {
+            match Vec::with_capacity(self.alloc, bytes) {
+                Ok(block) => drop(self.held.push(block)),
+                Err(_) => break,
+            }
+        }
+    }
+}
+
+/// Without this test the others would say nothing where memory cannot be held.
+#[test]
+fn memory_is_refused(rt: HostRuntime) -> Result<(), Fail> {
+    let mut purse = Purse::new(rt.alloc())?;
+    let for_good = purse.leave(256)?;
+    let small: Result<Vec<u8>, AllocError> = Vec::with_capacity(rt.alloc(), 128);
+    let large: Result<Vec<u8>, AllocError> = Vec::with_capacity(rt.alloc(), 4096);
+    purse.let_go(for_good);
+    assert!(rt; small.is_ok());
+    assert!(rt; large.is_err());
+    Ok(())
+}
