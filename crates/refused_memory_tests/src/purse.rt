@@ -11,11 +11,11 @@ pub(crate) struct Purse {
 }
 
 impl Purse {
-    /// Takes all memory but what a block of 1 MiB leaves.
+    /// Takes all memory but the place of a block of 16 MiB, in which runs are left theirs.
     pub(crate) fn new(alloc: Global) -> Result<Purse, AllocError> {
         let held = Vec::with_capacity(alloc, 20_000)?;
         let mut purse = Purse { alloc, held };
-        let ground: Vec<u8> = Vec::with_capacity(alloc, 1 << 20)?;
+        let ground: Vec<u8> = Vec::with_capacity(alloc, 1 << 24)?;
         purse.take_all(46);
         drop(ground);
         Ok(purse)
@@ -44,7 +44,7 @@ impl Purse {
     }
 
     fn take_each(&mut self, bytes: usize) {
-        while self.held.len() < self.held.capacity() {
+        for _ in self.held.len()..self.held.capacity() {
             match Vec::with_capacity(self.alloc, bytes) {
                 Ok(block) => drop(self.held.push(block)),
                 Err(_) => break,
@@ -57,9 +57,9 @@ impl Purse {
 #[test]
 fn memory_is_refused(rt: HostRuntime) -> Result<(), Fail> {
     let mut purse = Purse::new(rt.alloc())?;
-    let for_good = purse.leave(256)?;
-    let small: Result<Vec<u8>, AllocError> = Vec::with_capacity(rt.alloc(), 128);
-    let large: Result<Vec<u8>, AllocError> = Vec::with_capacity(rt.alloc(), 4096);
+    let for_good = purse.leave(1 << 16)?;
+    let small: Result<Vec<u8>, AllocError> = Vec::with_capacity(rt.alloc(), 1 << 10);
+    let large: Result<Vec<u8>, AllocError> = Vec::with_capacity(rt.alloc(), 1 << 20);
     purse.let_go(for_good);
     assert!(rt; small.is_ok());
     assert!(rt; large.is_err());

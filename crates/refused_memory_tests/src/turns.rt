@@ -24,7 +24,7 @@ pub(crate) enum Refusal {
 }
 
 /// How often a run is made. None here needs as many.
-const TURNS: usize = 6000;
+const TURNS: usize = 40_000;
 
 /// Leaves a run no memory at first, and each time this many bytes more, until it is not refused. Each run
 /// before is refused for want of memory, and the last one answers what is wanted.

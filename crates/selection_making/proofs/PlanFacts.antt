@@ -60,7 +60,7 @@ module _ (q : Question) (on : List FeatureValue) (are_on : AreOn q.workspace q.c
     are_readings : AreReadings q readings
     are_readings = record {
       names = names;
-      followed = (on, are_on, followed);
+      followed = (on, are_on, followed.0, followed.1);
       groups = are.are_groups;
       filters = of_record.1;
       texts = of_texts.1;
