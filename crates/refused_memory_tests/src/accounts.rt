@@ -1,10 +1,11 @@
 //! Rules, and accounts that are checked.
 
 use crate::turns::{Refusal, Wanting, refuse_in_turn};
-use crate::workspace::Workspace;
+use crate::workspace::{Workspace, simd};
 use std::alloc::Global;
+use std::process::Abort;
 use std::test::Fail;
-use test_select::{Feature, Label, check_account, check_explanation, rules};
+use test_select::{Feature, check_account, check_explanation, rules};
 
 /// Lists the rules, and tells how many there are.
 #[derive(Drop)]
@@ -35,13 +36,13 @@ fn rule_lists(rt: HostRuntime) -> Result<(), Fail> {
 
 /// Checks an account, or an explanation where it has a goal.
 #[derive(Drop)]
-struct Checks<'w> {
+struct Checks<'w, 'g, 'e> {
     workspace: &'w Workspace,
-    goal: Option<&'w Feature>,
-    entries: &'w [usize],
+    goal: Option<&'g Feature>,
+    entries: &'e [usize],
 }
 
-impl Wanting for Checks<'_> {
+impl Wanting for Checks<'_, '_, '_> {
     fn answer(&mut self, alloc: Global) -> Result<String, Refusal> {
         let Workspace {
             record,
@@ -56,36 +57,49 @@ impl Wanting for Checks<'_> {
     }
 }
 
+/// Asserts what is said of the entries when no request is refused.
+fn expect_verdict(
+    rt: &impl Abort,
+    alloc: Global,
+    workspace: &Workspace,
+    goal: Option<&Feature>,
+    entries: &[usize],
+    wanted: &str,
+) -> Result<(), Fail> {
+    let mut run = Checks {
+        workspace,
+        goal,
+        entries,
+    };
+    refuse_in_turn(rt, alloc, 16, &mut run, wanted)
+}
+
 #[test]
 fn checked_accounts(rt: HostRuntime) -> Result<(), Fail> {
     let workspace = Workspace::read(rt.alloc())?;
-    let all: [(&[usize], &str); 2] = [
-        (&[0, 1, 2, 3, 8, 9], "Accepted"),
-        (&[0, 1, 3], "NotClosed(2)"),
-    ];
-    for (entries, wanted) in all {
-        let mut run = Checks {
-            workspace: &workspace,
-            goal: None,
-            entries,
-        };
-        refuse_in_turn(&rt, rt.alloc(), 16, &mut run, wanted)?;
-    }
-    Ok(())
+    let valid = [0, 1, 2, 3, 8, 9];
+    expect_verdict(&rt, rt.alloc(), &workspace, None, &valid, "Accepted")?;
+    expect_verdict(
+        &rt,
+        rt.alloc(),
+        &workspace,
+        None,
+        &[0, 1, 3],
+        "NotClosed(2)",
+    )
 }
 
 #[test]
 fn checked_explanations(rt: HostRuntime) -> Result<(), Fail> {
-    let alloc = rt.alloc();
-    let workspace = Workspace::read(alloc)?;
-    let goal = Feature {
-        package: String::from_str(alloc, "util")?,
-        label: Label::Named(String::from_str(alloc, "simd")?),
-    };
-    let mut run = Checks {
-        workspace: &workspace,
-        goal: Some(&goal),
-        entries: &[3, 8, 2, 9],
-    };
-    refuse_in_turn(&rt, alloc, 16, &mut run, "Accepted")
+    let workspace = Workspace::read(rt.alloc())?;
+    let goal = simd(rt.alloc())?;
+    let entries = [3, 8, 2, 9];
+    expect_verdict(
+        &rt,
+        rt.alloc(),
+        &workspace,
+        Some(&goal),
+        &entries,
+        "Accepted",
+    )
 }

@@ -8,6 +8,7 @@ use guppy_feature_graph::{
 };
 use guppy_package_graph::{DependencyDirection, PackageGraph, PackageId};
 use std::alloc::{AllocError, Global};
+use std::process::Abort;
 use std::test::Fail;
 
 /// The ids of a set, each package's in the order of the graph, with a space after each.
@@ -60,12 +61,12 @@ impl FeatureLinkVisitor for Counts {
 
 /// Resolves by a visitor from two features of app. Where that is refused, the visitor was shown nothing.
 #[derive(Drop)]
-struct Resolves<'g> {
-    graph: FeatureGraph<'g>,
-    app: &'g PackageId,
+struct Resolves<'g, 's> {
+    graph: &'s FeatureGraph<'g>,
+    app: &'s PackageId,
 }
 
-impl Wanting for Resolves<'_> {
+impl Wanting for Resolves<'_, '_> {
     fn answer(&mut self, alloc: Global) -> Result<String, Refusal> {
         let starts = [
             FeatureId::named(self.app, "fast"),
@@ -85,17 +86,22 @@ impl Wanting for Resolves<'_> {
 
 const ALL: &str = "app/full app/fast app/dep:util app/[base] util/simd util/[base] ";
 
+fn expect_resolved(
+    rt: &impl Abort,
+    alloc: Global,
+    data: &FeatureGraphData<'_>,
+    app: &PackageId,
+) -> Result<(), Fail> {
+    let graph = &FeatureGraph::of(data);
+    refuse_in_turn(rt, alloc, 16, &mut Resolves { graph, app }, ALL)
+}
+
 #[test]
 fn resolve_with(rt: HostRuntime) -> Result<(), Fail> {
-    let alloc = rt.alloc();
-    let graph = packages(alloc)?;
-    let app = id_of(alloc, "app")?;
-    let data = FeatureGraphData::build(alloc, &graph)?;
-    let mut run = Resolves {
-        graph: FeatureGraph::of(&data),
-        app: &app,
-    };
-    refuse_in_turn(&rt, alloc, 16, &mut run, ALL)
+    let graph = packages(rt.alloc())?;
+    let app = id_of(rt.alloc(), "app")?;
+    let data = FeatureGraphData::build(rt.alloc(), &graph)?;
+    expect_resolved(&rt, rt.alloc(), &data, &app)
 }
 
 /// Filters all features by what they are called.
@@ -115,14 +121,22 @@ impl Wanting for Filters<'_, '_> {
     }
 }
 
+fn expect_filtered(
+    rt: &impl Abort,
+    alloc: Global,
+    data: &FeatureGraphData<'_>,
+) -> Result<(), Fail> {
+    let all = &FeatureGraph::of(data).resolve_all(alloc)?;
+    let named = "app/full app/fast util/simd ";
+    refuse_in_turn(rt, alloc, 16, &mut Filters { all }, named)?;
+    let same = ids_text(alloc, all)?;
+    assert_eq!(rt; same.as_str(), ALL);
+    Ok(())
+}
+
 #[test]
 fn filter(rt: HostRuntime) -> Result<(), Fail> {
-    let alloc = rt.alloc();
-    let graph = packages(alloc)?;
-    let data = FeatureGraphData::build(alloc, &graph)?;
-    let all = FeatureGraph::of(&data).resolve_all(alloc)?;
-    let mut run = Filters { all: &all };
-    refuse_in_turn(&rt, alloc, 16, &mut run, "app/full app/fast util/simd ")?;
-    assert_eq!(rt; ids_text(alloc, &all)?.as_str(), ALL);
-    Ok(())
+    let graph = packages(rt.alloc())?;
+    let data = FeatureGraphData::build(rt.alloc(), &graph)?;
+    expect_filtered(&rt, rt.alloc(), &data)
 }

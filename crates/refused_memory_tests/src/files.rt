@@ -4,7 +4,7 @@ use crate::turns::{Refusal, Wanting, refuse_in_turn};
 use crate::workspace::{CHOICE, LISTINGS, RECORD, TABLE};
 use std::alloc::Global;
 use std::test::Fail;
-use test_select::{read_account, read_choice, read_listings, read_record, read_table};
+use test_select::{ReadError, read_account, read_choice, read_listings, read_record, read_table};
 
 #[derive(Clone, Copy)]
 enum Kind {
@@ -15,7 +15,7 @@ enum Kind {
     Listings,
 }
 
-/// Reads a file, and tells what it holds.
+/// Reads a file, and tells how much it holds: packages, extras, answers, rules or binaries.
 #[derive(Drop)]
 struct Reads<'a> {
     kind: Kind,
@@ -24,38 +24,38 @@ struct Reads<'a> {
 
 impl Wanting for Reads<'_> {
     fn answer(&mut self, alloc: Global) -> Result<String, Refusal> {
-        let bytes = self.bytes;
-        let text = match self.kind {
-            Kind::Record => {
-                let record = read_record(alloc, bytes)?;
-                format!(in alloc; "{} {}", record.packages.len(), record.links.len())?
-            }
-            Kind::Choice => {
-                let choice = read_choice(alloc, bytes)?;
-                format!(in alloc; "{}", choice.extras.len())?
-            }
-            Kind::Table => {
-                let table = read_table(alloc, bytes)?;
-                format!(in alloc; "{}", table.answers.len())?
-            }
-            Kind::Account => {
-                let account = read_account(alloc, bytes)?;
-                format!(in alloc; "{:?}", account.rules)?
-            }
-            Kind::Listings => {
-                let listings = read_listings(alloc, bytes)?;
-                format!(in alloc; "{}", listings.len())?
-            }
-        };
-        Ok(text)
+        match self.kind {
+            Kind::Record => counted(
+                alloc,
+                read_record(alloc, self.bytes).map(|r| r.packages.len()),
+            ),
+            Kind::Choice => counted(
+                alloc,
+                read_choice(alloc, self.bytes).map(|c| c.extras.len()),
+            ),
+            Kind::Table => counted(
+                alloc,
+                read_table(alloc, self.bytes).map(|t| t.answers.len()),
+            ),
+            Kind::Account => counted(
+                alloc,
+                read_account(alloc, self.bytes).map(|a| a.rules.len()),
+            ),
+            Kind::Listings => counted(alloc, read_listings(alloc, self.bytes).map(|l| l.len())),
+        }
     }
 }
 
+fn counted(alloc: Global, read: Result<usize, ReadError>) -> Result<String, Refusal> {
+    let count = read?;
+    Ok(format!(in alloc; "{count}")?)
+}
+
 const FILES: [(Kind, &str, &str); 5] = [
-    (Kind::Record, RECORD, "2 1"),
+    (Kind::Record, RECORD, "2"),
     (Kind::Choice, CHOICE, "2"),
     (Kind::Table, TABLE, "1"),
-    (Kind::Account, r#"{"rules":[0,1,2]}"#, "[0, 1, 2]"),
+    (Kind::Account, r#"{"rules":[0,1,2]}"#, "3"),
     (Kind::Listings, LISTINGS, "4"),
 ];
 

@@ -1,9 +1,5 @@
 //! Filters that are parsed, compiled and asked.
 
-ghost use Rattle.std.specs.Prelude.{◌≡◌, false};
-ghost use Rattle.nextest_filter_evaluation.specs.Compiled.{compiled_of, is_group};
-ghost use Rattle.nextest_filter_evaluation.specs.Formulas.{has_leaf};
-
 use crate::turns::{Refusal, Wanting, refuse_in_turn};
 use crate::workspace::{id_of, packages};
 use guppy_package_graph::{PackageGraph, PackageId};
@@ -13,6 +9,7 @@ use nextest_filtering::{
     ParseContext, ParsedExpr, RustBinaryId, RustTestBinaryKind, TestCaseName, TestQuery,
 };
 use std::alloc::{AllocError, Global};
+use std::process::Abort;
 use std::test::Fail;
 
 const FILTER: &str = r"test(/^o[a-z]+\d?$/) & (package(ap*) + deps(=app) - kind(bench))";
@@ -23,9 +20,15 @@ struct Parses;
 
 impl Wanting for Parses {
     fn answer(&mut self, alloc: Global) -> Result<String, Refusal> {
-        let expr = ParsedExpr::parse(alloc, FILTER)?;
-        Ok(format!(in alloc; "{expr}")?)
+        match ParsedExpr::parse(alloc, FILTER) {
+            Ok(expr) => printed(alloc, &expr),
+            Err(error) => Err(Refusal::from(error)),
+        }
     }
+}
+
+fn printed(alloc: Global, expr: &ParsedExpr) -> Result<String, Refusal> {
+    Ok(format!(in alloc; "{expr}")?)
 }
 
 #[test]
@@ -62,9 +65,15 @@ struct Compiles<'g, 'c> {
 
 impl Wanting for Compiles<'_, '_> {
     fn answer(&mut self, alloc: Global) -> Result<String, Refusal> {
-        let filter = compiled(alloc, self.cx)?;
-        Ok(String::from_str(alloc, filter.input.as_str())?)
+        match compiled(alloc, self.cx) {
+            Ok(filter) => text_of(alloc, filter.input.as_str()),
+            Err(error) => Err(Refusal::from(error)),
+        }
     }
+}
+
+fn text_of(alloc: Global, text: &str) -> Result<String, Refusal> {
+    Ok(String::from_str(alloc, text)?)
 }
 
 fn compiled(alloc: Global, cx: &ParseContext<'_>) -> Result<Filterset, FiltersetError> {
@@ -115,18 +124,16 @@ impl Parts {
 
 /// Asks the filter about the binary and about the test.
 #[derive(Drop)]
-struct Asks<'f> {
+struct Asks<'f, 'c> {
     filter: &'f CompiledExpr,
     parts: &'f Parts,
+    cx: &'c EvalContext<'c>,
 }
 
-impl Wanting for Asks<'_> {
+impl Wanting for Asks<'_, '_> {
     fn answer(&mut self, alloc: Global) -> Result<String, Refusal> {
-        let cx = EvalContext {
-            default_filter: &CompiledExpr::ALL,
-        };
         let binary_query = self.parts.query();
-        let known = self.filter.matches_binary(alloc, &binary_query, &cx)?;
+        let known = self.filter.matches_binary(alloc, &binary_query, self.cx)?;
         let test_name = &self.parts.test_name;
         let query = TestQuery {
             binary_query,
@@ -135,21 +142,38 @@ impl Wanting for Asks<'_> {
         if self.filter.has_group_matchers() {
             return Err(Refusal::Other);
         }
-        let holds = self.filter.matches_test(alloc, &query, &cx)?;
+        let holds = self.filter.matches_test(alloc, &query, self.cx)?;
         Ok(format!(in alloc; "{known:?} {holds}")?)
     }
 }
 
+fn expect_answers(
+    rt: &impl Abort,
+    alloc: Global,
+    filter: &CompiledExpr,
+    parts: &Parts,
+) -> Result<(), Fail> {
+    let all = CompiledExpr::ALL;
+    let cx = &EvalContext {
+        default_filter: &all,
+    };
+    refuse_in_turn(rt, alloc, 64, &mut Asks { filter, parts, cx }, "None true")
+}
+
+fn expect_answers_in(
+    rt: &impl Abort,
+    alloc: Global,
+    cx: &ParseContext<'_>,
+    parts: &Parts,
+) -> Result<(), Fail> {
+    let filter = compiled(alloc, cx)?;
+    expect_answers(rt, alloc, &filter.compiled, parts)
+}
+
 #[test]
 fn evaluators(rt: HostRuntime) -> Result<(), Fail> {
-    let alloc = rt.alloc();
-    let graph = packages(alloc)?;
-    let cx = ParseContext::new(alloc, &graph)?;
-    let filter = compiled(alloc, &cx)?;
-    let parts = Parts::new(alloc)?;
-    let mut run = Asks {
-        filter: &filter.compiled,
-        parts: &parts,
-    };
-    refuse_in_turn(&rt, alloc, 64, &mut run, "None true")
+    let graph = packages(rt.alloc())?;
+    let parts = Parts::new(rt.alloc())?;
+    let cx = ParseContext::new(rt.alloc(), &graph)?;
+    expect_answers_in(&rt, rt.alloc(), &cx, &parts)
 }

@@ -1,12 +1,16 @@
 //! Package graphs, their sets and their resolves.
 
+ghost use Rattle.std.specs.Prelude.{◌≡◌};
+ghost use Rattle.guppy_package_table.specs.Tables.{ids_of};
+
 use crate::turns::{Refusal, Wanting, refuse_in_turn};
-use crate::workspace::{Workspace, id_of, packages};
+use crate::workspace::{Workspace, id_of, packages, record_text};
 use guppy_package_graph::{
     DependencyDirection, PackageGraph, PackageId, PackageLink, PackageLinkContext,
     PackageLinkVisitor, PackageMetadata, PackageSet,
 };
 use std::alloc::{AllocError, Global};
+use std::process::Abort;
 use std::test::Fail;
 use test_select::WorkspaceRecord;
 
@@ -40,17 +44,18 @@ fn all_text(alloc: Global, graph: &PackageGraph) -> Result<String, Refusal> {
     Ok(ids_text(alloc, &all)?)
 }
 
+fn expect_graph(rt: &impl Abort, alloc: Global, record: &WorkspaceRecord) -> Result<(), Fail> {
+    let before = record_text(alloc, record)?;
+    refuse_in_turn(rt, alloc, 16, &mut Builds { record }, "app util ")?;
+    let after = record_text(alloc, record)?;
+    assert_eq!(rt; after, before);
+    Ok(())
+}
+
 #[test]
 fn from_records(rt: HostRuntime) -> Result<(), Fail> {
-    let alloc = rt.alloc();
-    let workspace = Workspace::read(alloc)?;
-    let same = workspace.record.copy(alloc)?;
-    let mut run = Builds {
-        record: &workspace.record,
-    };
-    refuse_in_turn(&rt, alloc, 16, &mut run, "app util ")?;
-    assert!(rt; workspace.record == same);
-    Ok(())
+    let workspace = Workspace::read(rt.alloc())?;
+    expect_graph(&rt, rt.alloc(), &workspace.record)
 }
 
 /// What two sets are made into.
@@ -67,51 +72,57 @@ enum Made {
 
 /// Makes a set, or something of a set, of two sets.
 #[derive(Drop)]
-struct Makes<'g, 's> {
+struct Makes<'g, 'h, 's, 't> {
     made: Made,
     all: &'s PackageSet<'g>,
-    one: &'s PackageSet<'g>,
+    one: &'t PackageSet<'h>,
 }
 
-impl Wanting for Makes<'_, '_> {
+impl Wanting for Makes<'_, '_, '_, '_> {
     fn answer(&mut self, alloc: Global) -> Result<String, Refusal> {
-        let text = made_text(alloc, self.made, self.all, self.one)?;
-        Ok(text)
+        if !self.all.same_packages(self.one) {
+            return Err(Refusal::Other);
+        }
+        match made_set(alloc, self.made, self.all, self.one)? {
+            Some(set) => Ok(ids_text(alloc, &set)?),
+            None => Ok(told_of(alloc, self.made, self.all)?),
+        }
     }
 }
 
-fn made_text(
+/// The set that is made of both, and none where something is told of the one.
+fn made_set<'g>(
     alloc: Global,
     made: Made,
-    all: &PackageSet<'_>,
+    all: &PackageSet<'g>,
     one: &PackageSet<'_>,
-) -> Result<String, AllocError> {
+) -> Result<Option<PackageSet<'g>>, AllocError>
+    requires same { ids_of all.now.graph.packages ≡ ids_of one.now.graph.packages }
+{
     match made {
-        Made::Union => ids_text(alloc, &one.union(alloc, all)?),
-        Made::Intersection => ids_text(alloc, &all.intersection(alloc, one)?),
-        Made::Difference => ids_text(alloc, &all.difference(alloc, one)?),
-        Made::SymmetricDifference => ids_text(alloc, &one.symmetric_difference(alloc, all)?),
-        Made::Filter => filtered_text(alloc, all),
-        Made::Links => count_text(alloc, all.links(alloc)?.len()),
-        Made::Roots => roots_text(alloc, all),
+        Made::Union => Ok(Some(all.union(alloc, one)?)),
+        Made::Intersection => Ok(Some(all.intersection(alloc, one)?)),
+        Made::Difference => Ok(Some(all.difference(alloc, one)?)),
+        Made::SymmetricDifference => Ok(Some(all.symmetric_difference(alloc, one)?)),
+        Made::Filter => Ok(Some(filtered(alloc, all)?)),
+        Made::Links | Made::Roots => Ok(None),
     }
 }
 
-fn filtered_text(alloc: Global, all: &PackageSet<'_>) -> Result<String, AllocError> {
-    let kept = all.filter(
+fn filtered<'g>(alloc: Global, all: &PackageSet<'g>) -> Result<PackageSet<'g>, AllocError> {
+    all.filter(
         alloc,
         DependencyDirection::Forward,
         |package: PackageMetadata<'_>| -> bool { package.id().repr() == "app" },
-    )?;
-    ids_text(alloc, &kept)
+    )
 }
 
-fn roots_text(alloc: Global, all: &PackageSet<'_>) -> Result<String, AllocError> {
-    let roots = all.root_ids(alloc, DependencyDirection::Forward)?;
-    count_text(alloc, roots.len())
-}
-
-fn count_text(alloc: Global, count: usize) -> Result<String, AllocError> {
+/// How many links stand inside the set, or how many roots it has.
+fn told_of(alloc: Global, made: Made, all: &PackageSet<'_>) -> Result<String, AllocError> {
+    let count = match made {
+        Made::Links => all.links(alloc)?.len(),
+        _ => all.root_ids(alloc, DependencyDirection::Forward)?.len(),
+    };
     format!(in alloc; "{count}")
 }
 
@@ -125,24 +136,39 @@ const SETS: [(Made, &str); 7] = [
     (Made::Roots, "1"),
 ];
 
+fn expect_made(
+    rt: &impl Abort,
+    alloc: Global,
+    all: &PackageSet<'_>,
+    one: &PackageSet<'_>,
+) -> Result<(), Fail> {
+    for (made, wanted) in SETS {
+        refuse_in_turn(rt, alloc, 16, &mut Makes { made, all, one }, wanted)?;
+    }
+    Ok(())
+}
+
+/// Asserts that the set has just these.
+fn expect_ids(
+    rt: &impl Abort,
+    alloc: Global,
+    set: &PackageSet<'_>,
+    wanted: &str,
+) -> Result<(), Fail> {
+    let ids = ids_text(alloc, set)?;
+    assert_eq!(rt; ids.as_str(), wanted);
+    Ok(())
+}
+
 #[test]
 fn sets(rt: HostRuntime) -> Result<(), Fail> {
-    let alloc = rt.alloc();
-    let graph = packages(alloc)?;
-    let util = id_of(alloc, "util")?;
-    let all = graph.resolve_all(alloc)?;
-    let one = graph.resolve_ids(alloc, &[&util])?;
-    for (made, wanted) in SETS {
-        let mut run = Makes {
-            made,
-            all: &all,
-            one: &one,
-        };
-        refuse_in_turn(&rt, alloc, 16, &mut run, wanted)?;
-    }
-    assert_eq!(rt; ids_text(alloc, &all)?.as_str(), "app util ");
-    assert_eq!(rt; ids_text(alloc, &one)?.as_str(), "util ");
-    Ok(())
+    let graph = packages(rt.alloc())?;
+    let util = id_of(rt.alloc(), "util")?;
+    let all = graph.resolve_all(rt.alloc())?;
+    let one = graph.resolve_ids(rt.alloc(), &[&util])?;
+    expect_made(&rt, rt.alloc(), &all, &one)?;
+    expect_ids(&rt, rt.alloc(), &all, "app util ")?;
+    expect_ids(&rt, rt.alloc(), &one, "util ")
 }
 
 /// Counts the links that it is shown.

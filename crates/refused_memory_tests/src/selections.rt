@@ -1,16 +1,15 @@
 //! Records that are checked, what is on, accounts, orders and selections.
 
-ghost use Rattle.std.specs.Prelude.{IfErr};
-
 use crate::turns::{Refusal, Wanting, refuse_in_turn};
-use crate::workspace::{LISTINGS, Workspace, packages};
+use crate::workspace::{LISTINGS, Workspace, packages, record_text, simd};
 use guppy_package_graph::PackageGraph;
 use std::alloc::{AllocError, Global};
+use std::process::Abort;
 use std::test::Fail;
 use test_select::{
-    Feature, FeaturesOn, FileLister, Label, LinkScope, SelectError, Selection, account,
+    Feature, FeaturesOn, FileLister, LinkScope, PlatformTable, SelectError, Selection, account,
     check_record, explain, features_on, package_order, read_listings, select, select_plain,
-    switched_on, write_report,
+    switched_on,
 };
 
 /// What is asked about the workspace.
@@ -24,13 +23,13 @@ enum Question {
 }
 
 #[derive(Drop)]
-struct Asks<'w> {
+struct Asks<'w, 'f> {
     question: Question,
     workspace: &'w Workspace,
-    goal: &'w Feature,
+    goal: &'f Feature,
 }
 
-impl Wanting for Asks<'_> {
+impl Wanting for Asks<'_, '_> {
     fn answer(&mut self, alloc: Global) -> Result<String, Refusal> {
         let Workspace {
             record,
@@ -68,25 +67,31 @@ const QUESTIONS: [(Question, &str); 5] = [
     (Question::Order, r#"["util", "app"]"#),
 ];
 
-#[test]
-fn questions(rt: HostRuntime) -> Result<(), Fail> {
-    let alloc = rt.alloc();
-    let workspace = Workspace::read(alloc)?;
-    let same = workspace.record.copy(alloc)?;
-    let goal = Feature {
-        package: String::from_str(alloc, "util")?,
-        label: Label::Named(String::from_str(alloc, "simd")?),
-    };
+fn expect_answers(
+    rt: &impl Abort,
+    alloc: Global,
+    workspace: &Workspace,
+    goal: &Feature,
+) -> Result<(), Fail> {
+    let before = record_text(alloc, &workspace.record)?;
     for (question, wanted) in QUESTIONS {
         let mut run = Asks {
             question,
-            workspace: &workspace,
-            goal: &goal,
+            workspace,
+            goal,
         };
-        refuse_in_turn(&rt, alloc, 64, &mut run, wanted)?;
+        refuse_in_turn(rt, alloc, 64, &mut run, wanted)?;
     }
-    assert!(rt; workspace.record == same);
+    let after = record_text(alloc, &workspace.record)?;
+    assert_eq!(rt; after, before);
     Ok(())
+}
+
+#[test]
+fn questions(rt: HostRuntime) -> Result<(), Fail> {
+    let workspace = Workspace::read(rt.alloc())?;
+    let goal = simd(rt.alloc())?;
+    expect_answers(&rt, rt.alloc(), &workspace, &goal)
 }
 
 /// Makes the switched-on graph, and tells how many links it has.
@@ -94,33 +99,36 @@ fn questions(rt: HostRuntime) -> Result<(), Fail> {
 struct Switches<'w> {
     graph: &'w PackageGraph,
     on: &'w FeaturesOn,
-    workspace: &'w Workspace,
+    table: &'w PlatformTable,
 }
 
 impl Wanting for Switches<'_> {
     fn answer(&mut self, alloc: Global) -> Result<String, Refusal> {
-        let graph = switched_on(alloc, self.graph, self.on, &self.workspace.table)?;
+        let graph = switched_on(alloc, self.graph, self.on, self.table)?;
         Ok(format!(in alloc; "{}", graph.link_count())?)
     }
 }
 
-#[test]
-fn switched_on_graphs(rt: HostRuntime) -> Result<(), Fail> {
-    let alloc = rt.alloc();
-    let workspace = Workspace::read(alloc)?;
-    let graph = packages(alloc)?;
+fn expect_switched(
+    rt: &impl Abort,
+    alloc: Global,
+    graph: &PackageGraph,
+    workspace: &Workspace,
+) -> Result<(), Fail> {
     let Workspace {
         record,
         choice,
         table,
-    } = &workspace;
-    let on = features_on(alloc, record, choice, table)?;
-    let mut run = Switches {
-        graph: &graph,
-        on: &on,
-        workspace: &workspace,
-    };
-    refuse_in_turn(&rt, alloc, 16, &mut run, "1")
+    } = workspace;
+    let on = &features_on(alloc, record, choice, table)?;
+    refuse_in_turn(rt, alloc, 16, &mut Switches { graph, on, table }, "1")
+}
+
+#[test]
+fn switched_on_graphs(rt: HostRuntime) -> Result<(), Fail> {
+    let workspace = Workspace::read(rt.alloc())?;
+    let graph = packages(rt.alloc())?;
+    expect_switched(&rt, rt.alloc(), &graph, &workspace)
 }
 
 /// Selects, and tells the report. Where that is refused, the ids that were asked are a beginning of all,
@@ -139,14 +147,41 @@ impl Wanting for Selects<'_> {
     fn answer(&mut self, alloc: Global) -> Result<String, Refusal> {
         let listings = read_listings(alloc, LISTINGS.as_bytes())?;
         let mut lister = FileLister::new(alloc, listings);
-        match selected(alloc, self.workspace, self.plain, &mut lister) {
-            Ok(selection) if is_beginning(selection.asked()) => Ok(report(alloc, &selection)?),
-            Err(SelectError::Memory) if is_beginning(lister.asked()) => Err(Refusal::Memory),
-            Err(SelectError::Lister(id)) if is_next(lister.asked(), id.as_str()) => {
-                Err(Refusal::Memory)
-            }
-            _ => Err(Refusal::Other),
-        }
+        let answer = selected(alloc, self.workspace, self.plain, &mut lister);
+        told(alloc, answer, lister.asked())
+    }
+}
+
+fn told(
+    alloc: Global,
+    answer: Result<Selection, SelectError>,
+    asked: &[String],
+) -> Result<String, Refusal> {
+    match answer {
+        Ok(selection) => Ok(report(alloc, &selection)?),
+        Err(SelectError::Lister(id)) => Err(refused_at(asked, id.as_str())),
+        Err(error) => Err(refused_after(asked, Refusal::from(error))),
+    }
+}
+
+/// The id is the last that was asked, or the next one, where there was no room to keep it.
+fn refused_at(asked: &[String], id: &str) -> Refusal {
+    let before = asked.len().saturating_sub(1);
+    let last = IDS.get(before).is_some_and(|wanted| *wanted == id);
+    let next = IDS.get(asked.len()).is_some_and(|wanted| *wanted == id);
+    if last || next {
+        refused_after(asked, Refusal::Memory)
+    } else {
+        Refusal::Other
+    }
+}
+
+/// What was asked is a beginning of all ids.
+fn refused_after(asked: &[String], refusal: Refusal) -> Refusal {
+    if asked.len() <= IDS.len() && asked.iter().zip(IDS).all(|(id, all)| id.as_str() == all) {
+        refusal
+    } else {
+        Refusal::Other
     }
 }
 
@@ -168,21 +203,6 @@ fn selected(
     select(alloc, record, choice, table, scope, &TEXTS, lister)
 }
 
-fn is_beginning(asked: &[String]) -> bool {
-    asked.len() <= IDS.len()
-        && asked
-            .iter()
-            .zip(IDS)
-            .all(|(id, wanted)| id.as_str() == wanted)
-}
-
-/// Whether the id is the last that was asked, or the next one, where there was no room to keep it.
-fn is_next(asked: &[String], id: &str) -> bool {
-    let place = IDS.iter().position(|wanted| *wanted == id);
-    is_beginning(asked)
-        && (place == Some(asked.len()) || place.map(|at| at + 1) == Some(asked.len()))
-}
-
 fn report(alloc: Global, selection: &Selection) -> Result<String, AllocError> {
     let mut text = String::new(alloc);
     for (id, name) in selection.chosen() {
@@ -195,18 +215,18 @@ fn report(alloc: Global, selection: &Selection) -> Result<String, AllocError> {
 
 const REPORT: &str = "app one\napp::net get\nutil::wide lanes\n";
 
+fn expect_selected(rt: &impl Abort, alloc: Global, workspace: &Workspace) -> Result<(), Fail> {
+    let before = record_text(alloc, &workspace.record)?;
+    for plain in [false, true] {
+        refuse_in_turn(rt, alloc, 128, &mut Selects { workspace, plain }, REPORT)?;
+    }
+    let after = record_text(alloc, &workspace.record)?;
+    assert_eq!(rt; after, before);
+    Ok(())
+}
+
 #[test]
 fn selections(rt: HostRuntime) -> Result<(), Fail> {
-    let alloc = rt.alloc();
-    let workspace = Workspace::read(alloc)?;
-    let same = workspace.record.copy(alloc)?;
-    for plain in [false, true] {
-        let mut run = Selects {
-            workspace: &workspace,
-            plain,
-        };
-        refuse_in_turn(&rt, alloc, 128, &mut run, REPORT)?;
-    }
-    assert!(rt; workspace.record == same);
-    Ok(())
+    let workspace = Workspace::read(rt.alloc())?;
+    expect_selected(&rt, rt.alloc(), &workspace)
 }

@@ -4,7 +4,8 @@ use guppy_package_graph::{PackageGraph, PackageId};
 use std::alloc::{AllocError, Global};
 use std::test::Fail;
 use test_select::{
-    FeatureChoice, PlatformTable, WorkspaceRecord, read_choice, read_record, read_table,
+    Feature, FeatureChoice, Label, PlatformTable, WorkspaceRecord, read_choice, read_record,
+    read_table,
 };
 
 /// The feature `full` of app switches util on, and `fast` its feature `simd`.
@@ -51,11 +52,21 @@ pub(crate) const LISTINGS: &str = r#"{
 }"#;
 
 /// The record with a choice and a table.
-#[derive(Drop)]
 pub(crate) struct Workspace {
     pub(crate) record: WorkspaceRecord,
     pub(crate) choice: FeatureChoice,
     pub(crate) table: PlatformTable,
+}
+
+// Written out, so that a function that lets one go takes one step.
+impl Drop for Workspace {
+    fn drop(self) {
+        let Workspace {
+            record: _,
+            choice: _,
+            table: _,
+        } = self;
+    }
 }
 
 impl Workspace {
@@ -71,6 +82,11 @@ impl Workspace {
     }
 }
 
+/// All that the record holds.
+pub(crate) fn record_text(alloc: Global, record: &WorkspaceRecord) -> Result<String, AllocError> {
+    format!(in alloc; "{record:?}")
+}
+
 /// The graph of the packages.
 pub(crate) fn packages(alloc: Global) -> Result<PackageGraph, Fail> {
     let record = read_record(alloc, RECORD.as_bytes())?;
@@ -81,4 +97,11 @@ pub(crate) fn packages(alloc: Global) -> Result<PackageGraph, Fail> {
 
 pub(crate) fn id_of(alloc: Global, text: &str) -> Result<PackageId, AllocError> {
     Ok(PackageId::new(String::from_str(alloc, text)?))
+}
+
+/// The feature `simd` of util.
+pub(crate) fn simd(alloc: Global) -> Result<Feature, AllocError> {
+    let package = String::from_str(alloc, "util")?;
+    let label = Label::Named(String::from_str(alloc, "simd")?);
+    Ok(Feature { package, label })
 }
