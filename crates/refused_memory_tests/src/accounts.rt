@@ -31,7 +31,7 @@ fn rule_lists(rt: HostRuntime) -> Result<(), Fail> {
     let mut run = Lists {
         workspace: &workspace,
     };
-    refuse_in_turn(&rt, rt.alloc(), 16, &mut run, "11")
+    refuse_in_turn(&rt, rt.alloc(), &mut run, "11")
 }
 
 /// Checks an account, or an explanation where it has a goal.
@@ -71,7 +71,7 @@ fn expect_verdict(
         goal,
         entries,
     };
-    refuse_in_turn(rt, alloc, 16, &mut run, wanted)
+    refuse_in_turn(rt, alloc, &mut run, wanted)
 }
 
 #[test]

@@ -37,7 +37,7 @@ impl Wanting for Builds<'_> {
 fn build(rt: HostRuntime) -> Result<(), Fail> {
     let graph = packages(rt.alloc())?;
     let mut run = Builds { packages: &graph };
-    refuse_in_turn(&rt, rt.alloc(), 16, &mut run, "6")
+    refuse_in_turn(&rt, rt.alloc(), &mut run, "6")
 }
 
 /// Counts the links that it is shown.
@@ -93,7 +93,7 @@ fn expect_resolved(
     app: &PackageId,
 ) -> Result<(), Fail> {
     let graph = &FeatureGraph::of(data);
-    refuse_in_turn(rt, alloc, 16, &mut Resolves { graph, app }, ALL)
+    refuse_in_turn(rt, alloc, &mut Resolves { graph, app }, ALL)
 }
 
 #[test]
@@ -128,7 +128,7 @@ fn expect_filtered(
 ) -> Result<(), Fail> {
     let all = &FeatureGraph::of(data).resolve_all(alloc)?;
     let named = "app/full app/fast util/simd ";
-    refuse_in_turn(rt, alloc, 16, &mut Filters { all }, named)?;
+    refuse_in_turn(rt, alloc, &mut Filters { all }, named)?;
     let same = ids_text(alloc, all)?;
     assert_eq!(rt; same.as_str(), ALL);
     Ok(())

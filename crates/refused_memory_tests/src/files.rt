@@ -63,7 +63,7 @@ const FILES: [(Kind, &str, &str); 5] = [
 fn files(rt: HostRuntime) -> Result<(), Fail> {
     for (kind, text, wanted) in FILES {
         let bytes = text.as_bytes();
-        refuse_in_turn(&rt, rt.alloc(), 16, &mut Reads { kind, bytes }, wanted)?;
+        refuse_in_turn(&rt, rt.alloc(), &mut Reads { kind, bytes }, wanted)?;
     }
     Ok(())
 }

@@ -34,7 +34,7 @@ fn printed(alloc: Global, expr: &ParsedExpr) -> Result<String, Refusal> {
 #[test]
 fn parse(rt: HostRuntime) -> Result<(), Fail> {
     let printed = "test(/^o[a-z]+\\d?$/) & (package(ap*) + deps(=app) - kind(bench))";
-    refuse_in_turn(&rt, rt.alloc(), 64, &mut Parses, printed)
+    refuse_in_turn(&rt, rt.alloc(), &mut Parses, printed)
 }
 
 /// Makes a context of all packages, and tells how many it knows.
@@ -54,7 +54,7 @@ impl Wanting for Knows<'_> {
 #[test]
 fn with_packages(rt: HostRuntime) -> Result<(), Fail> {
     let graph = packages(rt.alloc())?;
-    refuse_in_turn(&rt, rt.alloc(), 16, &mut Knows { graph: &graph }, "2")
+    refuse_in_turn(&rt, rt.alloc(), &mut Knows { graph: &graph }, "2")
 }
 
 /// Compiles the filter.
@@ -86,7 +86,7 @@ fn compiled(alloc: Global, cx: &ParseContext<'_>) -> Result<Filterset, Filterset
 fn filterset(rt: HostRuntime) -> Result<(), Fail> {
     let graph = packages(rt.alloc())?;
     let cx = ParseContext::new(rt.alloc(), &graph)?;
-    refuse_in_turn(&rt, rt.alloc(), 64, &mut Compiles { cx: &cx }, FILTER)
+    refuse_in_turn(&rt, rt.alloc(), &mut Compiles { cx: &cx }, FILTER)
 }
 
 /// The parts of a test of app's library.
@@ -157,7 +157,7 @@ fn expect_answers(
     let cx = &EvalContext {
         default_filter: &all,
     };
-    refuse_in_turn(rt, alloc, 64, &mut Asks { filter, parts, cx }, "None true")
+    refuse_in_turn(rt, alloc, &mut Asks { filter, parts, cx }, "None true")
 }
 
 fn expect_answers_in(

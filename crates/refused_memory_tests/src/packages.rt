@@ -46,7 +46,7 @@ fn all_text(alloc: Global, graph: &PackageGraph) -> Result<String, Refusal> {
 
 fn expect_graph(rt: &impl Abort, alloc: Global, record: &WorkspaceRecord) -> Result<(), Fail> {
     let before = record_text(alloc, record)?;
-    refuse_in_turn(rt, alloc, 16, &mut Builds { record }, "app util ")?;
+    refuse_in_turn(rt, alloc, &mut Builds { record }, "app util ")?;
     let after = record_text(alloc, record)?;
     assert_eq!(rt; after, before);
     Ok(())
@@ -143,7 +143,7 @@ fn expect_made(
     one: &PackageSet<'_>,
 ) -> Result<(), Fail> {
     for (made, wanted) in SETS {
-        refuse_in_turn(rt, alloc, 16, &mut Makes { made, all, one }, wanted)?;
+        refuse_in_turn(rt, alloc, &mut Makes { made, all, one }, wanted)?;
     }
     Ok(())
 }
@@ -218,5 +218,5 @@ fn resolve_with(rt: HostRuntime) -> Result<(), Fail> {
         graph: &graph,
         start: &start,
     };
-    refuse_in_turn(&rt, alloc, 16, &mut run, "app util ")
+    refuse_in_turn(&rt, alloc, &mut run, "app util ")
 }

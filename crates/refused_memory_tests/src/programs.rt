@@ -102,7 +102,7 @@ fn subcommands(rt: HostRuntime) -> Result<(), Fail> {
             out: Vec::with_capacity(alloc, 1024)?,
             err: Vec::with_capacity(alloc, 1024)?,
         };
-        refuse_in_turn(&rt, alloc, 256, &mut run, wanted)?;
+        refuse_in_turn(&rt, alloc, &mut run, wanted)?;
     }
     Ok(())
 }

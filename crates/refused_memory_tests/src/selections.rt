@@ -80,7 +80,7 @@ fn expect_answers(
             workspace,
             goal,
         };
-        refuse_in_turn(rt, alloc, 64, &mut run, wanted)?;
+        refuse_in_turn(rt, alloc, &mut run, wanted)?;
     }
     let after = record_text(alloc, &workspace.record)?;
     assert_eq!(rt; after, before);
@@ -121,7 +121,7 @@ fn expect_switched(
         table,
     } = workspace;
     let on = &features_on(alloc, record, choice, table)?;
-    refuse_in_turn(rt, alloc, 16, &mut Switches { graph, on, table }, "1")
+    refuse_in_turn(rt, alloc, &mut Switches { graph, on, table }, "1")
 }
 
 #[test]
@@ -218,7 +218,7 @@ const REPORT: &str = "app one\napp::net get\nutil::wide lanes\n";
 fn expect_selected(rt: &impl Abort, alloc: Global, workspace: &Workspace) -> Result<(), Fail> {
     let before = record_text(alloc, &workspace.record)?;
     for plain in [false, true] {
-        refuse_in_turn(rt, alloc, 128, &mut Selects { workspace, plain }, REPORT)?;
+        refuse_in_turn(rt, alloc, &mut Selects { workspace, plain }, REPORT)?;
     }
     let after = record_text(alloc, &workspace.record)?;
     assert_eq!(rt; after, before);

@@ -24,20 +24,22 @@ pub(crate) enum Refusal {
 }
 
 /// How often a run is made. None here needs as many.
-const TURNS: usize = 40_000;
+const TURNS: usize = 100_000;
 
-/// Leaves a run no memory at first, and each time this many bytes more, until it is not refused. Each run
-/// before is refused for want of memory, and the last one answers what is wanted.
+/// How many bytes more each run is left: what the heap's blocks are multiples of.
+const STEP: usize = 16;
+
+/// Leaves a run no memory at first, and each time a little more, until it is not refused. Each run before is
+/// refused for want of memory, and the last one answers what is wanted.
 pub(crate) fn refuse_in_turn<W: Wanting>(
     rt: &impl Abort,
     alloc: Global,
-    bytes: usize,
     run: &mut W,
     wanted: &str,
 ) -> Result<(), Fail> {
     let mut purse = Purse::new(alloc)?;
     for turn in 0..TURNS {
-        let for_good = purse.leave(turn.saturating_mul(bytes))?;
+        let for_good = purse.leave(turn.saturating_mul(STEP))?;
         let answer = run.answer(alloc);
         purse.let_go(for_good);
         match answer {

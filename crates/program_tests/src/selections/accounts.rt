@@ -68,7 +68,7 @@ impl Written for Features {
 }
 
 #[test]
-fn features(rt: HostRuntime) -> Result<(), Fail> {
+fn features_on(rt: HostRuntime) -> Result<(), Fail> {
     let mut features = Vec::new(rt.alloc());
     features.push(simd(rt.alloc())?)?;
     expect_each_cut(&rt, rt.alloc(), &Features { features }, b"util/simd\n");
