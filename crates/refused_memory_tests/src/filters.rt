@@ -3,7 +3,7 @@
 use crate::turns::{Refusal, Wanting, refuse_in_turn};
 use crate::workspace::{id_of, packages};
 use guppy_package_graph::{PackageGraph, PackageId};
-use nextest_filtering::errors::FiltersetError;
+use nextest_filtering::errors::{FiltersetError, ParseExprError};
 use nextest_filtering::{
     BinaryQuery, BuildPlatform, CompiledExpr, EvalContext, Filterset, FiltersetKind, KnownGroups,
     ParseContext, ParsedExpr, RustBinaryId, RustTestBinaryKind, TestCaseName, TestQuery,
@@ -20,15 +20,27 @@ struct Parses;
 
 impl Wanting for Parses {
     fn answer(&mut self, alloc: Global) -> Result<String, Refusal> {
-        match ParsedExpr::parse(alloc, FILTER) {
-            Ok(expr) => printed(alloc, &expr),
-            Err(error) => Err(Refusal::from(error)),
-        }
+        let parsed = parse_filter(alloc)?;
+        Ok(format!(in alloc; "{}", parsed.expr)?)
     }
 }
 
-fn printed(alloc: Global, expr: &ParsedExpr) -> Result<String, Refusal> {
-    Ok(format!(in alloc; "{expr}")?)
+struct Parsed {
+    expr: ParsedExpr,
+}
+
+// Written out, so that a function that lets one go takes one step.
+impl Drop for Parsed {
+    fn drop(self) {
+        let Parsed { expr: _ } = self;
+    }
+}
+
+fn parse_filter(alloc: Global) -> Result<Parsed, ParseExprError> {
+    match ParsedExpr::parse(alloc, FILTER) {
+        Ok(expr) => Ok(Parsed { expr }),
+        Err(error) => Err(error),
+    }
 }
 
 #[test]
@@ -65,21 +77,29 @@ struct Compiles<'g, 'c> {
 
 impl Wanting for Compiles<'_, '_> {
     fn answer(&mut self, alloc: Global) -> Result<String, Refusal> {
-        match compiled(alloc, self.cx) {
-            Ok(filter) => text_of(alloc, filter.input.as_str()),
-            Err(error) => Err(Refusal::from(error)),
-        }
+        let compiled = compile_filter(alloc, self.cx)?;
+        Ok(String::from_str(alloc, compiled.filter.input.as_str())?)
     }
 }
 
-fn text_of(alloc: Global, text: &str) -> Result<String, Refusal> {
-    Ok(String::from_str(alloc, text)?)
+struct Compiled {
+    filter: Filterset,
 }
 
-fn compiled(alloc: Global, cx: &ParseContext<'_>) -> Result<Filterset, FiltersetError> {
+// Written out, so that a function that lets one go takes one step.
+impl Drop for Compiled {
+    fn drop(self) {
+        let Compiled { filter: _ } = self;
+    }
+}
+
+fn compile_filter(alloc: Global, cx: &ParseContext<'_>) -> Result<Compiled, FiltersetError> {
     let input = String::from_str(alloc, FILTER)?;
     let (kind, groups) = (FiltersetKind::OverrideFilter, KnownGroups::Unavailable);
-    Filterset::parse(alloc, input, cx, kind, &groups)
+    match Filterset::parse(alloc, input, cx, kind, &groups) {
+        Ok(filter) => Ok(Compiled { filter }),
+        Err(error) => Err(error),
+    }
 }
 
 #[test]
@@ -166,8 +186,8 @@ fn expect_answers_in(
     cx: &ParseContext<'_>,
     parts: &Parts,
 ) -> Result<(), Fail> {
-    let filter = compiled(alloc, cx)?;
-    expect_answers(rt, alloc, &filter.compiled, parts)
+    let compiled = compile_filter(alloc, cx)?;
+    expect_answers(rt, alloc, &compiled.filter.compiled, parts)
 }
 
 #[test]

@@ -3,6 +3,7 @@
 use crate::turns::{Refusal, Wanting, refuse_in_turn};
 use crate::workspace::{CHOICE, LISTINGS, RECORD, TABLE};
 use std::alloc::Global;
+use std::process::Abort;
 use std::test::Fail;
 use test_select::{FileFault, FileSource, run};
 
@@ -29,13 +30,13 @@ impl FileSource for Files {
 
 /// Runs the program into streams that have room for all that it writes.
 #[derive(Drop)]
-struct Runs<'a> {
-    words: &'a [&'a str],
+struct Runs<'a, 'b> {
+    words: &'a [&'b str],
     out: Vec<u8>,
     err: Vec<u8>,
 }
 
-impl Wanting for Runs<'_> {
+impl Wanting for Runs<'_, '_> {
     fn answer(&mut self, alloc: Global) -> Result<String, Refusal> {
         self.out.clear();
         self.err.clear();
@@ -62,47 +63,89 @@ fn text_of(alloc: Global, bytes: &[u8]) -> Result<String, Refusal> {
     }
 }
 
-const QUESTION: [&str; 6] = [
-    "--record",
-    "record.json",
-    "--choice",
-    "choice.json",
-    "--table",
-    "table.json",
-];
-
-/// The subcommand, its further words, and what it prints.
-const RUNS: [(&str, &[&str], &str); 5] = [
+/// The words of a run, and what it prints.
+const RUNS: [(&[&str], &str); 5] = [
     (
-        "tests",
-        &["--listings", "listings.json", "package(=app)"],
+        &[
+            "test_select",
+            "tests",
+            "--record",
+            "record.json",
+            "--choice",
+            "choice.json",
+            "--table",
+            "table.json",
+            "--listings",
+            "listings.json",
+            "package(=app)",
+        ],
         "app one\napp::net get\n",
     ),
-    ("account", &[], "{\"rules\":[0,1,2,3,8,9]}\n"),
-    ("check", &["--account", "account.json"], "accepted\n"),
     (
-        "explain",
-        &["util", "simd"],
+        &[
+            "test_select",
+            "account",
+            "--record",
+            "record.json",
+            "--choice",
+            "choice.json",
+        ],
+        "{\"rules\":[0,1,2,3,8,9]}\n",
+    ),
+    (
+        &[
+            "test_select",
+            "check",
+            "--record",
+            "record.json",
+            "--choice",
+            "choice.json",
+            "--account",
+            "account.json",
+        ],
+        "accepted\n",
+    ),
+    (
+        &[
+            "test_select",
+            "explain",
+            "--record",
+            "record.json",
+            "--choice",
+            "choice.json",
+            "util",
+            "simd",
+        ],
         "{\"goal\":{\"package\":\"util\",\"feature\":\"simd\"},\"rules\":[2,3,8,9]}\n",
     ),
-    ("order", &[], "util\napp\n"),
+    (
+        &[
+            "test_select",
+            "order",
+            "--record",
+            "record.json",
+            "--choice",
+            "choice.json",
+        ],
+        "util\napp\n",
+    ),
 ];
+
+fn expect_printed(
+    rt: &impl Abort,
+    alloc: Global,
+    words: &[&str],
+    wanted: &str,
+) -> Result<(), Fail> {
+    let out = Vec::with_capacity(alloc, 1024)?;
+    let err = Vec::with_capacity(alloc, 1024)?;
+    refuse_in_turn(rt, alloc, &mut Runs { words, out, err }, wanted)
+}
 
 #[test]
 fn subcommands(rt: HostRuntime) -> Result<(), Fail> {
-    let alloc = rt.alloc();
-    for (subcommand, further, wanted) in RUNS {
-        let mut words = Vec::with_capacity(alloc, 16)?;
-        words.push("test_select")?;
-        words.push(subcommand)?;
-        words.extend_from_slice(&QUESTION)?;
-        words.extend_from_slice(further)?;
-        let mut run = Runs {
-            words: &words,
-            out: Vec::with_capacity(alloc, 1024)?,
-            err: Vec::with_capacity(alloc, 1024)?,
-        };
-        refuse_in_turn(&rt, alloc, &mut run, wanted)?;
+    for (words, wanted) in RUNS {
+        expect_printed(&rt, rt.alloc(), words, wanted)?;
     }
     Ok(())
 }
