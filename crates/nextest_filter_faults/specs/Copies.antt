@@ -1,7 +1,6 @@
 -- When faults are the same.
 use Rattle.std.specs.Prelude.{◌≡◌, Bool, true, false, string_bytes}
-use Rattle.nextest_filter_matchers.specs.declared.glob_error.GlobConstructError.{GlobConstructError}
-use Rattle.nextest_filter_matchers.specs.declared.glob_error.GlobConstructError.TheVariants.{RegexError}
+use Rattle.nextest_filter_matchers.specs.Copies.{SameError}
 use Rattle.nextest_filter_faults.specs.declared.parse_error.ParseSingleError.{ParseSingleError}
 use Rattle.nextest_filter_faults.specs.declared.parse_error.ParseSingleError.TheVariants.{InvalidRegex, InvalidGlob}
 
@@ -10,11 +9,6 @@ abbrev pub holds_text : ParseSingleError → Bool
 holds_text (InvalidRegex span message) = true
 holds_text (InvalidGlob span error) = true
 holds_text _ = false
-
--- the same reason, but for where its text lies in memory
-abbrev pub SameError : GlobConstructError → GlobConstructError → Type 0
-SameError (RegexError a) (RegexError b) = string_bytes a ≡ string_bytes b
-SameError a b = a ≡ b
 
 -- the same fault, but for where its text lies in memory
 abbrev pub SameFault : ParseSingleError → ParseSingleError → Type 0

@@ -1,8 +1,7 @@
 ghost use Rattle.std.specs.Prelude.{◌≡◌, false, IfOk};
-ghost use Rattle.nextest_filter_faults.specs.Copies.{SameError, SameFault, holds_text};
+ghost use Rattle.nextest_filter_faults.specs.Copies.{SameFault, holds_text};
 
 use crate::parse_error::{ParseSingleError, ParseSingleError as Fault};
-use nextest_filter_matchers::GlobConstructError;
 use std::alloc::{AllocError, Global};
 
 impl ParseSingleError {
@@ -18,7 +17,7 @@ impl ParseSingleError {
             }
             Fault::InvalidGlob { span, error } => {
                 let span = *span;
-                let error = copied_error(error, alloc)?;
+                let error = error.copy(alloc)?;
                 Ok(Fault::InvalidGlob { span, error })
             }
             _ => Ok(copied_plain(self)),
@@ -26,25 +25,14 @@ impl ParseSingleError {
     }
 }
 
-/// An equal reason in memory of its own.
-fn copied_error(error: &GlobConstructError, alloc: Global) -> Result<GlobConstructError, AllocError>
-    ensures { IfOk result (λ c. SameError error.now c) }
-{
-    match error {
-        GlobConstructError::InvalidGlob(error) => Ok(GlobConstructError::InvalidGlob(*error)),
-        GlobConstructError::RegexError(message) => {
-            let message = String::from_str(alloc, message.as_str())?;
-            Ok(GlobConstructError::RegexError(message))
-        }
-    }
-}
-
-/// The same fault, of one that holds no text; of any other `Unknown`.
+/// The same fault, of one that holds no text.
 fn copied_plain(fault: &ParseSingleError) -> ParseSingleError
-    ensures { holds_text fault.now ≡ false → result ≡ fault.now }
+    requires plain { holds_text fault.now ≡ false }
+    ensures { result ≡ fault.now }
 {
     match fault {
-        Fault::InvalidRegex { .. } | Fault::InvalidGlob { .. } | Fault::Unknown => Fault::Unknown,
+        Fault::InvalidRegex { .. } | Fault::InvalidGlob { .. } => unreachable!(),
+        Fault::Unknown => Fault::Unknown,
         Fault::BannedPredicate { kind, span, reason } => Fault::BannedPredicate {
             kind: *kind,
             span: *span,

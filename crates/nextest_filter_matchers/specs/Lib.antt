@@ -4,6 +4,7 @@ pub mod Walks
 pub mod GlobReading
 pub mod ReadingViews
 pub mod Matchers
+pub mod Copies
 pub mod Identities
 pub mod Printing
 pub mod Laws

@@ -1,3 +1,4 @@
+use std::alloc::{AllocError, Global};
 use thiserror::Error;
 
 /// Why a text is no glob.
@@ -22,4 +23,22 @@ pub enum GlobConstructError {
     /// Kept for its name: globs are not matched by regular expressions here.
     #[error("{0}")]
     RegexError(String),
+}
+
+impl GlobConstructError {
+    ghost use Rattle.std.specs.Prelude.{IfOk};
+    ghost use Rattle.nextest_filter_matchers.specs.Copies.{SameError};
+
+    /// An equal reason in memory of its own.
+    pub fn copy(&self, alloc: Global) -> Result<GlobConstructError, AllocError>
+        ensures { IfOk result (λ c. SameError self.now c) }
+    {
+        match self {
+            GlobConstructError::InvalidGlob(error) => Ok(GlobConstructError::InvalidGlob(*error)),
+            GlobConstructError::RegexError(message) => {
+                let message = String::from_str(alloc, message.as_str())?;
+                Ok(GlobConstructError::RegexError(message))
+            }
+        }
+    }
 }

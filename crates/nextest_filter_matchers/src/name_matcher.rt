@@ -21,6 +21,7 @@ pub enum NameMatcher {
 }
 
 impl NameMatcher {
+    ghost use Rattle.nextest_filter_matchers.specs.Copies.{pattern_of};
     ghost use Rattle.nextest_filter_matchers.specs.Matchers.{is_regex, MatchesName, matcher_of};
     ghost use Rattle.std.specs.Prelude.{false};
 
@@ -40,9 +41,10 @@ impl NameMatcher {
         }
     }
 
-    /// An equal matcher in memory of its own; a pattern is shared.
+    /// An equal matcher in memory of its own, which matches the same names; a pattern is shared.
     pub fn copy(&self, alloc: Global) -> Result<NameMatcher, AllocError>
-        ensures { IfOk result (λ c. matcher_of c ≡ matcher_of self.now) }
+        ensures equal { IfOk result (λ c. matcher_of c ≡ matcher_of self.now) }
+        ensures pattern { IfOk result (λ c. pattern_of c ≡ pattern_of self.now) }
     {
         match self {
             NameMatcher::Equal { value, implicit } => {
