@@ -1,4 +1,5 @@
 pub mod FilteringFacts
+pub mod FirstFacts
 pub mod KnownFacts
 pub mod SomeFacts
 pub mod LendingFacts

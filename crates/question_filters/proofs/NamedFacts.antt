@@ -1,5 +1,5 @@
 -- The named features of a list are those that it contains.
-use Rattle.std.proofs.Common.{◌≡◌, ◌↔◌, ⊎_elim, sym, subst, List, [], ◌∷◌, flat_map, Contains}
+use Rattle.std.proofs.Common.{◌≡◌, ⊎_elim, sym, subst, List, [], flat_map, Contains}
 use Rattle.list_facts.proofs.Membership.{Contains-cons_cases, Contains-first, Contains-flat_map, Contains-flat_map_cases, Contains-none}
 use Rattle.workspace_record.specs.Records.{Text}
 use Rattle.workspace_record.specs.Features.{FeatureValue, LabelValue, Base, Named, Dep}

@@ -20,6 +20,10 @@ pub record CompiledQuestion : Type 0 where
 abbrev pub question_view : QuestionFilters → CompiledQuestion
 question_view f = record { texts = map compiled_of f.texts.items; filters = filters_view f.filters }
 
+-- a text's filter holds of the test
+abbrev pub TextPasses : CompiledQuestion → asked.Test → Formula Leaf → Type 0
+TextPasses q t c = Passes q.filters.default (IsGroupMember q.filters t) t c
+
 -- some text's filter holds of the test
 abbrev pub SomePasses : CompiledFilters → List (Formula Leaf) → asked.Test → Type 0
 SomePasses filters texts t = (c : Formula Leaf) × Contains texts c × Passes filters.default (IsGroupMember filters t) t c

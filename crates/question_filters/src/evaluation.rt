@@ -20,14 +20,37 @@ pub fn may_pass(
 ) -> Result<bool, AllocError>
     ensures { IfOk result (λ r. IsTrue r ↔ MayPass (question_view filters.now) (binary_of binary.now)) }
 {
-    let cx = filters.filters.eval_context();
-    if !default_may_pass(alloc, binary, &cx)? {
+    if !default_may_pass(alloc, filters, binary)? {
         return Ok(false);
     }
-    some_may_pass(alloc, &filters.texts, binary, &cx)
+    some_may_pass(alloc, filters, binary)
 }
 
-fn default_may_pass(
+/// Whether some answers about its tests let the binary through the default filter.
+pub fn default_may_pass(
+    alloc: Global,
+    filters: &QuestionFilters,
+    binary: &BinaryQuery<'_>,
+) -> Result<bool, AllocError>
+    ensures { IfOk result (λ r. IsTrue r ↔ DefaultGives (question_view filters.now).filters.default (binary_of binary.now) true) }
+{
+    let cx = filters.filters.eval_context();
+    default_may_give_true(alloc, binary, &cx)
+}
+
+/// Whether some answers about its tests let the binary through some text's filter.
+pub fn some_may_pass(
+    alloc: Global,
+    filters: &QuestionFilters,
+    binary: &BinaryQuery<'_>,
+) -> Result<bool, AllocError>
+    ensures { IfOk result (λ r. IsTrue r ↔ SomeMayPass (question_view filters.now).filters.default (question_view filters.now).texts (binary_of binary.now)) }
+{
+    let cx = filters.filters.eval_context();
+    some_may_give_true(alloc, &filters.texts, binary, &cx)
+}
+
+fn default_may_give_true(
     alloc: Global,
     binary: &BinaryQuery<'_>,
     cx: &EvalContext<'_>,
@@ -38,7 +61,7 @@ fn default_may_pass(
     Ok(known != Some(false))
 }
 
-fn some_may_pass(
+fn some_may_give_true(
     alloc: Global,
     texts: &[CompiledExpr],
     binary: &BinaryQuery<'_>,

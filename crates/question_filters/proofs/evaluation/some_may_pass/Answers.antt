@@ -1,18 +1,14 @@
-use Rattle.std.proofs.Common.{ap, map, true}
-use Rattle.nextest_filter_evaluation.specs.Compiled.{Leaf, compiled_of}
-use Rattle.nextest_filter_evaluation.specs.Formulas.{Formula, SomeAnswersGive}
-use Rattle.nextest_filter_evaluation.specs.Meaning.{MayBe}
+use Rattle.std.proofs.Common.{◌↔◌, IfOk, IsTrue, List, map, subst}
+use Rattle.nextest_filter_evaluation.specs.Compiled.{compiled_of}
+use Rattle.nextest_filter_evaluation.specs.declared.compiled_expr.CompiledExpr.{CompiledExpr}
 use Rattle.nextest_filter_queries.specs.Queries.{binary_of}
-use Rattle.nextest_filtering.proofs.PickFacts.{one_less}
-use Rattle.question_filters.proofs.SomeFacts.{some_first, some_later}
+use Rattle.question_filters.specs.QuestionFilters.{SomeMayPass, question_view}
 use Rattle.question_filters.proofs.evaluation.some_may_pass.Goals as goal
 
-pub returns-then-branch : goal.returns-then-branch
-returns-then-branch c =
-    let may : Formula Leaf → Type 0 = λ f. SomeAnswersGive (MayBe (compiled_of c.args.cx.now.default_filter.now) (binary_of c.args.binary.now)) f true in
-    some_first may _ _ _ (compiled_of c.text-item.result) c.in_ok-may_give_true.field-0 (ap (map compiled_of) (one_less c.args.texts.now c.loop-text.text-index c.text-item.result c.text-item.result c.loop-text-test.true c.text-item.is)) c.in_ok-may_give_true.ensures c.if-branch.true c.loop-text.invariant
-
-pub loop-text-preserved : goal.loop-text-preserved
-loop-text-preserved c =
-    let may : Formula Leaf → Type 0 = λ f. SomeAnswersGive (MayBe (compiled_of c.args.cx.now.default_filter.now) (binary_of c.args.binary.now)) f true in
-    some_later may _ _ _ (compiled_of c.text-item.result) c.in_ok-may_give_true.field-0 (ap (map compiled_of) (one_less c.args.texts.now c.loop-text.text-index c.text-item.result c.text-item.result c.loop-text-test.true c.text-item.is)) c.in_ok-may_give_true.ensures c.if-branch.false c.loop-text.invariant
+pub returns : goal.returns
+returns c =
+    let q = question_view c.args.filters.now in
+    let b = binary_of c.args.binary.now in
+    let d = compiled_of c.eval_context-cx.result.default_filter.now in
+    let lent : IfOk c.some_may_give_true.result (λ r. IsTrue r ↔ SomeMayPass d q.texts b) = subst (λ (xs : List CompiledExpr). IfOk c.some_may_give_true.result (λ r. IsTrue r ↔ SomeMayPass d (map compiled_of xs) b)) c.deref.ensures.value c.some_may_give_true.ensures in
+    subst (λ e. IfOk c.some_may_give_true.result (λ r. IsTrue r ↔ SomeMayPass e q.texts b)) c.eval_context-cx.ensures.default lent
