@@ -46,7 +46,7 @@ ids_told infos bs h = sym (map-map (λ (t : Told). t.id) told_by infos) ∙ ap (
 pub begun_all : (old new : Shown) (told ids : List Text) (answers : List (List Text)) → told ≡ ids → Answered old told answers new → AskedSome old ids new
 begun_all old new told ids answers same h = subst (λ all. AskedSome old all new) same (asked_all old new told answers h)
 
-some_exact : {X : Type 0} {x y : X} → Some x ≡ Some y → x ≡ y
+pub some_exact : {X : Type 0} {x y : X} → Some x ≡ Some y → x ≡ y
 some_exact e = cc
 
 -- elements that were lent and are seen as before

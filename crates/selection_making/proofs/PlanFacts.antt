@@ -31,7 +31,7 @@ use Rattle.selection_making.specs.Questions.{Question}
 use Rattle.question_filters.specs.Following.{IsFollowedIn}
 use Rattle.question_filters.specs.NamedFeatures.{AreNamedOn}
 use Rattle.selection_making.specs.Readings.{AreReadAs, AreReadings, Readings}
-use Rattle.selection_making.specs.Selecting.{IsAvailableBinary, IsWanted, IsAsked}
+use Rattle.selection_making.specs.Selecting.{IsAnswered, IsAsked, IsAvailableBinary, IsWanted}
 use Rattle.selection_making.proofs.PassFacts.{may_iff, pass_iff, texts_accepted, texts_read}
 use Rattle.selection_making.proofs.WantedFacts.{wanted_in}
 
@@ -48,13 +48,13 @@ module _ (q : Question) (on : List FeatureValue) (are_on : AreOn q.workspace q.c
   IsIn f = Contains on f
 
   module _ (filters : CompiledQuestion) (cx : ContextValue) (names : HasNamesOf q.workspace cx) (followed : IsFollowedIn q.scope q.workspace on q.table cx.graph × AreNamedOn on cx.on) (are : AreFiltersIn cx q.workspace q.texts filters) where
-    abbrev of_record : (r : FilterReadings) × AreReadingsOf q.workspace r × AreMadeOf cx r filters.filters
+    abbrev pub of_record : (r : FilterReadings) × AreReadingsOf q.workspace r × AreMadeOf cx r filters.filters
     of_record = readings_of cx q.workspace filters.filters are.filters
 
-    abbrev of_texts : (fs : List (Formula FilterLeaf)) × AreReadAs q.texts fs × AreAlike (IsCompiled cx) fs filters.texts
+    abbrev pub of_texts : (fs : List (Formula FilterLeaf)) × AreReadAs q.texts fs × AreAlike (IsCompiled cx) fs filters.texts
     of_texts = texts_read cx are.groups q.texts filters.texts are.texts
 
-    abbrev readings : Readings
+    abbrev pub readings : Readings
     readings = record { context = cx; groups = are.groups; filters = of_record.0; texts = of_texts.0 }
 
     are_readings : AreReadings q readings
@@ -64,6 +64,14 @@ module _ (q : Question) (on : List FeatureValue) (are_on : AreOn q.workspace q.c
       groups = are.are_groups;
       filters = of_record.1;
       texts = of_texts.1;
+    }
+
+    pub is_answered : IsAnswered q readings
+    is_answered = record {
+      checked = are_on.served.checked;
+      known = are_on.served.known;
+      read = are_readings;
+      accepted = texts_accepted cx are.groups q.texts filters.texts are.texts;
     }
 
     -- the binaries that were kept are those that are available and let through
@@ -114,12 +122,7 @@ module _ (q : Question) (on : List FeatureValue) (are_on : AreOn q.workspace q.c
       pub plan_made : IsPlan q filters (map binary_view sorted)
       plan_made = record {
         readings = readings;
-        answered = record {
-          checked = are_on.served.checked;
-          known = are_on.served.known;
-          read = are_readings;
-          accepted = texts_accepted cx are.groups q.texts filters.texts are.texts;
-        };
+        answered = is_answered;
         ids = asked_ids;
         binaries = sorted_iff;
         decided = is_decided;

@@ -1,5 +1,7 @@
 pub mod AskedViews
 pub mod Choosing
+pub mod CompiledReasons
+pub mod Explaining
 pub mod Kept
 pub mod Laws
 pub mod Passing
@@ -7,6 +9,9 @@ pub mod Plans
 pub mod Queries
 pub mod Questions
 pub mod Readings
+pub mod ReasonTexts
+pub mod Reasons
 pub mod Selecting
 pub mod Selections
+pub mod Telling
 pub mod Told

@@ -68,6 +68,16 @@ impl<'b> AskedBinary<'b> {
             platform: self.platform,
         }
     }
+
+    /// The test of this name.
+    pub(crate) fn test<'q>(&'q self, name: &'q TestCaseName) -> TestQuery<'q>
+        ensures { test_of result ≡ record { binary = binary_in self.entry.now; name = name.entry.now } }
+    {
+        TestQuery {
+            binary_query: self.query(),
+            test_name: name,
+        }
+    }
 }
 
 /// How nextest calls the kind.

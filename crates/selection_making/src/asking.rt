@@ -56,7 +56,7 @@ fn infos<'a>(alloc: Global, asked: &'a [TestBinary<'_>]) -> Result<Vec<BinaryInf
     Ok(infos)
 }
 
-fn info_of<'a>(binary: &'a TestBinary<'_>) -> BinaryInfo<'a>
+pub(crate) fn info_of<'a>(binary: &'a TestBinary<'_>) -> BinaryInfo<'a>
     ensures { told_by result ≡ told_of (binary_view binary.entry.now) }
 {
     let (row, target) = (binary.row, binary.target);

@@ -4,13 +4,18 @@
 mod asked_binaries;
 mod asked_queries;
 mod asking;
+mod explaining;
+mod finding;
 pub mod laws;
 mod plan;
+mod reason;
 mod report;
 mod selecting;
 mod selection;
 
 pub use crate::asked_binaries::AskedBinaries;
+pub use crate::explaining::why;
+pub use crate::reason::{BinaryReason, Reason, TestReason};
 pub use crate::report::write_report;
 pub use crate::selecting::{select, select_plain};
 pub use crate::selection::Selection;
