@@ -58,7 +58,7 @@ impl Subcommand {
 }
 
 /// The subcommands, in the order of the help.
-const SUBCOMMANDS: [Subcommand; 7] = [
+const SUBCOMMANDS: [Subcommand; 8] = [
     Subcommand {
         name: "tests",
         about: "Prints the tests that run",
@@ -71,6 +71,21 @@ const SUBCOMMANDS: [Subcommand; 7] = [
             Word::Declared,
             Word::Plain,
             Word::Filter,
+        ],
+    },
+    Subcommand {
+        name: "why",
+        about: "Prints whether and why a test is chosen, or a binary asked",
+        help: WHY_HELP,
+        words: &[
+            Word::Record,
+            Word::Listings,
+            Word::Choice,
+            Word::Table,
+            Word::Declared,
+            Word::FilterOption,
+            Word::Binary,
+            Word::Test,
         ],
     },
     Subcommand {
@@ -132,6 +147,9 @@ enum Word {
     Declared,
     Plain,
     Filter,
+    FilterOption,
+    Binary,
+    Test,
 }
 
 impl Word {
@@ -148,6 +166,9 @@ impl Word {
             Word::Declared => declared_flag(alloc),
             Word::Plain => plain_flag(alloc),
             Word::Filter => filter_words(alloc),
+            Word::FilterOption => filter_option(alloc),
+            Word::Binary => binary_argument(alloc),
+            Word::Test => test_argument(alloc),
         }
     }
 }
@@ -204,6 +225,29 @@ fn filter_words<'a>(alloc: Global) -> Arg<'a> {
         .help("Which tests are wanted: those of which one filter holds [default: all]")
 }
 
+fn filter_option<'a>(alloc: Global) -> Arg<'a> {
+    Arg::new(alloc, "filter")
+        .short('E')
+        .value_name("FILTER")
+        .action(ArgAction::Append)
+        .help("A filter, as for `tests`; the option may stand several times [default: all tests]")
+}
+
+fn binary_argument<'a>(alloc: Global) -> Arg<'a> {
+    Arg::new(alloc, "binary")
+        .value_name("ID")
+        .required(true)
+        .action(ArgAction::Set)
+        .help("The id of the test binary")
+}
+
+fn test_argument<'a>(alloc: Global) -> Arg<'a> {
+    Arg::new(alloc, "test")
+        .value_name("TEST")
+        .action(ArgAction::Set)
+        .help("The name of a test of the binary [default: the binary itself]")
+}
+
 /// The file that the command line names for the listings.
 pub(crate) fn listings_file<'a>(asked: &ArgMatches<'a>) -> &'a str {
     required(asked, "listings")
@@ -217,6 +261,16 @@ pub(crate) fn package_word<'a>(asked: &ArgMatches<'a>) -> &'a str {
 /// The text of the feature that the command line names; of the package itself it is empty.
 pub(crate) fn feature_word<'a>(asked: &ArgMatches<'a>) -> &'a str {
     asked.get_str("feature").unwrap_or("")
+}
+
+/// The test binary that the command line names, by its id.
+pub(crate) fn binary_word<'a>(asked: &ArgMatches<'a>) -> &'a str {
+    required(asked, "binary")
+}
+
+/// The test that the command line names, if it names one.
+pub(crate) fn test_word<'a>(asked: &ArgMatches<'a>) -> Option<&'a str> {
+    asked.get_str("test")
 }
 
 /// Whether the command line wants lines for people.
@@ -275,6 +329,25 @@ Exit status: 0 if the tests are printed, also if there are none; 1 if a file, th
 choice, a filter or a listing is refused, or the output cannot be written, with the reasons on
 standard error, where `lister: ID` says that the listings have no binary ID; 2 for a bad command
 line.";
+
+const WHY_HELP: &str =
+    "Output: one line. With TEST it says whether and why that test of the binary is chosen:
+  chosen by filter N           the first filter that holds, by its place on the command line, from 0
+  chosen                       where no filter is given
+  no binary ID                 no test binary has this id
+  off: needs PACKAGE/FEATURE   the first feature that the binary requires and that is off
+  not listed                   the listing of the binary has no such test
+  default filter does not hold
+  no filter holds
+Without TEST it says whether the binary is asked for its tests: `asked`, or `no binary` or `off` as
+above, or `default filter cannot hold` or `no filter can hold`, where that is so of every test that
+the binary may have. What comes first in this order is told: no binary, off, not listed, the default
+filter, the filters. Filters are those of `tests`, whose help lists them. Listings are looked at only
+for a test of a binary that is not off, and then for that binary alone.
+
+Exit status: 0 if the test is chosen, or the binary asked; 1 if it is not, or a file, the record, the
+choice, a filter or the listing is refused, or the output cannot be written, with the reasons for the
+latter on standard error; 2 for a bad command line.";
 
 const ACCOUNT_HELP: &str =
     "Output: a line of JSON with the numbers of rules, one for each feature that is on, in an order

@@ -11,7 +11,7 @@ use std::alloc::Global;
 use std::collections::BTreeMap;
 use test_lister::{FileLister, Listing};
 
-/// What the command `tests` works on.
+/// What the commands `tests` and `why` work on.
 pub(crate) struct TestsInputs {
     pub(crate) question: FeatureQuestion,
     pub(crate) lister: FileLister,

@@ -17,5 +17,6 @@ pub use scope_laws::laws::{
     accepted_texts_agree, declared_selections_agree, switched_dependencies_are_declared,
 };
 pub use selection_making::laws::{
-    readings_say_the_same, reports_agree, unasked_binaries_have_no_chosen_test,
+    readings_say_the_same, reasons_say_what_is_selected, reports_agree,
+    unasked_binaries_have_no_chosen_test,
 };

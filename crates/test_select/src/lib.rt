@@ -11,6 +11,7 @@ pub mod laws;
 mod order;
 mod program;
 mod readable;
+mod reasons;
 mod selections;
 
 pub use crate::order::{package_order, write_order};
@@ -34,7 +35,9 @@ pub use record_files::{
     AccountFile, Field, Key, ReadError, read_account, read_choice, read_listings, read_record,
     read_table,
 };
-pub use selection_making::{Selection, select, select_plain, write_report};
+pub use selection_making::{
+    BinaryReason, Reason, Selection, TestReason, select, select_plain, why, write_report,
+};
 pub use test_lister::{
     BinaryInfo, BuildPlatform, FileLister, ListFault, Listing, ListingFault, TestLister,
 };

@@ -9,6 +9,7 @@ use crate::explanations::print_explanation;
 use crate::failure::Failure;
 use crate::order::print_order;
 use crate::readable::{print_features, print_rules};
+use crate::reasons::print_why;
 use crate::selections::print_tests;
 use clap::ArgMatches;
 use question_files::{FileSource, print_verdict};
@@ -25,6 +26,11 @@ use std::io::Write;
 /// then selects, and writes the report to `out`. Without a choice the default features are on. Without a
 /// table nothing is known of the platform, and what is unknown counts. Links that are on are followed,
 /// with `--declared` all links. With `--plain` each available binary is asked for.
+///
+/// `test_select why --record F --listings F [--choice F] [--table F] [--declared] [-E FILTER].. ID [TEST]`
+/// reads the same files, and writes a line that says whether and why that test of the binary ID is chosen
+/// by the filters, or without TEST whether and why the binary is asked. Where the test is not chosen, or the
+/// binary not asked, it has status 1 and no line on `err`.
 ///
 /// `test_select account --record F [--choice F] [--table F]` writes the account of what is on, and
 /// `test_select check --record F [--choice F] [--table F] --account F` what is to be said of an account,
@@ -86,6 +92,7 @@ fn carry_out<'a, O: Write>(
 {
     match matches.subcommand() {
         Some(("tests", asked)) => print_tests(alloc, asked, files, out),
+        Some(("why", asked)) => print_why(alloc, asked, files, out),
         Some(("account", asked)) => print_account(alloc, asked, files, out),
         Some(("check", asked)) => Ok(print_verdict(alloc, asked, files, out)?),
         Some(("explain", asked)) => print_explanation(alloc, asked, files, out),
