@@ -64,7 +64,7 @@ fn text_of(alloc: Global, bytes: &[u8]) -> Result<String, Refusal> {
 }
 
 /// The words of a run, and what it prints.
-const RUNS: [(&[&str], &str); 5] = [
+const RUNS: [(&[&str], &str); 8] = [
     (
         &[
             "test_select",
@@ -128,6 +128,42 @@ const RUNS: [(&[&str], &str); 5] = [
             "choice.json",
         ],
         "util\napp\n",
+    ),
+    (
+        &["test_select", "features", "--record", "record.json"],
+        "app/[base]\nutil/[base]\n",
+    ),
+    (
+        &["test_select", "rules", "--record", "record.json"],
+        "0: -> app/[base]
+1: -> util/[base]
+2: app/full -> app/[base]
+3: app/fast -> app/[base]
+4: app/dep:util -> app/[base]
+5: util/simd -> util/[base]
+6: app/full -> app/dep:util
+7: app/fast, app/dep:util -> util/simd
+8: app/dep:util -> util/[base]
+",
+    ),
+    (
+        &[
+            "test_select",
+            "why",
+            "--record",
+            "record.json",
+            "--choice",
+            "choice.json",
+            "--table",
+            "table.json",
+            "--listings",
+            "listings.json",
+            "-E",
+            "package(=app)",
+            "app::net",
+            "get",
+        ],
+        "chosen by filter 0\n",
     ),
 ];
 
