@@ -33,6 +33,6 @@ span_of (InvalidPlatformArgument span) = span
 span_of (UnsupportedExpression span) = span
 
 -- the fault says that a pattern was refused
-abbrev pub is_refusal : ParseSingleError → Bool
-is_refusal (InvalidRegexWithoutMessage span) = true
-is_refusal _ = false
+abbrev pub is_pattern_fault : ParseSingleError → Bool
+is_pattern_fault (InvalidRegexWithoutMessage span) = true
+is_pattern_fault _ = false

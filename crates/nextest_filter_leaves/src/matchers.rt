@@ -3,7 +3,8 @@ ghost use Rattle.std.specs.Str.{IsCharBoundary};
 ghost use Rattle.nextest_filter_matchers.specs.Matchers.{Matcher, Regex as IsPattern, matcher_of};
 ghost use Rattle.regex.specs.Strings.{regex_source};
 ghost use Rattle.nextest_filter_tokens.specs.Bytes.{is_byte};
-ghost use Rattle.nextest_filter_tokens.specs.FaultLists.{AreOver, AreWithin, IsOverPattern, others, refusals};
+ghost use Rattle.nextest_filter_tokens.specs.FaultLists.{AreOver, AreWithin, IsOverPattern, syntax_faults};
+ghost use Rattle.nextest_filter_tokens.specs.ReadingSteps.{AreOf, GoesOn, GrowsUpTo, IsClean, Spoils, SpoilsSyntax};
 ghost use Rattle.nextest_filter_leaves.specs.declared.signs.Style.TheVariants.{Glob as Globs};
 ghost use Rattle.nextest_filter_leaves.specs.AsWritten.{IsAsWritten, IsMatcherAsWritten};
 ghost use Rattle.nextest_filter_leaves.specs.LeafGrammar.{PatternFrom, ReadsMatcher, ReadsSome, TextFrom, made_of};
@@ -27,19 +28,11 @@ pub(crate) fn some_text(
 ) -> Result<(Option<String>, usize), AllocError>
     requires at { at ≤ length text.now }
     requires boundary { IsCharBoundary text.now at }
-    requires within { AreWithin (length text.now) faults.old.list.items }
-    requires over { AreOver text.now faults.old.list.items }
-    ensures rises { IfOk result (λ p. at ≤ p.1) }
-    ensures end { IfOk result (λ p. p.1 ≤ length text.now) }
-    ensures grows { OnOk result (vec_len faults.old.list ≤ vec_len faults.new.list) }
-    ensures others { OnOk result (others faults.old.list.items ≤ others faults.new.list.items) }
-    ensures refusals { IfOk result (λ p. IfSome p.0 (λ _. refusals faults.new.list.items ≡ refusals faults.old.list.items)) }
-    ensures within { OnOk result (AreWithin (length text.now) faults.new.list.items) }
-    ensures over { OnOk result (AreOver text.now faults.new.list.items) }
-    ensures read { IfOk result (λ p. others faults.new.list.items ≡ 0 → IfSome p.0 (λ v. ReadsSome text.now at (string_bytes v) p.1)) }
-    ensures spoiled { IfOk result (λ p. IfNone p.0 (0 < vec_len faults.new.list)) }
-    ensures fault { IfOk result (λ p. IfNone p.0 (0 < others faults.new.list.items)) }
-    ensures only { IfOk result (λ p. others faults.old.list.items ≡ 0 → (x : List ℕ) (j : ℕ) → ReadsSome text.now at x j → (p.1 ≡ j) × (others faults.new.list.items ≡ 0)) }
+    requires faults { AreOf text.now faults.old }
+    ensures goes_on { IfOk result (λ p. GoesOn text.now at p.1 faults.old faults.new) }
+    ensures spoils { IfOk result (λ p. SpoilsSyntax p.0 faults.old faults.new) }
+    ensures read { IfOk result (λ p. IsClean faults.new → IfSome p.0 (λ v. ReadsSome text.now at (string_bytes v) p.1)) }
+    ensures only { IfOk result (λ p. IsClean faults.old → (x : List ℕ) (j : ℕ) → ReadsSome text.now at x j → (p.1 ≡ j) × IsClean faults.new) }
 {
     let (value, end) = text_from(alloc, text, at, faults)?;
     match value {
@@ -66,16 +59,11 @@ fn glob_matcher(
     span: SourceSpan,
     faults: &mut FaultList,
 ) -> Result<Option<NameMatcher>, AllocError>
-    ensures grows { OnOk result (vec_len faults.old.list ≤ vec_len faults.new.list) }
-    ensures others { OnOk result (others faults.old.list.items ≤ others faults.new.list.items) }
-    ensures refusals { IfOk result (λ r. IfSome r (λ _. refusals faults.new.list.items ≡ refusals faults.old.list.items)) }
-    ensures within { OnOk result ((n : ℕ) → AreWithin n faults.old.list.items → span.offset + span.len ≤ n → AreWithin n faults.new.list.items) }
-    ensures over { OnOk result ((text : List ℕ) → AreOver text faults.old.list.items → AreOver text faults.new.list.items) }
+    ensures grows { OnOk result (GrowsUpTo (span.offset + span.len) faults.old faults.new) }
+    ensures spoils { IfOk result (λ r. SpoilsSyntax r faults.old faults.new) }
     ensures read { IfOk result (λ r. IfSome r (λ m. made_of Globs implicit (string_bytes value) ≡ Some (matcher_of m))) }
     ensures as_written { IfOk result (λ r. IfSome r IsMatcherAsWritten) }
-    ensures spoiled { IfOk result (λ r. IfNone r (0 < vec_len faults.new.list)) }
-    ensures fault { IfOk result (λ r. IfNone r (0 < others faults.new.list.items)) }
-    ensures only { IfOk result (λ r. others faults.old.list.items ≡ 0 → (m : Matcher) → made_of Globs implicit (string_bytes value) ≡ Some m → others faults.new.list.items ≡ 0) }
+    ensures only { IfOk result (λ r. IsClean faults.old → (m : Matcher) → made_of Globs implicit (string_bytes value) ≡ Some m → IsClean faults.new) }
 {
     match GenericGlob::new(alloc, value)? {
         Ok(glob) => Ok(Some(NameMatcher::Glob { glob, implicit })),
@@ -96,16 +84,11 @@ fn made(
     span: SourceSpan,
     faults: &mut FaultList,
 ) -> Result<Option<NameMatcher>, AllocError>
-    ensures grows { OnOk result (vec_len faults.old.list ≤ vec_len faults.new.list) }
-    ensures others { OnOk result (others faults.old.list.items ≤ others faults.new.list.items) }
-    ensures refusals { IfOk result (λ r. IfSome r (λ _. refusals faults.new.list.items ≡ refusals faults.old.list.items)) }
-    ensures within { OnOk result ((n : ℕ) → AreWithin n faults.old.list.items → span.offset + span.len ≤ n → AreWithin n faults.new.list.items) }
-    ensures over { OnOk result ((text : List ℕ) → AreOver text faults.old.list.items → AreOver text faults.new.list.items) }
+    ensures grows { OnOk result (GrowsUpTo (span.offset + span.len) faults.old faults.new) }
+    ensures spoils { IfOk result (λ r. SpoilsSyntax r faults.old faults.new) }
     ensures read { IfOk result (λ r. IfSome r (λ m. made_of style implicit (string_bytes value) ≡ Some (matcher_of m))) }
     ensures as_written { IfOk result (λ r. IfSome r IsMatcherAsWritten) }
-    ensures spoiled { IfOk result (λ r. IfNone r (0 < vec_len faults.new.list)) }
-    ensures fault { IfOk result (λ r. IfNone r (0 < others faults.new.list.items)) }
-    ensures only { IfOk result (λ r. others faults.old.list.items ≡ 0 → (m : Matcher) → made_of style implicit (string_bytes value) ≡ Some m → others faults.new.list.items ≡ 0) }
+    ensures only { IfOk result (λ r. IsClean faults.old → (m : Matcher) → made_of style implicit (string_bytes value) ≡ Some m → IsClean faults.new) }
 {
     match style {
         Style::Equal => Ok(Some(NameMatcher::Equal { value, implicit })),
@@ -128,20 +111,12 @@ fn text_matcher(
 ) -> Result<(Option<NameMatcher>, usize), AllocError>
     requires at { at ≤ length text.now }
     requires boundary { IsCharBoundary text.now at }
-    requires within { AreWithin (length text.now) faults.old.list.items }
-    requires over { AreOver text.now faults.old.list.items }
-    ensures rises { IfOk result (λ p. at ≤ p.1) }
-    ensures end { IfOk result (λ p. p.1 ≤ length text.now) }
-    ensures grows { OnOk result (vec_len faults.old.list ≤ vec_len faults.new.list) }
-    ensures others { OnOk result (others faults.old.list.items ≤ others faults.new.list.items) }
-    ensures refusals { IfOk result (λ p. IfSome p.0 (λ _. refusals faults.new.list.items ≡ refusals faults.old.list.items)) }
-    ensures within { OnOk result (AreWithin (length text.now) faults.new.list.items) }
-    ensures over { OnOk result (AreOver text.now faults.new.list.items) }
-    ensures read { IfOk result (λ p. others faults.new.list.items ≡ 0 → IfSome p.0 (λ m. TextFrom text.now style implicit at (matcher_of m) p.1)) }
+    requires faults { AreOf text.now faults.old }
+    ensures goes_on { IfOk result (λ p. GoesOn text.now at p.1 faults.old faults.new) }
+    ensures spoils { IfOk result (λ p. SpoilsSyntax p.0 faults.old faults.new) }
+    ensures read { IfOk result (λ p. IsClean faults.new → IfSome p.0 (λ m. TextFrom text.now style implicit at (matcher_of m) p.1)) }
     ensures as_written { IfOk result (λ p. IfSome p.0 IsMatcherAsWritten) }
-    ensures spoiled { IfOk result (λ p. IfNone p.0 (0 < vec_len faults.new.list)) }
-    ensures fault { IfOk result (λ p. IfNone p.0 (0 < others faults.new.list.items)) }
-    ensures only { IfOk result (λ p. others faults.old.list.items ≡ 0 → (x : Matcher) (j : ℕ) → TextFrom text.now style implicit at x j → (p.1 ≡ j) × (others faults.new.list.items ≡ 0)) }
+    ensures only { IfOk result (λ p. IsClean faults.old → (x : Matcher) (j : ℕ) → TextFrom text.now style implicit at x j → (p.1 ≡ j) × IsClean faults.new) }
 {
     let (value, end) = some_text(alloc, text, at, faults)?;
     match value {
@@ -177,13 +152,12 @@ fn built(
     faults: &mut FaultList,
 ) -> Result<Option<NameMatcher>, AllocError>
     ensures grows { OnOk result (vec_len faults.old.list ≤ vec_len faults.new.list) }
-    ensures others { OnOk result (others faults.new.list.items ≡ others faults.old.list.items) }
-    ensures refusals { IfOk result (λ r. IfSome r (λ _. refusals faults.new.list.items ≡ refusals faults.old.list.items)) }
+    ensures syntax { OnOk result (syntax_faults faults.new.list.items ≡ syntax_faults faults.old.list.items) }
+    ensures spoils { IfOk result (λ r. Spoils r faults.old faults.new) }
     ensures within { OnOk result ((n : ℕ) → AreWithin n faults.old.list.items → span.offset + span.len ≤ n → AreWithin n faults.new.list.items) }
     ensures over { OnOk result ((text : List ℕ) → AreOver text faults.old.list.items → IsOverPattern text span.offset (span.offset + span.len) → AreOver text faults.new.list.items) }
     ensures read { IfOk result (λ r. IfSome r (λ m. matcher_of m ≡ IsPattern pattern.now)) }
     ensures as_written { IfOk result (λ r. IfSome r IsMatcherAsWritten) }
-    ensures spoiled { IfOk result (λ r. IfNone r (0 < vec_len faults.new.list)) }
 {
     match regex_of(alloc, pattern)? {
         Some(regex) => {
@@ -207,20 +181,13 @@ fn pattern_matcher(
     requires slash { is_byte text.now at 47 ≡ true }
     requires at { at + 1 ≤ length text.now }
     requires boundary { IsCharBoundary text.now (at + 1) }
-    requires within { AreWithin (length text.now) faults.old.list.items }
-    requires over { AreOver text.now faults.old.list.items }
-    ensures rises { IfOk result (λ p. at ≤ p.1) }
-    ensures end { IfOk result (λ p. p.1 ≤ length text.now) }
-    ensures grows { OnOk result (vec_len faults.old.list ≤ vec_len faults.new.list) }
-    ensures others { OnOk result (others faults.old.list.items ≤ others faults.new.list.items) }
-    ensures refusals { IfOk result (λ p. IfSome p.0 (λ _. refusals faults.new.list.items ≡ refusals faults.old.list.items)) }
-    ensures within { OnOk result (AreWithin (length text.now) faults.new.list.items) }
-    ensures over { OnOk result (AreOver text.now faults.new.list.items) }
-    ensures read { IfOk result (λ p. others faults.new.list.items ≡ 0 → IfSome p.0 (λ m. PatternFrom text.now (at + 1) (matcher_of m) p.1)) }
-    ensures refused { IfOk result (λ p. others faults.new.list.items ≡ 0 → IfNone p.0 ((x : Matcher) × PatternFrom text.now (at + 1) x p.1)) }
+    requires faults { AreOf text.now faults.old }
+    ensures goes_on { IfOk result (λ p. GoesOn text.now at p.1 faults.old faults.new) }
+    ensures spoils { IfOk result (λ p. Spoils p.0 faults.old faults.new) }
+    ensures read { IfOk result (λ p. IsClean faults.new → IfSome p.0 (λ m. PatternFrom text.now (at + 1) (matcher_of m) p.1)) }
+    ensures unbuilt { IfOk result (λ p. IsClean faults.new → IfNone p.0 ((x : Matcher) × PatternFrom text.now (at + 1) x p.1)) }
     ensures as_written { IfOk result (λ p. IfSome p.0 IsMatcherAsWritten) }
-    ensures spoiled { IfOk result (λ p. IfNone p.0 (0 < vec_len faults.new.list)) }
-    ensures only { IfOk result (λ p. others faults.old.list.items ≡ 0 → (x : Matcher) (j : ℕ) → PatternFrom text.now (at + 1) x j → (p.1 ≡ j) × (others faults.new.list.items ≡ 0)) }
+    ensures only { IfOk result (λ p. IsClean faults.old → (x : Matcher) (j : ℕ) → PatternFrom text.now (at + 1) x j → (p.1 ≡ j) × IsClean faults.new) }
 {
     let start = at + 1;
     match pattern_from(alloc, text, start)? {
@@ -254,20 +221,13 @@ pub(crate) fn matcher_from(
 ) -> Result<(Option<NameMatcher>, usize), AllocError>
     requires at { at ≤ length text.now }
     requires boundary { IsCharBoundary text.now at }
-    requires within { AreWithin (length text.now) faults.old.list.items }
-    requires over { AreOver text.now faults.old.list.items }
-    ensures rises { IfOk result (λ p. at ≤ p.1) }
-    ensures end { IfOk result (λ p. p.1 ≤ length text.now) }
-    ensures grows { OnOk result (vec_len faults.old.list ≤ vec_len faults.new.list) }
-    ensures others { OnOk result (others faults.old.list.items ≤ others faults.new.list.items) }
-    ensures refusals { IfOk result (λ p. IfSome p.0 (λ _. refusals faults.new.list.items ≡ refusals faults.old.list.items)) }
-    ensures within { OnOk result (AreWithin (length text.now) faults.new.list.items) }
-    ensures over { OnOk result (AreOver text.now faults.new.list.items) }
-    ensures read { IfOk result (λ p. others faults.new.list.items ≡ 0 → IfSome p.0 (λ m. ReadsMatcher text.now predicate at (matcher_of m) p.1)) }
-    ensures refused { IfOk result (λ p. others faults.new.list.items ≡ 0 → IfNone p.0 ((x : Matcher) × ReadsMatcher text.now predicate at x p.1)) }
+    requires faults { AreOf text.now faults.old }
+    ensures goes_on { IfOk result (λ p. GoesOn text.now at p.1 faults.old faults.new) }
+    ensures spoils { IfOk result (λ p. Spoils p.0 faults.old faults.new) }
+    ensures read { IfOk result (λ p. IsClean faults.new → IfSome p.0 (λ m. ReadsMatcher text.now predicate at (matcher_of m) p.1)) }
+    ensures unbuilt { IfOk result (λ p. IsClean faults.new → IfNone p.0 ((x : Matcher) × ReadsMatcher text.now predicate at x p.1)) }
     ensures as_written { IfOk result (λ p. IfSome p.0 IsMatcherAsWritten) }
-    ensures spoiled { IfOk result (λ p. IfNone p.0 (0 < vec_len faults.new.list)) }
-    ensures only { IfOk result (λ p. others faults.old.list.items ≡ 0 → (x : Matcher) (j : ℕ) → ReadsMatcher text.now predicate at x j → (p.1 ≡ j) × (others faults.new.list.items ≡ 0)) }
+    ensures only { IfOk result (λ p. IsClean faults.old → (x : Matcher) (j : ℕ) → ReadsMatcher text.now predicate at x j → (p.1 ≡ j) × IsClean faults.new) }
 {
     match sign_of(text, at) {
         Sign::Slash => {

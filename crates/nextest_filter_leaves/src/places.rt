@@ -1,8 +1,9 @@
-ghost use Rattle.std.specs.Prelude.{◌≡◌, ◌≤◌, ◌<◌, ℕ, true, false, IfOk, OnOk, length, vec_len};
+ghost use Rattle.std.specs.Prelude.{◌≡◌, ◌≤◌, ◌<◌, ℕ, false, IfOk, OnOk, length};
 ghost use Rattle.std.specs.Str.{IsCharBoundary};
-ghost use Rattle.nextest_filter_faults.specs.Faults.{is_refusal};
+ghost use Rattle.nextest_filter_faults.specs.Faults.{is_pattern_fault};
 ghost use Rattle.nextest_filter_tokens.specs.Bytes.{is_byte, skip};
-ghost use Rattle.nextest_filter_tokens.specs.FaultLists.{AreOver, AreWithin, LiesWithin, others, refusals};
+ghost use Rattle.nextest_filter_tokens.specs.FaultLists.{LiesWithin};
+ghost use Rattle.nextest_filter_tokens.specs.ReadingSteps.{AreOf, GoesOn, IsClean, KeepsPatterns};
 ghost use Rattle.nextest_filter_leaves.specs.LeafGrammar.{IsUpToClose, Stands};
 
 use nextest_filter_faults::{ParseSingleError, SourceSpan};
@@ -33,19 +34,13 @@ pub fn expect_byte(
     requires at { at ≤ length text.now }
     requires ascii { byte < 128 }
     requires lies { LiesWithin (length text.now) fault }
-    requires other { is_refusal fault ≡ false }
-    requires within { AreWithin (length text.now) faults.old.list.items }
-    requires over { AreOver text.now faults.old.list.items }
-    ensures rises { IfOk result (λ e. at ≤ e) }
-    ensures end { IfOk result (λ e. e ≤ length text.now) }
+    requires syntax { is_pattern_fault fault ≡ false }
+    requires faults { AreOf text.now faults.old }
+    ensures goes_on { IfOk result (λ e. GoesOn text.now at e faults.old faults.new) }
     ensures boundary { IfOk result (λ e. IsCharBoundary text.now at → IsCharBoundary text.now e) }
-    ensures grows { OnOk result (vec_len faults.old.list ≤ vec_len faults.new.list) }
-    ensures others { OnOk result (others faults.old.list.items ≤ others faults.new.list.items) }
-    ensures refusals { OnOk result (refusals faults.new.list.items ≡ refusals faults.old.list.items) }
-    ensures within { OnOk result (AreWithin (length text.now) faults.new.list.items) }
-    ensures over { OnOk result (AreOver text.now faults.new.list.items) }
-    ensures read { IfOk result (λ e. others faults.new.list.items ≡ 0 → Stands text.now at byte e) }
-    ensures only { IfOk result (λ e. others faults.old.list.items ≡ 0 → (j : ℕ) → Stands text.now at byte j → (e ≡ j) × (others faults.new.list.items ≡ 0)) }
+    ensures keeps { OnOk result (KeepsPatterns faults.old faults.new) }
+    ensures read { IfOk result (λ e. IsClean faults.new → Stands text.now at byte e) }
+    ensures only { IfOk result (λ e. IsClean faults.old → (j : ℕ) → Stands text.now at byte j → (e ≡ j) × IsClean faults.new) }
 {
     let place = skip_blanks(text, at);
     if has_byte(text, place, byte) {
@@ -58,17 +53,11 @@ pub fn expect_byte(
 /// The place after what a comma brings: it is a fault, and all up to the closing parenthesis is passed.
 fn after_comma(text: &str, at: usize, faults: &mut FaultList) -> Result<usize, AllocError>
     requires at { at ≤ length text.now }
-    requires within { AreWithin (length text.now) faults.old.list.items }
-    requires over { AreOver text.now faults.old.list.items }
-    ensures rises { IfOk result (λ e. at ≤ e) }
-    ensures end { IfOk result (λ e. e ≤ length text.now) }
-    ensures grows { OnOk result (vec_len faults.old.list ≤ vec_len faults.new.list) }
-    ensures others { OnOk result (others faults.old.list.items ≤ others faults.new.list.items) }
-    ensures refusals { OnOk result (refusals faults.new.list.items ≡ refusals faults.old.list.items) }
-    ensures within { OnOk result (AreWithin (length text.now) faults.new.list.items) }
-    ensures over { OnOk result (AreOver text.now faults.new.list.items) }
-    ensures read { IfOk result (λ e. others faults.new.list.items ≡ 0 → e ≡ at) }
-    ensures only { IfOk result (λ e. others faults.old.list.items ≡ 0 → is_byte text.now (skip text.now at) 44 ≡ false → (e ≡ at) × (others faults.new.list.items ≡ 0)) }
+    requires faults { AreOf text.now faults.old }
+    ensures goes_on { IfOk result (λ e. GoesOn text.now at e faults.old faults.new) }
+    ensures keeps { OnOk result (KeepsPatterns faults.old faults.new) }
+    ensures read { IfOk result (λ e. IsClean faults.new → e ≡ at) }
+    ensures only { IfOk result (λ e. IsClean faults.old → is_byte text.now (skip text.now at) 44 ≡ false → (e ≡ at) × IsClean faults.new) }
 {
     let place = skip_blanks(text, at);
     if has_byte(text, place, b',') {
@@ -86,17 +75,11 @@ pub(crate) fn closed_after(
     faults: &mut FaultList,
 ) -> Result<usize, AllocError>
     requires at { at ≤ length text.now }
-    requires within { AreWithin (length text.now) faults.old.list.items }
-    requires over { AreOver text.now faults.old.list.items }
-    ensures rises { IfOk result (λ e. at ≤ e) }
-    ensures end { IfOk result (λ e. e ≤ length text.now) }
-    ensures grows { OnOk result (vec_len faults.old.list ≤ vec_len faults.new.list) }
-    ensures others { OnOk result (others faults.old.list.items ≤ others faults.new.list.items) }
-    ensures refusals { OnOk result (refusals faults.new.list.items ≡ refusals faults.old.list.items) }
-    ensures within { OnOk result (AreWithin (length text.now) faults.new.list.items) }
-    ensures over { OnOk result (AreOver text.now faults.new.list.items) }
-    ensures read { IfOk result (λ e. others faults.new.list.items ≡ 0 → Stands text.now at 41 e) }
-    ensures only { IfOk result (λ e. others faults.old.list.items ≡ 0 → (j : ℕ) → Stands text.now at 41 j → (e ≡ j) × (others faults.new.list.items ≡ 0)) }
+    requires faults { AreOf text.now faults.old }
+    ensures goes_on { IfOk result (λ e. GoesOn text.now at e faults.old faults.new) }
+    ensures keeps { OnOk result (KeepsPatterns faults.old faults.new) }
+    ensures read { IfOk result (λ e. IsClean faults.new → Stands text.now at 41 e) }
+    ensures only { IfOk result (λ e. IsClean faults.old → (j : ℕ) → Stands text.now at 41 j → (e ≡ j) × IsClean faults.new) }
 {
     let place = after_comma(text, at, faults)?;
     let span = SourceSpan {

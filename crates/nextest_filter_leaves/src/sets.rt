@@ -1,10 +1,10 @@
-ghost use Rattle.std.specs.Prelude.{◌≡◌, ◌≤◌, ◌<◌, ◌+◌, ℕ, List, [], IfOk, IfSome, IfNone, OnOk, length, option_map, slice_range, vec_len};
+ghost use Rattle.std.specs.Prelude.{◌≡◌, ◌≤◌, ◌<◌, ◌+◌, ℕ, [], IfOk, IfSome, IfNone, OnOk, length, slice_range};
 ghost use Rattle.std.specs.Str.{IsCharBoundary, trim};
 ghost use Rattle.nextest_filter_matchers.specs.Matchers.{matcher_of};
 ghost use Rattle.nextest_filter_faults.specs.Signs.{platform_text};
 ghost use Rattle.nextest_filter_faults.specs.declared.platform.BuildPlatform as declared;
 ghost use Rattle.nextest_filter_matchers.specs.declared.source_span.SourceSpan as source;
-ghost use Rattle.nextest_filter_tokens.specs.FaultLists.{AreOver, AreWithin, others, refusals};
+ghost use Rattle.nextest_filter_tokens.specs.ReadingSteps.{AreOf, GoesOn, Grows, GrowsUpTo, IsClean, KeepsPatterns, Spoils, SpoilsSyntax};
 ghost use Rattle.nextest_filter_leaves.specs.AsWritten.{IsLeafAsWritten, IsMatcherAsWritten};
 ghost use Rattle.nextest_filter_leaves.specs.Leaves.{Leaf, Named, leaf_of};
 ghost use Rattle.nextest_filter_leaves.specs.LeafGrammar as spec;
@@ -52,18 +52,12 @@ fn nullary_leaf(word: Nullary, span: SourceSpan) -> ParsedLeaf
 fn opened_after(text: &str, at: usize, faults: &mut FaultList) -> Result<usize, AllocError>
     requires at { at ≤ length text.now }
     requires boundary { IsCharBoundary text.now at }
-    requires within { AreWithin (length text.now) faults.old.list.items }
-    requires over { AreOver text.now faults.old.list.items }
-    ensures rises { IfOk result (λ e. at ≤ e) }
-    ensures end { IfOk result (λ e. e ≤ length text.now) }
+    requires faults { AreOf text.now faults.old }
+    ensures goes_on { IfOk result (λ e. GoesOn text.now at e faults.old faults.new) }
     ensures boundary { IfOk result (λ e. IsCharBoundary text.now e) }
-    ensures grows { OnOk result (vec_len faults.old.list ≤ vec_len faults.new.list) }
-    ensures others { OnOk result (others faults.old.list.items ≤ others faults.new.list.items) }
-    ensures refusals { OnOk result (refusals faults.new.list.items ≡ refusals faults.old.list.items) }
-    ensures within { OnOk result (AreWithin (length text.now) faults.new.list.items) }
-    ensures over { OnOk result (AreOver text.now faults.new.list.items) }
-    ensures read { IfOk result (λ e. others faults.new.list.items ≡ 0 → spec.Stands text.now at 40 e) }
-    ensures only { IfOk result (λ e. others faults.old.list.items ≡ 0 → (j : ℕ) → spec.Stands text.now at 40 j → (e ≡ j) × (others faults.new.list.items ≡ 0)) }
+    ensures keeps { OnOk result (KeepsPatterns faults.old faults.new) }
+    ensures read { IfOk result (λ e. IsClean faults.new → spec.Stands text.now at 40 e) }
+    ensures only { IfOk result (λ e. IsClean faults.old → (j : ℕ) → spec.Stands text.now at 40 j → (e ≡ j) × IsClean faults.new) }
 {
     let span = SourceSpan { offset: at, len: 0 };
     let fault = ParseSingleError::ExpectedOpenParenthesis(span);
@@ -81,20 +75,13 @@ pub fn named_set_from(
 ) -> Result<(Option<ParsedLeaf>, usize), AllocError>
     requires at { at ≤ length text.now }
     requires boundary { IsCharBoundary text.now at }
-    requires within { AreWithin (length text.now) faults.old.list.items }
-    requires over { AreOver text.now faults.old.list.items }
-    ensures rises { IfOk result (λ p. at ≤ p.1) }
-    ensures end { IfOk result (λ p. p.1 ≤ length text.now) }
-    ensures grows { OnOk result (vec_len faults.old.list ≤ vec_len faults.new.list) }
-    ensures others { OnOk result (others faults.old.list.items ≤ others faults.new.list.items) }
-    ensures refusals { IfOk result (λ p. IfSome p.0 (λ _. refusals faults.new.list.items ≡ refusals faults.old.list.items)) }
-    ensures within { OnOk result (AreWithin (length text.now) faults.new.list.items) }
-    ensures over { OnOk result (AreOver text.now faults.new.list.items) }
-    ensures read { IfOk result (λ p. others faults.new.list.items ≡ 0 → IfSome p.0 (λ l. NamedFrom text.now predicate at (leaf_of l) p.1)) }
-    ensures refused { IfOk result (λ p. others faults.new.list.items ≡ 0 → IfNone p.0 ((x : Leaf source.SourceSpan) × NamedFrom text.now predicate at x p.1)) }
+    requires faults { AreOf text.now faults.old }
+    ensures goes_on { IfOk result (λ p. GoesOn text.now at p.1 faults.old faults.new) }
+    ensures spoils { IfOk result (λ p. Spoils p.0 faults.old faults.new) }
+    ensures read { IfOk result (λ p. IsClean faults.new → IfSome p.0 (λ l. NamedFrom text.now predicate at (leaf_of l) p.1)) }
+    ensures unbuilt { IfOk result (λ p. IsClean faults.new → IfNone p.0 ((x : Leaf source.SourceSpan) × NamedFrom text.now predicate at x p.1)) }
     ensures as_written { IfOk result (λ p. IfSome p.0 IsLeafAsWritten) }
-    ensures spoiled { IfOk result (λ p. IfNone p.0 (0 < vec_len faults.new.list)) }
-    ensures only { IfOk result (λ p. others faults.old.list.items ≡ 0 → (x : Leaf source.SourceSpan) (j : ℕ) → NamedFrom text.now predicate at x j → (p.1 ≡ j) × (others faults.new.list.items ≡ 0)) }
+    ensures only { IfOk result (λ p. IsClean faults.old → (x : Leaf source.SourceSpan) (j : ℕ) → NamedFrom text.now predicate at x j → (p.1 ≡ j) × IsClean faults.new) }
 {
     let inner = opened_after(text, at, faults)?;
     let start = skip_blanks(text, inner);
@@ -131,15 +118,10 @@ fn platform_of(
     span: SourceSpan,
     faults: &mut FaultList,
 ) -> Result<Option<BuildPlatform>, AllocError>
-    ensures grows { OnOk result (vec_len faults.old.list ≤ vec_len faults.new.list) }
-    ensures others { OnOk result (others faults.old.list.items ≤ others faults.new.list.items) }
-    ensures refusals { IfOk result (λ r. IfSome r (λ _. refusals faults.new.list.items ≡ refusals faults.old.list.items)) }
-    ensures within { OnOk result ((n : ℕ) → AreWithin n faults.old.list.items → span.offset + span.len ≤ n → AreWithin n faults.new.list.items) }
-    ensures over { OnOk result ((text : List ℕ) → AreOver text faults.old.list.items → AreOver text faults.new.list.items) }
+    ensures grows { OnOk result (GrowsUpTo (span.offset + span.len) faults.old faults.new) }
+    ensures spoils { IfOk result (λ r. SpoilsSyntax r faults.old faults.new) }
     ensures read { IfOk result (λ r. IfSome r (λ p. trim name.now ≡ platform_text p)) }
-    ensures spoiled { IfOk result (λ r. IfNone r (0 < vec_len faults.new.list)) }
-    ensures fault { IfOk result (λ r. IfNone r (0 < others faults.new.list.items)) }
-    ensures only { IfOk result (λ r. others faults.old.list.items ≡ 0 → (p : declared.BuildPlatform) → trim name.now ≡ platform_text p → others faults.new.list.items ≡ 0) }
+    ensures only { IfOk result (λ r. IsClean faults.old → (p : declared.BuildPlatform) → trim name.now ≡ platform_text p → IsClean faults.new) }
 {
     match platform_named(name) {
         Some(platform) => Ok(Some(platform)),
@@ -159,20 +141,12 @@ pub fn platform_set_from(
 ) -> Result<(Option<ParsedLeaf>, usize), AllocError>
     requires at { at ≤ length text.now }
     requires boundary { IsCharBoundary text.now at }
-    requires within { AreWithin (length text.now) faults.old.list.items }
-    requires over { AreOver text.now faults.old.list.items }
-    ensures rises { IfOk result (λ p. at ≤ p.1) }
-    ensures end { IfOk result (λ p. p.1 ≤ length text.now) }
-    ensures grows { OnOk result (vec_len faults.old.list ≤ vec_len faults.new.list) }
-    ensures others { OnOk result (others faults.old.list.items ≤ others faults.new.list.items) }
-    ensures refusals { IfOk result (λ p. IfSome p.0 (λ _. refusals faults.new.list.items ≡ refusals faults.old.list.items)) }
-    ensures within { OnOk result (AreWithin (length text.now) faults.new.list.items) }
-    ensures over { OnOk result (AreOver text.now faults.new.list.items) }
-    ensures read { IfOk result (λ p. others faults.new.list.items ≡ 0 → IfSome p.0 (λ l. PlatformFrom text.now at (leaf_of l) p.1)) }
+    requires faults { AreOf text.now faults.old }
+    ensures goes_on { IfOk result (λ p. GoesOn text.now at p.1 faults.old faults.new) }
+    ensures spoils { IfOk result (λ p. SpoilsSyntax p.0 faults.old faults.new) }
+    ensures read { IfOk result (λ p. IsClean faults.new → IfSome p.0 (λ l. PlatformFrom text.now at (leaf_of l) p.1)) }
     ensures as_written { IfOk result (λ p. IfSome p.0 IsLeafAsWritten) }
-    ensures spoiled { IfOk result (λ p. IfNone p.0 (0 < vec_len faults.new.list)) }
-    ensures fault { IfOk result (λ p. IfNone p.0 (0 < others faults.new.list.items)) }
-    ensures only { IfOk result (λ p. others faults.old.list.items ≡ 0 → (x : Leaf source.SourceSpan) (j : ℕ) → PlatformFrom text.now at x j → (p.1 ≡ j) × (others faults.new.list.items ≡ 0)) }
+    ensures only { IfOk result (λ p. IsClean faults.old → (x : Leaf source.SourceSpan) (j : ℕ) → PlatformFrom text.now at x j → (p.1 ≡ j) × IsClean faults.new) }
 {
     let inner = opened_after(text, at, faults)?;
     let start = skip_blanks(text, inner);
@@ -195,16 +169,12 @@ pub fn platform_set_from(
 fn white_after(text: &str, at: usize, faults: &mut FaultList) -> Result<usize, AllocError>
     requires at { at ≤ length text.now }
     requires boundary { IsCharBoundary text.now at }
-    requires within { AreWithin (length text.now) faults.old.list.items }
-    requires over { AreOver text.now faults.old.list.items }
+    requires faults { AreOf text.now faults.old }
     ensures up_to { IfOk result (λ e. IsUpToClose text.now at e) }
-    ensures grows { OnOk result (vec_len faults.old.list ≤ vec_len faults.new.list) }
-    ensures others { OnOk result (others faults.old.list.items ≤ others faults.new.list.items) }
-    ensures refusals { OnOk result (refusals faults.new.list.items ≡ refusals faults.old.list.items) }
-    ensures within { OnOk result (AreWithin (length text.now) faults.new.list.items) }
-    ensures over { OnOk result (AreOver text.now faults.new.list.items) }
-    ensures read { IfOk result (λ e. others faults.new.list.items ≡ 0 → trim (slice_range text.now at e) ≡ []) }
-    ensures only { IfOk result (λ e. others faults.old.list.items ≡ 0 → trim (slice_range text.now at e) ≡ [] → others faults.new.list.items ≡ 0) }
+    ensures grows { OnOk result (Grows text.now faults.old faults.new) }
+    ensures keeps { OnOk result (KeepsPatterns faults.old faults.new) }
+    ensures read { IfOk result (λ e. IsClean faults.new → trim (slice_range text.now at e) ≡ []) }
+    ensures only { IfOk result (λ e. IsClean faults.old → trim (slice_range text.now at e) ≡ [] → IsClean faults.new) }
 {
     let end = close_place(text, at);
     let argument = &text[at..end];
@@ -230,18 +200,12 @@ pub fn nullary_set_from(
     requires start { start ≤ at }
     requires at { at ≤ length text.now }
     requires boundary { IsCharBoundary text.now at }
-    requires within { AreWithin (length text.now) faults.old.list.items }
-    requires over { AreOver text.now faults.old.list.items }
-    ensures rises { IfOk result (λ p. at ≤ p.1) }
-    ensures end { IfOk result (λ p. p.1 ≤ length text.now) }
-    ensures grows { OnOk result (vec_len faults.old.list ≤ vec_len faults.new.list) }
-    ensures others { OnOk result (others faults.old.list.items ≤ others faults.new.list.items) }
-    ensures refusals { OnOk result (refusals faults.new.list.items ≡ refusals faults.old.list.items) }
-    ensures within { OnOk result (AreWithin (length text.now) faults.new.list.items) }
-    ensures over { OnOk result (AreOver text.now faults.new.list.items) }
+    requires faults { AreOf text.now faults.old }
+    ensures goes_on { IfOk result (λ p. GoesOn text.now at p.1 faults.old faults.new) }
+    ensures keeps { OnOk result (KeepsPatterns faults.old faults.new) }
     ensures as_written { IfOk result (λ p. IsLeafAsWritten p.0) }
-    ensures read { IfOk result (λ p. others faults.new.list.items ≡ 0 → NullaryFrom text.now word start at (leaf_of p.0) p.1) }
-    ensures only { IfOk result (λ p. others faults.old.list.items ≡ 0 → (x : Leaf source.SourceSpan) (j : ℕ) → NullaryFrom text.now word start at x j → (p.1 ≡ j) × (others faults.new.list.items ≡ 0)) }
+    ensures read { IfOk result (λ p. IsClean faults.new → NullaryFrom text.now word start at (leaf_of p.0) p.1) }
+    ensures only { IfOk result (λ p. IsClean faults.old → (x : Leaf source.SourceSpan) (j : ℕ) → NullaryFrom text.now word start at x j → (p.1 ≡ j) × IsClean faults.new) }
 {
     let inner = opened_after(text, at, faults)?;
     let end = white_after(text, inner, faults)?;

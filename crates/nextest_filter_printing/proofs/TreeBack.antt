@@ -18,7 +18,7 @@ use Rattle.nextest_filter_tokens.specs.declared.heads.Head.TheVariants.{Negates,
 use Rattle.nextest_filter_tokens.specs.declared.heads.Predicate.TheVariants.{Package, Deps, Rdeps, Kind, Binary, BinaryId, Test, Group, Feature}
 use Rattle.nextest_filter_tokens.specs.declared.operators.Operator.{Operator}
 use Rattle.nextest_filter_tokens.specs.declared.operators.Operator.TheVariants.{Or, And, Minus}
-use Rattle.nextest_filter_tokens.specs.declared.operators.Found.TheVariants.{Right}
+use Rattle.nextest_filter_tokens.specs.declared.operators.Found.TheVariants.{Joins}
 use Rattle.nextest_filter_leaves.specs.Leaves.{Leaf, Named, Platform, Default, All, None}
 use Rattle.nextest_filter_leaves.specs.LeafTexts.{leaf_text}
 use Rattle.nextest_filter_leaves.specs.LeafGrammar.{ReadsLeaf}
@@ -157,11 +157,11 @@ module _ (text : List ℕ) where
   begun_at same (chain r more) = chain (begun_at same r) more
 
   -- one part more at the end
-  more_snoc : {room level k j m n : ℕ} {a t b : Tree SourceSpan} (op : Operator) → MoreOf text room level k a t j → found_at text level (skip text j) ≡ Right op m → Reads text room level m b n → MoreOf text room level k a (joined_of op t b) n
+  more_snoc : {room level k j m n : ℕ} {a t b : Tree SourceSpan} (op : Operator) → MoreOf text room level k a t j → found_at text level (skip text j) ≡ Joins op m → Reads text room level m b n → MoreOf text room level k a (joined_of op t b) n
   more_snoc op none found r = one found r none
   more_snoc op (one g s more) found r = one g s (more_snoc op more found r)
 
-  chain_snoc : {room level i j m n : ℕ} {t b : Tree SourceSpan} (op : Operator) → Reads text room (suc level) i t j → found_at text level (skip text j) ≡ Right op m → Reads text room level m b n → Reads text room (suc level) i (joined_of op t b) n
+  chain_snoc : {room level i j m n : ℕ} {t b : Tree SourceSpan} (op : Operator) → Reads text room (suc level) i t j → found_at text level (skip text j) ≡ Joins op m → Reads text room level m b n → Reads text room (suc level) i (joined_of op t b) n
   chain_snoc op (chain r more) found s = chain r (more_snoc op more found s)
 
   -- a tree is read as a part of a level, which is the printed one but for its spans
@@ -191,7 +191,7 @@ module _ (text : List ℕ) where
   as_filter room i (set_of l) j w = lifted room 1 i (set_of l) j (lifted room 0 i (set_of l) j w)
 
   -- the operators, each with a space after it
-  or_back : (op : OrOperator) (i : ℕ) → has_word text i (or_sign op ++ 32 ∷ []) ≡ true → or_at text i ≡ Right (Or op) (i + length (or_sign op))
+  or_back : (op : OrOperator) (i : ℕ) → has_word text i (or_sign op ++ 32 ∷ []) ≡ true → or_at text i ≡ Joins (Or op) (i + length (or_sign op))
   unfolding or_at
   or_back LiteralOr i h =
       cond-false _ _ _ (other_word text (codes "or ") (codes "||") i h refl) ∙ cond-false _ _ _ (other_whole text (codes "or ") (codes "OR") i h refl) ∙ cond-true _ _ _ (whole_word text (codes "or") i h)
@@ -200,20 +200,20 @@ module _ (text : List ℕ) where
   or_back Plus i h =
       cond-false _ _ _ (other_word text (codes "+ ") (codes "||") i h refl) ∙ cond-false _ _ _ (other_whole text (codes "+ ") (codes "OR") i h refl) ∙ cond-false _ _ _ (other_whole text (codes "+ ") (codes "or") i h refl) ∙ cond-false _ _ _ (other_word text (codes "+ ") (codes "|") i h refl) ∙ cond-true _ _ _ (first_part text (codes "+") (codes " ") i h)
 
-  and_back : (op : AndOperator) (i : ℕ) → has_word text i (and_sign op ++ 32 ∷ []) ≡ true → and_at text i ≡ Right (And op) (i + length (and_sign op))
+  and_back : (op : AndOperator) (i : ℕ) → has_word text i (and_sign op ++ 32 ∷ []) ≡ true → and_at text i ≡ Joins (And op) (i + length (and_sign op))
   unfolding and_at
   and_back LiteralAnd i h =
       cond-false _ _ _ (other_word text (codes "and ") (codes "&&") i h refl) ∙ cond-false _ _ _ (other_whole text (codes "and ") (codes "AND") i h refl) ∙ cond-true _ _ _ (whole_word text (codes "and") i h)
   and_back Ampersand i h =
       cond-false _ _ _ (other_word text (codes "& ") (codes "&&") i h refl) ∙ cond-false _ _ _ (other_whole text (codes "& ") (codes "AND") i h refl) ∙ cond-false _ _ _ (other_whole text (codes "& ") (codes "and") i h refl) ∙ cond-true _ _ _ (first_part text (codes "&") (codes " ") i h)
 
-  minus_back : (i : ℕ) → has_word text i (codes "- ") ≡ true → and_at text i ≡ Right Minus (i + 1)
+  minus_back : (i : ℕ) → has_word text i (codes "- ") ≡ true → and_at text i ≡ Joins Minus (i + 1)
   unfolding and_at
   minus_back i h =
       cond-false _ _ _ (other_word text (codes "- ") (codes "&&") i h refl) ∙ cond-false _ _ _ (other_whole text (codes "- ") (codes "AND") i h refl) ∙ cond-false _ _ _ (other_whole text (codes "- ") (codes "and") i h refl) ∙ cond-false _ _ _ (other_word text (codes "- ") (codes "&") i h refl) ∙ cond-true _ _ _ (first_part text (codes "-") (codes " ") i h)
 
   -- two parts and the operator between them, with spaces
-  joined_back : {S : Type 0} (op : Operator) (room level : ℕ) (sign : List ℕ) (c : ℕ) (tail : List ℕ) (x y t : Tree S) (i : ℕ) → sign ≡ c ∷ tail → is_solid c ≡ true → ((k : ℕ) → has_word text k (sign ++ 32 ∷ []) ≡ true → found_at text level k ≡ Right op (k + length sign)) → ((a b : Tree SourceSpan) → bare a ≡ bare x → bare b ≡ bare y → bare (joined_of op a b) ≡ bare t) → (tree_text t ≡ joined_text (tree_text x) sign (tree_text y)) → has_word text i (tree_text t) ≡ true → IsBack room (suc level) i x (i + length (tree_text x)) → ((k : ℕ) → has_word text k (tree_text y) ≡ true → IsBack room level k y (k + length (tree_text y))) → IsBack room (suc level) i t (i + length (tree_text t))
+  joined_back : {S : Type 0} (op : Operator) (room level : ℕ) (sign : List ℕ) (c : ℕ) (tail : List ℕ) (x y t : Tree S) (i : ℕ) → sign ≡ c ∷ tail → is_solid c ≡ true → ((k : ℕ) → has_word text k (sign ++ 32 ∷ []) ≡ true → found_at text level k ≡ Joins op (k + length sign)) → ((a b : Tree SourceSpan) → bare a ≡ bare x → bare b ≡ bare y → bare (joined_of op a b) ≡ bare t) → (tree_text t ≡ joined_text (tree_text x) sign (tree_text y)) → has_word text i (tree_text t) ≡ true → IsBack room (suc level) i x (i + length (tree_text x)) → ((k : ℕ) → has_word text k (tree_text y) ≡ true → IsBack room level k y (k + length (tree_text y))) → IsBack room (suc level) i t (i + length (tree_text t))
   joined_back op room level sign c tail x y t i begins solid found same printed h left right =
       let word = subst (λ w. has_word text i w ≡ true) printed h in
       let k = i + length (tree_text x) in
@@ -231,7 +231,7 @@ module _ (text : List ℕ) where
       let read = right (m + 1) operand in
       let place : skip text (m + 1) ≡ skip text m = no_skip y (m + 1) operand ∙ sym (one_skip y m gap operand) in
       let size : i + length (tree_text t) ≡ (m + 1) + length (tree_text y) = omega (arith, ap length printed, length-append (tree_text x) (codes " " ++ (sign ++ (codes " " ++ tree_text y))), length-append sign (codes " " ++ tree_text y)) in
-      let found_is = subst (λ n. found_at text level n ≡ Right op m) (sym blank) operator in
+      let found_is = subst (λ n. found_at text level n ≡ Joins op m) (sym blank) operator in
       let reads = chain_snoc op left.2 found_is (begun_at place read.2) in
       (joined_of op left.0 read.0, same left.0 read.0 left.1 read.1, subst (λ n. Reads text room (suc level) i (joined_of op left.0 read.0) n) (sym size) reads)
 

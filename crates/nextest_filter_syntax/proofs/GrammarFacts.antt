@@ -6,7 +6,7 @@ use Rattle.nextest_filter_tokens.specs.Heads.{head_at}
 use Rattle.nextest_filter_tokens.specs.declared.heads.Head.{Head}
 use Rattle.nextest_filter_tokens.specs.declared.heads.Head.TheVariants.{Names, Platform, Says, Negates, Opens, Misplaces, Unknown}
 use Rattle.nextest_filter_tokens.specs.declared.operators.Found.{Found}
-use Rattle.nextest_filter_tokens.specs.declared.operators.Found.TheVariants.{Nothing, Right, Wrong}
+use Rattle.nextest_filter_tokens.specs.declared.operators.Found.TheVariants.{Nothing, Joins, Wrong}
 use Rattle.nextest_filter_leaves.specs.Leaves.{Leaf}
 use Rattle.nextest_filter_leaves.specs.LeafGrammar.{LeafBy, Stands}
 use Rattle.nextest_filter_leaves.proofs.OnceFacts.{leaves_read_once}
@@ -51,7 +51,7 @@ module _ (text : List ℕ) where
   -- what follows a tree, by what stands in an operator's place
   abbrev pub BehindOf : ℕ → ℕ → ℕ → Tree SourceSpan → Tree SourceSpan → ℕ → Found → Type 0
   BehindOf room level k a t j Nothing = (t ≡ a) × (k ≡ j)
-  BehindOf room level k a t j (Right op m) =
+  BehindOf room level k a t j (Joins op m) =
       (b : Tree SourceSpan) × (n : ℕ) × Reads text room level m b n × MoreOf text room level n (joined_of op a b) t j
   BehindOf room level k a t j (Wrong m) = ⊥
 

@@ -5,16 +5,16 @@ use Rattle.nextest_filter_tokens.specs.Bytes.{byte, is_byte, skip}
 use Rattle.nextest_filter_tokens.specs.Operators.{and_at, or_at}
 use Rattle.nextest_filter_tokens.specs.declared.operators.Operator.{Operator}
 use Rattle.nextest_filter_tokens.specs.declared.operators.Found.{Found}
-use Rattle.nextest_filter_tokens.specs.declared.operators.Found.TheVariants.{Nothing, Right}
+use Rattle.nextest_filter_tokens.specs.declared.operators.Found.TheVariants.{Nothing, Joins}
 use Rattle.nextest_filter_syntax.specs.Grammar.{found_at}
 use Rattle.nextest_filter_syntax.specs.Reading.{Ends}
 
-abbrev is_right : Found → Bool
-is_right (Right op m) = true
-is_right _ = false
+abbrev is_joining : Found → Bool
+is_joining (Joins op m) = true
+is_joining _ = false
 
-nothing_right : (op : Operator) (m : ℕ) → Nothing ≡ Right op m → ⊥
-nothing_right op m e = false≢true (ap is_right e)
+nothing_joins : (op : Operator) (m : ℕ) → Nothing ≡ Joins op m → ⊥
+nothing_joins op m e = false≢true (ap is_joining e)
 
 module _ (text : List ℕ) where
   -- where one byte stands, no other does
@@ -59,7 +59,7 @@ module _ (text : List ℕ) where
   whole_ends i level h (suc (suc k)) lt = refl
 
   -- where an operator of unions stands, no other does
-  or_alone : (i : ℕ) (op : Operator) (m : ℕ) → or_at text i ≡ Right op m → and_at text i ≡ Nothing
+  or_alone : (i : ℕ) (op : Operator) (m : ℕ) → or_at text i ≡ Joins op m → and_at text i ≡ Nothing
   or_alone i op m right =
       elim (cases_Bool (is_byte text i 124)) [
         | inl h ↦ no_and i 124 refl refl refl refl h
@@ -72,14 +72,14 @@ module _ (text : List ℕ) where
                     | inr c ↦
                         elim (cases_Bool (is_byte text i 43)) [
                           | inl h ↦ no_and i 43 refl refl refl refl h
-                          | inr d ↦ absurd (nothing_right op m (sym (or_none i a b c d) ∙ right))
+                          | inr d ↦ absurd (nothing_joins op m (sym (or_none i a b c d) ∙ right))
                         ]
                   ]
             ]
       ]
 
-  pub lower_none : (level k i : ℕ) (op : Operator) (m : ℕ) → k < level → found_at text level i ≡ Right op m → found_at text k i ≡ Nothing
+  pub lower_none : (level k i : ℕ) (op : Operator) (m : ℕ) → k < level → found_at text level i ≡ Joins op m → found_at text k i ≡ Nothing
   lower_none zero k i op m lt right = absurd (omega arith)
   lower_none (suc zero) zero i op m lt right = or_alone i op m right
   lower_none (suc zero) (suc k) i op m lt right = absurd (omega arith)
-  lower_none (suc (suc level)) k i op m lt right = absurd (nothing_right op m right)
+  lower_none (suc (suc level)) k i op m lt right = absurd (nothing_joins op m right)

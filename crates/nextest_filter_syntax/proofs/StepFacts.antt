@@ -4,16 +4,16 @@ use Rattle.std.proofs.lemmas.List.Sums.{sum_by-cons}
 use Rattle.std.specs.List.{count_by}
 use Rattle.nextest_filter_matchers.specs.declared.source_span.SourceSpan.{SourceSpan}
 use Rattle.nextest_filter_faults.specs.declared.operators.NotOperator.{NotOperator}
-use Rattle.nextest_filter_faults.specs.Faults.{is_refusal}
+use Rattle.nextest_filter_faults.specs.Faults.{is_pattern_fault}
 use Rattle.nextest_filter_faults.specs.declared.parse_error.ParseSingleError.{ParseSingleError}
 use Rattle.nextest_filter_tokens.specs.Bytes.{skip}
-use Rattle.nextest_filter_tokens.specs.FaultLists.{others, refusals}
+use Rattle.nextest_filter_tokens.specs.FaultLists.{pattern_faults, syntax_faults}
 use Rattle.nextest_filter_tokens.specs.Heads.{head_at}
 use Rattle.nextest_filter_tokens.specs.declared.heads.Head.{Head}
 use Rattle.nextest_filter_tokens.specs.declared.heads.Head.TheVariants.{Negates, Opens}
 use Rattle.nextest_filter_tokens.specs.declared.operators.Operator.{Operator}
 use Rattle.nextest_filter_tokens.specs.declared.operators.Found.{Found}
-use Rattle.nextest_filter_tokens.specs.declared.operators.Found.TheVariants.{Nothing, Right, Wrong}
+use Rattle.nextest_filter_tokens.specs.declared.operators.Found.TheVariants.{Nothing, Joins, Wrong}
 use Rattle.nextest_filter_leaves.specs.Leaves.{Leaf, leaf_of}
 use Rattle.nextest_filter_leaves.specs.LeafGrammar.{LeafBy, Stands}
 use Rattle.nextest_filter_leaves.specs.declared.parsed_leaf.ParsedLeaf.{ParsedLeaf}
@@ -40,8 +40,8 @@ count_both p [] = refl
 count_both p (x ∷ xs) =
     omega (arith, sum_by-cons (λ y. cond (not (p y)) 1 0) x xs, sum_by-cons (λ y. cond (p y) 1 0) x xs, one_of (p x), count_both p xs)
 
-pub all_faults : (faults : List ParseSingleError) → others faults + refusals faults ≡ length faults
-all_faults faults = count_both is_refusal faults
+pub all_faults : (faults : List ParseSingleError) → syntax_faults faults + pattern_faults faults ≡ length faults
+all_faults faults = count_both is_pattern_fault faults
 
 -- where a spoiled part is a fault, it is one in a longer list
 pub spoiled_grows : {A : Type 0} (o : Option A) (n m : ℕ) → IfNone o (0 < n) → n ≤ m → IfNone o (0 < m)
@@ -54,9 +54,9 @@ built_whole (Some v) i j k empty last same = last ∙ same ∙ empty
 built_whole None i j k empty last same = tt
 
 -- a part is no spoiled one where a spoiled one is a fault and there is none
-pub fault_none : {A : Type 0} (B : Type 0) (o : Option A) (n : ℕ) → n ≡ 0 → IfNone o (0 < n) → IfNone o B
-fault_none B (Some v) n clean fault = tt
-fault_none B None n clean fault = absurd (omega (arith, clean, fault))
+pub fault_none : {A : Type 0} (B : Type 0) (o : Option A) (all syntax : ℕ) → syntax ≡ 0 → IfNone o ((0 < all) × (0 < syntax)) → IfNone o B
+fault_none B (Some v) all syntax clean fault = tt
+fault_none B None all syntax clean fault = absurd (omega (arith, clean, fault.1))
 
 module _ (text : List ℕ) where
   -- a tree is that of the expression which has its value, unless it is spoiled
@@ -136,14 +136,14 @@ module _ (text : List ℕ) where
 
   pub nothing_of : (found : Found) → place_of found ≡ None → found ≡ Nothing
   nothing_of Nothing e = refl
-  nothing_of (Right op m) e = absurd (none_some (sym e))
+  nothing_of (Joins op m) e = absurd (none_some (sym e))
   nothing_of (Wrong m) e = absurd (none_some (sym e))
 
   pub last_only : (room level lower end j : ℕ) (a t : Tree SourceSpan) (found : Found) → suc lower ≡ level → found ≡ found_at text lower (skip text end) → found ≡ Nothing → MoreOf text room lower end a t j → Ends text level j → end ≡ j
   last_only room level lower end j a t found is stands nothing more ends =
       (subst (BehindOf text room lower end a t j) (sym stands ∙ nothing) (behind_at text room lower end j a t more (subst (λ l. Ends text l j) (sym is) ends))).1
 
-  joined_is : (op : Operator) (m : ℕ) (x y z : Option (ParsedExpr SourceSpan)) (a b : Tree SourceSpan) → part_of z ≡ joined_part (Right op m) (part_of x) (part_of y) → IsTree x a → IsTree y b → IsTree z (joined_of op a b)
+  joined_is : (op : Operator) (m : ℕ) (x y z : Option (ParsedExpr SourceSpan)) (a b : Tree SourceSpan) → part_of z ≡ joined_part (Joins op m) (part_of x) (part_of y) → IsTree x a → IsTree y b → IsTree z (joined_of op a b)
   joined_is op m (Some v) (Some w) z a b same is also =
       part_is z (joined_of op a b) (same ∙ ap (λ t. Some (joined_of op t (tree_of w))) is ∙ ap (λ t. Some (joined_of op a t)) also)
   joined_is op m (Some v) None z a b same is also = part_none z (joined_of op a b) same
@@ -154,26 +154,26 @@ module _ (text : List ℕ) where
   step_read room level lower at end next after Nothing x y z stands place right same first second = absurd (none_some place)
   step_read room level lower at end next after (Wrong m) x y z stands place right same first second =
       absurd (right refl)
-  step_read room level lower at end next after (Right op m) x y z stands place right same first second =
+  step_read room level lower at end next after (Joins op m) x y z stands place right same first second =
       let here : m ≡ next = some_same place in
       let reads = subst (λ k. Reads text room lower k second.0 after) (sym here) second.1 in
       (joined_of op first.0 second.0, joined_is op m x y z first.0 second.0 same first.1 second.2, λ t j more. first.2 t j (one (sym stands) reads more))
 
-  pub step_refusals : (found : Found) (next i j k l : ℕ) (x y z : Option (ParsedExpr SourceSpan)) → place_of found ≡ Some next → part_of z ≡ joined_part found (part_of x) (part_of y) → IfSome x (λ _. j ≡ i) → (is_wrong found ≡ false → k ≡ j) → IfSome y (λ _. l ≡ k) → IfSome z (λ _. l ≡ i)
-  step_refusals found next i j k l x y None place same first right second = tt
-  step_refusals Nothing next i j k l x y (Some v) place same first right second = absurd (none_some place)
-  step_refusals (Wrong m) next i j k l x y (Some v) place same first right second = absurd (none_some (sym same))
-  step_refusals (Right op m) next i j k l None y (Some v) place same first right second = absurd (none_some (sym same))
-  step_refusals (Right op m) next i j k l (Some a) None (Some v) place same first right second = absurd (none_some (sym same))
-  step_refusals (Right op m) next i j k l (Some a) (Some b) (Some v) place same first right second = second ∙ right refl ∙ first
+  pub step_patterns : (found : Found) (next i j k l : ℕ) (x y z : Option (ParsedExpr SourceSpan)) → place_of found ≡ Some next → part_of z ≡ joined_part found (part_of x) (part_of y) → IfSome x (λ _. j ≡ i) → (is_wrong found ≡ false → k ≡ j) → IfSome y (λ _. l ≡ k) → IfSome z (λ _. l ≡ i)
+  step_patterns found next i j k l x y None place same first right second = tt
+  step_patterns Nothing next i j k l x y (Some v) place same first right second = absurd (none_some place)
+  step_patterns (Wrong m) next i j k l x y (Some v) place same first right second = absurd (none_some (sym same))
+  step_patterns (Joins op m) next i j k l None y (Some v) place same first right second = absurd (none_some (sym same))
+  step_patterns (Joins op m) next i j k l (Some a) None (Some v) place same first right second = absurd (none_some (sym same))
+  step_patterns (Joins op m) next i j k l (Some a) (Some b) (Some v) place same first right second = second ∙ right refl ∙ first
 
   pub step_spoiled : (found : Found) (next n i m : ℕ) (x y z : Option (ParsedExpr SourceSpan)) → place_of found ≡ Some next → part_of z ≡ joined_part found (part_of x) (part_of y) → IfNone x (0 < n) → (is_wrong found ≡ true → 0 < i) → IfNone y (0 < m) → n ≤ m → i ≤ m → IfNone z (0 < m)
   step_spoiled found next n i m x y (Some v) place same first wrong second p q = tt
   step_spoiled Nothing next n i m x y None place same first wrong second p q = absurd (none_some place)
   step_spoiled (Wrong k) next n i m x y None place same first wrong second p q = omega (arith, wrong refl, q)
-  step_spoiled (Right op k) next n i m None y None place same first wrong second p q = omega (arith, first, p)
-  step_spoiled (Right op k) next n i m (Some a) None None place same first wrong second p q = second
-  step_spoiled (Right op k) next n i m (Some a) (Some b) None place same first wrong second p q = absurd (none_some same)
+  step_spoiled (Joins op k) next n i m None y None place same first wrong second p q = omega (arith, first, p)
+  step_spoiled (Joins op k) next n i m (Some a) None None place same first wrong second p q = second
+  step_spoiled (Joins op k) next n i m (Some a) (Some b) None place same first wrong second p q = absurd (none_some same)
 
   -- what stands behind a tree, where an operator follows it
   pub record IsStep (room lower next : ℕ) (a t : Tree SourceSpan) (j : ℕ) (found : Found) : Type 0 where
@@ -188,7 +188,7 @@ module _ (text : List ℕ) where
   behind_step : (room lower end next j : ℕ) (a t : Tree SourceSpan) (found : Found) → place_of found ≡ Some next → Ends text (suc lower) j → BehindOf text room lower end a t j found → IsStep room lower next a t j found
   behind_step room lower end next j a t Nothing place ends w = absurd (none_some place)
   behind_step room lower end next j a t (Wrong m) place ends w = absurd w
-  behind_step room lower end next j a t (Right o m) place ends w =
+  behind_step room lower end next j a t (Joins o m) place ends w =
       let here : m ≡ next = some_same place in
       record {
         right = refl;

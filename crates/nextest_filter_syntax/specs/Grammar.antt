@@ -9,7 +9,7 @@ use Rattle.nextest_filter_tokens.specs.declared.heads.Head.TheVariants.{Negates,
 use Rattle.nextest_filter_tokens.specs.declared.operators.Operator.{Operator}
 use Rattle.nextest_filter_tokens.specs.declared.operators.Operator.TheVariants.{Or, And, Minus}
 use Rattle.nextest_filter_tokens.specs.declared.operators.Found.{Found}
-use Rattle.nextest_filter_tokens.specs.declared.operators.Found.TheVariants.{Nothing, Right}
+use Rattle.nextest_filter_tokens.specs.declared.operators.Found.TheVariants.{Nothing, Joins}
 use Rattle.nextest_filter_leaves.specs.Leaves.{Leaf}
 use Rattle.nextest_filter_leaves.specs.LeafGrammar.{ReadsLeaf, Stands}
 use Rattle.nextest_filter_syntax.specs.Trees.{Tree, not_of, union_of, intersection_of, difference_of, parens_of, set_of}
@@ -37,7 +37,7 @@ mutual
   -- from the place after the tree a on, further parts, which join it from left to right
   pub data MoreOf (text : List ℕ) : ℕ → ℕ → ℕ → Tree SourceSpan → Tree SourceSpan → ℕ → Type 0 where
     none : {room level k : ℕ} {a : Tree SourceSpan} → MoreOf text room level k a a k
-    one : {room level k m n j : ℕ} {op : Operator} {a b t : Tree SourceSpan} → found_at text level (skip text k) ≡ Right op m → Reads text room level m b n → MoreOf text room level n (joined_of op a b) t j → MoreOf text room level k a t j
+    one : {room level k m n j : ℕ} {op : Operator} {a b t : Tree SourceSpan} → found_at text level (skip text k) ≡ Joins op m → Reads text room level m b n → MoreOf text room level n (joined_of op a b) t j → MoreOf text room level k a t j
 
 -- the whole text is a filter, with at most 256 parentheses and negations inside each other
 abbrev pub ReadsWhole : List ℕ → Tree SourceSpan → Type 0

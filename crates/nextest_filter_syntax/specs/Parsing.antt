@@ -1,7 +1,7 @@
 -- What the faults of a refused text say.
 use Rattle.std.specs.Prelude.{◌≡◌, ◌↔◌, ℕ, ◌<◌, List, length, vec_len}
 use Rattle.nextest_filter_matchers.specs.declared.source_span.SourceSpan.{SourceSpan}
-use Rattle.nextest_filter_tokens.specs.FaultLists.{AreOver, AreWithin, others, refusals}
+use Rattle.nextest_filter_tokens.specs.FaultLists.{AreOver, AreWithin, pattern_faults, syntax_faults}
 use Rattle.nextest_filter_syntax.specs.Trees.{Tree}
 use Rattle.nextest_filter_syntax.specs.Grammar.{ReadsWhole}
 use Rattle.nextest_filter_syntax.specs.declared.parsing.ParseExprError.{ParseExprError}
@@ -14,5 +14,5 @@ ReadsSome text = (t : Tree SourceSpan) × ReadsWhole text t
 -- there are faults, which lie within the text; they are of refused patterns alone exactly if the grammar reads a tree
 abbrev pub AreFaultsOf : List ℕ → ParseExprError → Type 0
 AreFaultsOf text (Faults faults) =
-    (0 < vec_len faults) × AreWithin (length text) faults.items × AreOver text faults.items × (others faults.items ≡ 0 ↔ ReadsSome text) × (ReadsSome text → 0 < refusals faults.items)
+    (0 < vec_len faults) × AreWithin (length text) faults.items × AreOver text faults.items × (syntax_faults faults.items ≡ 0 ↔ ReadsSome text) × (ReadsSome text → 0 < pattern_faults faults.items)
 AreFaultsOf text Memory = Unit {0}

@@ -4,7 +4,7 @@ use Rattle.nextest_filter_matchers.specs.declared.source_span.SourceSpan.{Source
 use Rattle.nextest_filter_faults.specs.declared.operators.NotOperator.{NotOperator}
 use Rattle.nextest_filter_tokens.specs.Bytes.{skip}
 use Rattle.nextest_filter_tokens.specs.declared.operators.Found.{Found}
-use Rattle.nextest_filter_tokens.specs.declared.operators.Found.TheVariants.{Nothing, Right, Wrong}
+use Rattle.nextest_filter_tokens.specs.declared.operators.Found.TheVariants.{Nothing, Joins, Wrong}
 use Rattle.nextest_filter_leaves.specs.Leaves.{leaf_of}
 use Rattle.nextest_filter_leaves.specs.declared.parsed_leaf.ParsedLeaf.{ParsedLeaf}
 use Rattle.nextest_filter_syntax.specs.declared.parsed_expr.ParsedExpr.{ParsedExpr}
@@ -42,7 +42,7 @@ parens_part None = None
 
 -- two parts, joined by what stands between them
 abbrev pub joined_part : Found → Option (Tree SourceSpan) → Option (Tree SourceSpan) → Option (Tree SourceSpan)
-joined_part (Right op m) (Some a) (Some b) = Some (joined_of op a b)
+joined_part (Joins op m) (Some a) (Some b) = Some (joined_of op a b)
 joined_part _ _ _ = None
 
 abbrev pub is_wrong : Found → Bool
@@ -51,6 +51,6 @@ is_wrong _ = false
 
 -- the place after an operator, if one stands there
 abbrev pub place_of : Found → Option ℕ
-place_of (Right op m) = Some m
+place_of (Joins op m) = Some m
 place_of (Wrong m) = Some m
 place_of Nothing = None

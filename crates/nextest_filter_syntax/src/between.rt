@@ -1,7 +1,8 @@
-ghost use Rattle.std.specs.Prelude.{◌≡◌, ◌≤◌, ◌<◌, true, false, IfOk, IfSome, OnOk, length, vec_len};
-ghost use Rattle.nextest_filter_faults.specs.Faults.{is_refusal, span_of};
+ghost use Rattle.std.specs.Prelude.{◌≡◌, ◌≤◌, ◌<◌, true, false, IfOk, IfSome, OnOk, length};
+ghost use Rattle.nextest_filter_faults.specs.Faults.{is_pattern_fault, span_of};
 ghost use Rattle.nextest_filter_tokens.specs.Bytes.{skip};
-ghost use Rattle.nextest_filter_tokens.specs.FaultLists.{AreOver, AreWithin, others, refusals};
+ghost use Rattle.nextest_filter_tokens.specs.FaultLists.{syntax_faults};
+ghost use Rattle.nextest_filter_tokens.specs.ReadingSteps.{AreOf, Grows, HasSyntaxFault, KeepsPatterns};
 ghost use Rattle.nextest_filter_tokens.specs.Operators.{FoundEndsWithin};
 ghost use Rattle.nextest_filter_syntax.specs.Grammar.{found_at};
 ghost use Rattle.nextest_filter_syntax.specs.Reading.{is_wrong, place_of};
@@ -24,7 +25,7 @@ fn found_of(text: &str, level: usize, at: usize) -> Found
 
 /// The fault of an operator of the level that is written wrongly.
 fn wrong_operator(level: usize, span: SourceSpan) -> ParseSingleError
-    ensures other { is_refusal result ≡ false }
+    ensures syntax { is_pattern_fault result ≡ false }
     ensures span { span_of result ≡ span }
 {
     if level == 0 {
@@ -38,7 +39,7 @@ pub(crate) fn place_after(found: Found) -> Option<usize>
     ensures { result ≡ place_of found }
 {
     match found {
-        Found::Right(_, place) | Found::Wrong(place) => Some(place),
+        Found::Joins(_, place) | Found::Wrong(place) => Some(place),
         Found::Nothing => None,
     }
 }
@@ -53,18 +54,13 @@ pub(crate) fn operator_after(
 ) -> Result<Found, AllocError>
     requires level { level ≤ 1 }
     requires at { at ≤ length text.now }
-    requires within { AreWithin (length text.now) faults.old.list.items }
-    requires over { AreOver text.now faults.old.list.items }
+    requires faults { AreOf text.now faults.old }
     ensures value { IfOk result (λ f. f ≡ found_at text.now level (skip text.now at)) }
     ensures end { IfOk result (λ f. IfSome (place_of f) (λ j. (at < j) × (j ≤ length text.now))) }
-    ensures grows { OnOk result (vec_len faults.old.list ≤ vec_len faults.new.list) }
-    ensures others { OnOk result (others faults.old.list.items ≤ others faults.new.list.items) }
-    ensures within { OnOk result (AreWithin (length text.now) faults.new.list.items) }
-    ensures over { OnOk result (AreOver text.now faults.new.list.items) }
-    ensures wrong { IfOk result (λ f. is_wrong f ≡ true → 0 < others faults.new.list.items) }
-    ensures some { IfOk result (λ f. is_wrong f ≡ true → 0 < vec_len faults.new.list) }
-    ensures refusals { IfOk result (λ f. is_wrong f ≡ false → refusals faults.new.list.items ≡ refusals faults.old.list.items) }
-    ensures same { IfOk result (λ f. is_wrong f ≡ false → others faults.new.list.items ≡ others faults.old.list.items) }
+    ensures grows { OnOk result (Grows text.now faults.old faults.new) }
+    ensures wrong { IfOk result (λ f. is_wrong f ≡ true → HasSyntaxFault faults.new) }
+    ensures keeps { IfOk result (λ f. is_wrong f ≡ false → KeepsPatterns faults.old faults.new) }
+    ensures same { IfOk result (λ f. is_wrong f ≡ false → syntax_faults faults.new.list.items ≡ syntax_faults faults.old.list.items) }
 {
     let place = skip_blanks(text, at);
     match found_of(text, level, place) {
@@ -76,7 +72,7 @@ pub(crate) fn operator_after(
             faults.report(wrong_operator(level, span))?;
             Ok(Found::Wrong(next))
         }
-        Found::Right(op, next) => Ok(Found::Right(op, next)),
+        Found::Joins(op, next) => Ok(Found::Joins(op, next)),
         Found::Nothing => Ok(Found::Nothing),
     }
 }

@@ -1,7 +1,8 @@
 ghost use Rattle.std.specs.Prelude.{◌≡◌, ◌≤◌, ◌<◌, ◌↔◌, Some, IfOk, IfSome, IfNone, OnOk, length, vec_len};
 ghost use Rattle.nextest_filter_matchers.specs.declared.source_span.SourceSpan as source;
 ghost use Rattle.nextest_filter_tokens.specs.Bytes.{skip};
-ghost use Rattle.nextest_filter_tokens.specs.FaultLists.{AreOver, AreWithin, others, refusals};
+ghost use Rattle.nextest_filter_tokens.specs.FaultLists.{AreOver, AreWithin, pattern_faults, syntax_faults};
+ghost use Rattle.nextest_filter_tokens.specs.ReadingSteps.{AreOf, Grows, IsClean, KeepsPatterns};
 ghost use Rattle.nextest_filter_syntax.specs.AsWritten.{IsExprAsWritten};
 ghost use Rattle.nextest_filter_syntax.specs.Trees.{Tree, tree_of};
 ghost use Rattle.nextest_filter_syntax.specs.Grammar.{ReadsWhole};
@@ -29,15 +30,11 @@ pub enum ParseExprError {
 /// Reports what is left of a text after its filter.
 fn expect_end(text: &str, at: usize, faults: &mut FaultList) -> Result<(), AllocError>
     requires at { at ≤ length text.now }
-    requires within { AreWithin (length text.now) faults.old.list.items }
-    requires over { AreOver text.now faults.old.list.items }
-    ensures grows { OnOk result (vec_len faults.old.list ≤ vec_len faults.new.list) }
-    ensures others { OnOk result (others faults.old.list.items ≤ others faults.new.list.items) }
-    ensures refusals { OnOk result (refusals faults.new.list.items ≡ refusals faults.old.list.items) }
-    ensures within { OnOk result (AreWithin (length text.now) faults.new.list.items) }
-    ensures over { OnOk result (AreOver text.now faults.new.list.items) }
-    ensures read { OnOk result (others faults.new.list.items ≡ 0 → skip text.now at ≡ length text.now) }
-    ensures only { OnOk result (others faults.old.list.items ≡ 0 → skip text.now at ≡ length text.now → others faults.new.list.items ≡ 0) }
+    requires faults { AreOf text.now faults.old }
+    ensures grows { OnOk result (Grows text.now faults.old faults.new) }
+    ensures keeps { OnOk result (KeepsPatterns faults.old faults.new) }
+    ensures read { OnOk result (IsClean faults.new → skip text.now at ≡ length text.now) }
+    ensures only { OnOk result (IsClean faults.old → skip text.now at ≡ length text.now → IsClean faults.new) }
 {
     let end = skip_blanks(text, at);
     if end == text.len() {
@@ -53,10 +50,10 @@ pub fn parse_with_faults(
     text: &str,
 ) -> Result<(Option<ParsedExpr>, Vec<ParseSingleError>), AllocError>
     ensures exact { IfOk result (λ r. vec_len r.1 ≡ 0 ↔ ((t : Tree source.SourceSpan) × ReadsWhole text.now t × (part_of r.0 ≡ Some t))) }
-    ensures reads { IfOk result (λ r. others r.1.items ≡ 0 ↔ ReadsSome text.now) }
+    ensures reads { IfOk result (λ r. syntax_faults r.1.items ≡ 0 ↔ ReadsSome text.now) }
     ensures spoiled { IfOk result (λ r. IfNone r.0 (0 < vec_len r.1)) }
     ensures as_written { IfOk result (λ r. IfSome r.0 IsExprAsWritten) }
-    ensures built { IfOk result (λ r. IfSome r.0 (λ _. refusals r.1.items ≡ 0)) }
+    ensures built { IfOk result (λ r. IfSome r.0 (λ _. pattern_faults r.1.items ≡ 0)) }
     ensures tree { IfOk result (λ r. (t : Tree source.SourceSpan) → ReadsWhole text.now t → IfSome r.0 (λ x. tree_of x ≡ t)) }
     ensures within { IfOk result (λ r. AreWithin (length text.now) r.1.items) }
     ensures over { IfOk result (λ r. AreOver text.now r.1.items) }

@@ -109,7 +109,7 @@ pub(crate) fn joined(
         return Ok(None);
     };
     match found {
-        Found::Right(op, _) => Ok(Some(joined_by(alloc, op, left, right)?)),
+        Found::Joins(op, _) => Ok(Some(joined_by(alloc, op, left, right)?)),
         _ => {
             drop((left, right));
             Ok(None)

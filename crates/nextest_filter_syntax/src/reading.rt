@@ -1,8 +1,8 @@
-ghost use Rattle.std.specs.Prelude.{◌≡◌, ◌≤◌, ◌<◌, ◌+◌, ℕ, false, IfOk, IfSome, IfNone, OnOk, length, vec_len};
+ghost use Rattle.std.specs.Prelude.{◌≡◌, ◌≤◌, ◌<◌, ◌+◌, ℕ, false, IfOk, IfSome, OnOk, length};
 ghost use Rattle.nextest_filter_matchers.specs.declared.source_span.SourceSpan as source;
 ghost use Rattle.nextest_filter_tokens.specs.Bytes.{skip};
-ghost use Rattle.nextest_filter_faults.specs.Faults.{is_refusal, span_of};
-ghost use Rattle.nextest_filter_tokens.specs.FaultLists.{AreOver, AreWithin, others, refusals};
+ghost use Rattle.nextest_filter_faults.specs.Faults.{is_pattern_fault, span_of};
+ghost use Rattle.nextest_filter_tokens.specs.ReadingSteps.{AreOf, GoesOn, Grows, HasSyntaxFault, IsClean, KeepsPatterns, Spoils};
 ghost use Rattle.nextest_filter_tokens.specs.Heads.{HeadEndsWithin, head_at};
 ghost use Rattle.nextest_filter_syntax.specs.Trees.{Tree};
 ghost use Rattle.nextest_filter_syntax.specs.AsWritten.{IsExprAsWritten};
@@ -20,7 +20,7 @@ use std::alloc::{AllocError, Global};
 
 /// The fault of an operator that stands in an operand's place.
 fn misplaced(op: WrongOperator, span: SourceSpan) -> ParseSingleError
-    ensures other { is_refusal result ≡ false }
+    ensures syntax { is_pattern_fault result ≡ false }
     ensures span { span_of result ≡ span }
 {
     let (op, suggest) = match op {
@@ -52,14 +52,9 @@ pub(crate) fn rest_of(text: &str, at: usize) -> SourceSpan
 /// Reports that an operand stands too deep, and closes the faults.
 fn report_too_deep(text: &str, at: usize, faults: &mut FaultList) -> Result<(), AllocError>
     requires at { at ≤ length text.now }
-    requires within { AreWithin (length text.now) faults.old.list.items }
-    requires over { AreOver text.now faults.old.list.items }
-    ensures grows { OnOk result (vec_len faults.old.list ≤ vec_len faults.new.list) }
-    ensures others { OnOk result (others faults.old.list.items ≤ others faults.new.list.items) }
-    ensures within { OnOk result (AreWithin (length text.now) faults.new.list.items) }
-    ensures over { OnOk result (AreOver text.now faults.new.list.items) }
-    ensures some { OnOk result (0 < vec_len faults.new.list) }
-    ensures fault { OnOk result (0 < others faults.new.list.items) }
+    requires faults { AreOf text.now faults.old }
+    ensures grows { OnOk result (Grows text.now faults.old faults.new) }
+    ensures fault { OnOk result (HasSyntaxFault faults.new) }
 {
     faults.close(rest_of(text, at))?;
     Ok(())
@@ -75,14 +70,9 @@ fn report_misplaced(
 ) -> Result<(), AllocError>
     requires rises { at ≤ end }
     requires end { end ≤ length text.now }
-    requires within { AreWithin (length text.now) faults.old.list.items }
-    requires over { AreOver text.now faults.old.list.items }
-    ensures grows { OnOk result (vec_len faults.old.list ≤ vec_len faults.new.list) }
-    ensures others { OnOk result (others faults.old.list.items ≤ others faults.new.list.items) }
-    ensures within { OnOk result (AreWithin (length text.now) faults.new.list.items) }
-    ensures over { OnOk result (AreOver text.now faults.new.list.items) }
-    ensures some { OnOk result (0 < vec_len faults.new.list) }
-    ensures fault { OnOk result (0 < others faults.new.list.items) }
+    requires faults { AreOf text.now faults.old }
+    ensures grows { OnOk result (Grows text.now faults.old faults.new) }
+    ensures fault { OnOk result (HasSyntaxFault faults.new) }
 {
     let span = SourceSpan {
         offset: at,
@@ -95,14 +85,9 @@ fn report_misplaced(
 /// Reports that no operand stands at the place.
 fn report_no_operand(text: &str, at: usize, faults: &mut FaultList) -> Result<(), AllocError>
     requires at { at ≤ length text.now }
-    requires within { AreWithin (length text.now) faults.old.list.items }
-    requires over { AreOver text.now faults.old.list.items }
-    ensures grows { OnOk result (vec_len faults.old.list ≤ vec_len faults.new.list) }
-    ensures others { OnOk result (others faults.old.list.items ≤ others faults.new.list.items) }
-    ensures within { OnOk result (AreWithin (length text.now) faults.new.list.items) }
-    ensures over { OnOk result (AreOver text.now faults.new.list.items) }
-    ensures some { OnOk result (0 < vec_len faults.new.list) }
-    ensures fault { OnOk result (0 < others faults.new.list.items) }
+    requires faults { AreOf text.now faults.old }
+    ensures grows { OnOk result (Grows text.now faults.old faults.new) }
+    ensures fault { OnOk result (HasSyntaxFault faults.new) }
 {
     faults.report(ParseSingleError::ExpectedExpr(rest_of(text, at)))?;
     Ok(())
@@ -117,19 +102,13 @@ fn closed_parens(
     faults: &mut FaultList,
 ) -> Result<(Option<ParsedExpr>, usize), AllocError>
     requires at { at ≤ length text.now }
-    requires within { AreWithin (length text.now) faults.old.list.items }
-    requires over { AreOver text.now faults.old.list.items }
-    ensures rises { IfOk result (λ p. at ≤ p.1) }
-    ensures end { IfOk result (λ p. p.1 ≤ length text.now) }
-    ensures grows { OnOk result (vec_len faults.old.list ≤ vec_len faults.new.list) }
-    ensures others { OnOk result (others faults.old.list.items ≤ others faults.new.list.items) }
-    ensures refusals { OnOk result (refusals faults.new.list.items ≡ refusals faults.old.list.items) }
-    ensures within { OnOk result (AreWithin (length text.now) faults.new.list.items) }
-    ensures over { OnOk result (AreOver text.now faults.new.list.items) }
+    requires faults { AreOf text.now faults.old }
+    ensures goes_on { IfOk result (λ p. GoesOn text.now at p.1 faults.old faults.new) }
+    ensures keeps { OnOk result (KeepsPatterns faults.old faults.new) }
     ensures value { IfOk result (λ p. part_of p.0 ≡ parens_part (part_of tree)) }
     ensures as_written { IfSome tree IsExprAsWritten → IfOk result (λ p. IfSome p.0 IsExprAsWritten) }
-    ensures read { IfOk result (λ p. others faults.new.list.items ≡ 0 → Stands text.now at 41 p.1) }
-    ensures only { IfOk result (λ p. others faults.old.list.items ≡ 0 → (j : ℕ) → Stands text.now at 41 j → (p.1 ≡ j) × (others faults.new.list.items ≡ 0)) }
+    ensures read { IfOk result (λ p. IsClean faults.new → Stands text.now at 41 p.1) }
+    ensures only { IfOk result (λ p. IsClean faults.old → (j : ℕ) → Stands text.now at 41 j → (p.1 ≡ j) × IsClean faults.new) }
 {
     let span = SourceSpan { offset: at, len: 0 };
     let fault = ParseSingleError::ExpectedCloseParenthesis(span);
@@ -154,19 +133,12 @@ pub(crate) fn tree_from(
 ) -> Result<(Option<ParsedExpr>, usize), AllocError>
     requires level { level ≤ 2 }
     requires at { at ≤ length text.now }
-    requires within { AreWithin (length text.now) faults.old.list.items }
-    requires over { AreOver text.now faults.old.list.items }
-    ensures rises { IfOk result (λ p. at ≤ p.1) }
-    ensures end { IfOk result (λ p. p.1 ≤ length text.now) }
-    ensures grows { OnOk result (vec_len faults.old.list ≤ vec_len faults.new.list) }
-    ensures others { OnOk result (others faults.old.list.items ≤ others faults.new.list.items) }
-    ensures refusals { IfOk result (λ p. IfSome p.0 (λ _. refusals faults.new.list.items ≡ refusals faults.old.list.items)) }
-    ensures within { OnOk result (AreWithin (length text.now) faults.new.list.items) }
-    ensures over { OnOk result (AreOver text.now faults.new.list.items) }
-    ensures read { IfOk result (λ p. others faults.new.list.items ≡ 0 → IsReading text.now room level at p.0 p.1) }
+    requires faults { AreOf text.now faults.old }
+    ensures goes_on { IfOk result (λ p. GoesOn text.now at p.1 faults.old faults.new) }
+    ensures spoils { IfOk result (λ p. Spoils p.0 faults.old faults.new) }
+    ensures read { IfOk result (λ p. IsClean faults.new → IsReading text.now room level at p.0 p.1) }
     ensures as_written { IfOk result (λ p. IfSome p.0 IsExprAsWritten) }
-    ensures spoiled { IfOk result (λ p. IfNone p.0 (0 < vec_len faults.new.list)) }
-    ensures only { IfOk result (λ p. others faults.old.list.items ≡ 0 → (t : Tree source.SourceSpan) (j : ℕ) → Reads text.now room level at t j → Ends text.now level j → (p.1 ≡ j) × (others faults.new.list.items ≡ 0)) }
+    ensures only { IfOk result (λ p. IsClean faults.old → (t : Tree source.SourceSpan) (j : ℕ) → Reads text.now room level at t j → Ends text.now level j → (p.1 ≡ j) × IsClean faults.new) }
 {
     if level == 0 {
         let (tree, end) = operand_from(alloc, text, room, at, faults)?;
@@ -194,19 +166,12 @@ fn operand_from(
     faults: &mut FaultList,
 ) -> Result<(Option<ParsedExpr>, usize), AllocError>
     requires at { at ≤ length text.now }
-    requires within { AreWithin (length text.now) faults.old.list.items }
-    requires over { AreOver text.now faults.old.list.items }
-    ensures rises { IfOk result (λ p. at ≤ p.1) }
-    ensures end { IfOk result (λ p. p.1 ≤ length text.now) }
-    ensures grows { OnOk result (vec_len faults.old.list ≤ vec_len faults.new.list) }
-    ensures others { OnOk result (others faults.old.list.items ≤ others faults.new.list.items) }
-    ensures refusals { IfOk result (λ p. IfSome p.0 (λ _. refusals faults.new.list.items ≡ refusals faults.old.list.items)) }
-    ensures within { OnOk result (AreWithin (length text.now) faults.new.list.items) }
-    ensures over { OnOk result (AreOver text.now faults.new.list.items) }
-    ensures read { IfOk result (λ p. others faults.new.list.items ≡ 0 → IsReading text.now room 0 at p.0 p.1) }
+    requires faults { AreOf text.now faults.old }
+    ensures goes_on { IfOk result (λ p. GoesOn text.now at p.1 faults.old faults.new) }
+    ensures spoils { IfOk result (λ p. Spoils p.0 faults.old faults.new) }
+    ensures read { IfOk result (λ p. IsClean faults.new → IsReading text.now room 0 at p.0 p.1) }
     ensures as_written { IfOk result (λ p. IfSome p.0 IsExprAsWritten) }
-    ensures spoiled { IfOk result (λ p. IfNone p.0 (0 < vec_len faults.new.list)) }
-    ensures only { IfOk result (λ p. others faults.old.list.items ≡ 0 → (t : Tree source.SourceSpan) (j : ℕ) → Reads text.now room 0 at t j → (p.1 ≡ j) × (others faults.new.list.items ≡ 0)) }
+    ensures only { IfOk result (λ p. IsClean faults.old → (t : Tree source.SourceSpan) (j : ℕ) → Reads text.now room 0 at t j → (p.1 ≡ j) × IsClean faults.new) }
 {
     let start = skip_blanks(text, at);
     match head_of(text, start) {

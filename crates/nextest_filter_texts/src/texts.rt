@@ -1,6 +1,6 @@
-ghost use Rattle.std.specs.Prelude.{◌≡◌, ◌≤◌, ◌<◌, ℕ, List, true, false, IfOk, IfSome, IfNone, OnOk, length, string_bytes, vec_len};
+ghost use Rattle.std.specs.Prelude.{◌≡◌, ◌≤◌, ◌<◌, ℕ, List, true, false, IfOk, IfSome, IfNone, OnOk, length, string_bytes};
 ghost use Rattle.std.specs.Str.{IsCharBoundary};
-ghost use Rattle.nextest_filter_tokens.specs.FaultLists.{AreOver, AreWithin, others};
+ghost use Rattle.nextest_filter_tokens.specs.ReadingSteps.{AreOf, GoesOn, Grows, HasSyntaxFault};
 ghost use Rattle.nextest_filter_texts.specs.Texts as spec;
 
 use nextest_filter_faults::{ParseSingleError, SourceSpan};
@@ -41,16 +41,10 @@ pub fn text_from(
 ) -> Result<(Option<String>, usize), AllocError>
     requires at { at ≤ length text.now }
     requires boundary { IsCharBoundary text.now at }
-    requires within { AreWithin (length text.now) faults.old.list.items }
-    requires over { AreOver text.now faults.old.list.items }
-    ensures rises { IfOk result (λ p. at ≤ p.1) }
-    ensures end { IfOk result (λ p. p.1 ≤ length text.now) }
-    ensures grows { OnOk result (vec_len faults.old.list ≤ vec_len faults.new.list) }
-    ensures others { OnOk result (others faults.old.list.items ≤ others faults.new.list.items) }
-    ensures within { OnOk result (AreWithin (length text.now) faults.new.list.items) }
-    ensures over { OnOk result (AreOver text.now faults.new.list.items) }
+    requires faults { AreOf text.now faults.old }
+    ensures goes_on { IfOk result (λ p. GoesOn text.now at p.1 faults.old faults.new) }
     ensures whole { IfOk result (λ p. IfSome p.0 (λ v. spec.ReadsText text.now at (string_bytes v) p.1 × (faults.new.list.items ≡ faults.old.list.items))) }
-    ensures spoiled { IfOk result (λ p. IfNone p.0 (0 < others faults.new.list.items)) }
+    ensures spoiled { IfOk result (λ p. IfNone p.0 (HasSyntaxFault faults.new)) }
     ensures unread { IfOk result (λ p. IfNone p.0 ((xs : List ℕ) (j : ℕ) → spec.ReadsText text.now at xs j → ⊥)) }
 {
     let mut value = String::new(alloc);
@@ -82,13 +76,9 @@ pub fn text_from(
 /// Reports a backslash that escapes nothing.
 fn report_escape(text: &str, at: usize, faults: &mut FaultList) -> Result<(), AllocError>
     requires at { at < length text.now }
-    requires within { AreWithin (length text.now) faults.old.list.items }
-    requires over { AreOver text.now faults.old.list.items }
-    ensures grows { OnOk result (vec_len faults.old.list ≤ vec_len faults.new.list) }
-    ensures others { OnOk result (others faults.old.list.items ≤ others faults.new.list.items) }
-    ensures within { OnOk result (AreWithin (length text.now) faults.new.list.items) }
-    ensures over { OnOk result (AreOver text.now faults.new.list.items) }
-    ensures fault { OnOk result (0 < others faults.new.list.items) }
+    requires faults { AreOf text.now faults.old }
+    ensures grows { OnOk result (Grows text.now faults.old faults.new) }
+    ensures fault { OnOk result (HasSyntaxFault faults.new) }
 {
     let len = (text.len() - at - 1).min(2);
     let span = SourceSpan { offset: at, len };

@@ -2,17 +2,17 @@
 use Rattle.std.specs.Prelude.{◌≡◌, ℕ, ◌+◌, ◌-◌, ◌≤◌, ◌<◌, true, not, All, List}
 use Rattle.std.specs.List.{count_by}
 use Rattle.nextest_filter_faults.specs.declared.parse_error.ParseSingleError.{ParseSingleError}
-use Rattle.nextest_filter_faults.specs.Faults.{span_of, is_refusal}
+use Rattle.nextest_filter_faults.specs.Faults.{span_of, is_pattern_fault}
 use Rattle.nextest_filter_tokens.specs.Bytes.{is_byte}
 use Rattle.nextest_filter_tokens.specs.Patterns.{ReadsPattern}
 
 -- how many faults there are but for those of refused patterns
-abbrev pub others : List ParseSingleError → ℕ
-others faults = count_by (λ f. not (is_refusal f)) faults
+abbrev pub syntax_faults : List ParseSingleError → ℕ
+syntax_faults faults = count_by (λ f. not (is_pattern_fault f)) faults
 
 -- how many of them are those of refused patterns
-abbrev pub refusals : List ParseSingleError → ℕ
-refusals faults = count_by is_refusal faults
+abbrev pub pattern_faults : List ParseSingleError → ℕ
+pattern_faults faults = count_by is_pattern_fault faults
 
 -- the fault lies within a text of this length
 abbrev pub LiesWithin : ℕ → ParseSingleError → Type 0
@@ -29,7 +29,7 @@ IsOverPattern text i j = (xs : List ℕ) × (0 < i) × (is_byte text (i - 1) 47 
 -- a fault of a refused pattern lies over a pattern of the text
 abbrev pub LiesOver : List ℕ → ParseSingleError → Type 0
 LiesOver text fault =
-    is_refusal fault ≡ true → IsOverPattern text (span_of fault).offset ((span_of fault).offset + (span_of fault).len)
+    is_pattern_fault fault ≡ true → IsOverPattern text (span_of fault).offset ((span_of fault).offset + (span_of fault).len)
 
 -- each fault of a refused pattern lies over a pattern of the text
 abbrev pub AreOver : List ℕ → List ParseSingleError → Type 0

@@ -4,3 +4,4 @@ pub mod Escapes
 pub mod Operators
 pub mod Heads
 pub mod FaultLists
+pub mod ReadingSteps

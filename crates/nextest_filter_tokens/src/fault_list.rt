@@ -1,5 +1,5 @@
 ghost use Rattle.std.specs.Prelude.{◌≡◌, ◌<◌, true};
-ghost use Rattle.nextest_filter_tokens.specs.FaultLists.{others};
+ghost use Rattle.nextest_filter_tokens.specs.FaultLists.{syntax_faults};
 
 use nextest_filter_faults::{ParseSingleError, SourceSpan};
 use std::alloc::{AllocError, Global};
@@ -9,13 +9,13 @@ use std::alloc::{AllocError, Global};
 pub struct FaultList {
     pub list: Vec<ParseSingleError>,
     pub is_closed: bool,
-    ghost has_cause: { is_closed ≡ true → 0 < others list.items },
+    ghost has_cause: { is_closed ≡ true → 0 < syntax_faults list.items },
 }
 
 impl FaultList {
     ghost use Rattle.std.specs.Prelude.{◌≡◌, ◌+◌, ◌≤◌, ◌<◌, ◌++◌, ◌∷◌, ℕ, List, [], false, true, IfOk, OnOk, vec_len};
-    ghost use Rattle.nextest_filter_faults.specs.Faults.{is_refusal};
-    ghost use Rattle.nextest_filter_tokens.specs.FaultLists.{AreOver, AreWithin, LiesOver, LiesWithin, others, refusals};
+    ghost use Rattle.nextest_filter_faults.specs.Faults.{is_pattern_fault};
+    ghost use Rattle.nextest_filter_tokens.specs.FaultLists.{AreOver, AreWithin, LiesOver, LiesWithin, pattern_faults, syntax_faults};
 
     /// No faults.
     pub fn new(alloc: Global) -> FaultList
@@ -32,13 +32,13 @@ impl FaultList {
     pub fn report(&mut self, fault: ParseSingleError) -> Result<(), AllocError>
         ensures grows { OnOk result (vec_len self.old.list ≤ vec_len self.new.list) }
         ensures some { OnOk result (0 < vec_len self.new.list) }
-        ensures other { OnOk result (is_refusal fault ≡ false → 0 < others self.new.list.items) }
-        ensures refusal { OnOk result (is_refusal fault ≡ true → others self.new.list.items ≡ others self.old.list.items) }
-        ensures rest { OnOk result (others self.old.list.items ≤ others self.new.list.items) }
-        ensures refusals { OnOk result (is_refusal fault ≡ false → refusals self.new.list.items ≡ refusals self.old.list.items) }
+        ensures syntax { OnOk result (is_pattern_fault fault ≡ false → 0 < syntax_faults self.new.list.items) }
+        ensures pattern { OnOk result (is_pattern_fault fault ≡ true → syntax_faults self.new.list.items ≡ syntax_faults self.old.list.items) }
+        ensures keeps_syntax { OnOk result (syntax_faults self.old.list.items ≤ syntax_faults self.new.list.items) }
+        ensures keeps_patterns { OnOk result (is_pattern_fault fault ≡ false → pattern_faults self.new.list.items ≡ pattern_faults self.old.list.items) }
         ensures within { (n : ℕ) → AreWithin n self.old.list.items → LiesWithin n fault → AreWithin n self.new.list.items }
         ensures over { (text : List ℕ) → AreOver text self.old.list.items → LiesOver text fault → AreOver text self.new.list.items }
-        ensures same_over { (text : List ℕ) → AreOver text self.old.list.items → is_refusal fault ≡ false → AreOver text self.new.list.items }
+        ensures same_over { (text : List ℕ) → AreOver text self.old.list.items → is_pattern_fault fault ≡ false → AreOver text self.new.list.items }
         ensures added { OnOk result (self.old.is_closed ≡ false → self.new.list.items ≡ self.old.list.items ++ fault ∷ []) }
         ensures closed { OnOk result (self.old.is_closed ≡ true → self.new ≡ self.old) }
     {
@@ -52,8 +52,8 @@ impl FaultList {
     /// Adds a fault at the end, and takes no more after it.
     pub fn close(&mut self, span: SourceSpan) -> Result<(), AllocError>
         ensures grows { OnOk result (vec_len self.old.list ≤ vec_len self.new.list) }
-        ensures other { OnOk result (0 < others self.new.list.items) }
-        ensures rest { OnOk result (others self.old.list.items ≤ others self.new.list.items) }
+        ensures syntax { OnOk result (0 < syntax_faults self.new.list.items) }
+        ensures keeps_syntax { OnOk result (syntax_faults self.old.list.items ≤ syntax_faults self.new.list.items) }
         ensures closed { OnOk result (self.new.is_closed ≡ true) }
         ensures within { (n : ℕ) → AreWithin n self.old.list.items → span.offset + span.len ≤ n → AreWithin n self.new.list.items }
         ensures over { (text : List ℕ) → AreOver text self.old.list.items → AreOver text self.new.list.items }

@@ -17,7 +17,7 @@ pub enum Operator {
 #[derive(Clone, Copy, Debug, PartialEq, Eq)]
 pub enum Found {
     Nothing,
-    Right(Operator, usize),
+    Joins(Operator, usize),
     /// What is written for an operator wrongly.
     Wrong(usize),
 }
@@ -41,13 +41,13 @@ fn or_found(text: &str, at: usize) -> Found
         return Found::Wrong(at + 2);
     }
     if has_whole_word(text, at, b"or") {
-        return Found::Right(Operator::Or(OrOperator::LiteralOr), at + 2);
+        return Found::Joins(Operator::Or(OrOperator::LiteralOr), at + 2);
     }
     if has_word(text, at, b"|") {
-        return Found::Right(Operator::Or(OrOperator::Pipe), at + 1);
+        return Found::Joins(Operator::Or(OrOperator::Pipe), at + 1);
     }
     if has_word(text, at, b"+") {
-        return Found::Right(Operator::Or(OrOperator::Plus), at + 1);
+        return Found::Joins(Operator::Or(OrOperator::Plus), at + 1);
     }
     Found::Nothing
 }
@@ -64,13 +64,13 @@ fn and_found(text: &str, at: usize) -> Found
         return Found::Wrong(at + 3);
     }
     if has_whole_word(text, at, b"and") {
-        return Found::Right(Operator::And(AndOperator::LiteralAnd), at + 3);
+        return Found::Joins(Operator::And(AndOperator::LiteralAnd), at + 3);
     }
     if has_word(text, at, b"&") {
-        return Found::Right(Operator::And(AndOperator::Ampersand), at + 1);
+        return Found::Joins(Operator::And(AndOperator::Ampersand), at + 1);
     }
     if has_word(text, at, b"-") {
-        return Found::Right(Operator::Minus, at + 1);
+        return Found::Joins(Operator::Minus, at + 1);
     }
     Found::Nothing
 }

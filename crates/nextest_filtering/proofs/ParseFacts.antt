@@ -6,7 +6,7 @@ use Rattle.workspace_record.specs.Records.{Text}
 use Rattle.nextest_filter_matchers.specs.declared.source_span.SourceSpan.{SourceSpan}
 use Rattle.nextest_filter_faults.specs.declared.filterset_kind.FiltersetKind.{FiltersetKind}
 use Rattle.nextest_filter_faults.specs.declared.parse_error.ParseSingleError.{ParseSingleError}
-use Rattle.nextest_filter_tokens.specs.FaultLists.{AreOver, AreWithin, others}
+use Rattle.nextest_filter_tokens.specs.FaultLists.{AreOver, AreWithin, syntax_faults}
 use Rattle.nextest_filter_syntax.specs.AsWritten.{IsExprAsWritten}
 use Rattle.nextest_filter_syntax.specs.Trees.{Tree, tree_of}
 use Rattle.nextest_filter_syntax.specs.Grammar.{ReadsWhole}
@@ -34,7 +34,7 @@ pub no_items : {X : Type 0} (xs : List X) (n : ℕ) → n ≡ length xs → n �
 no_items [] n e z = refl
 no_items (x ∷ xs) n e z = absurd (omega (arith, e, z))
 
-pub unread_as : (text lent : Text) (v : Vec ParseSingleError Global) → lent ≡ text → 0 < v.len → AreWithin (length lent) v.items → AreOver lent v.items → (others v.items ≡ 0 ↔ ReadsSome lent) → AreFaultsOf text (unread.Faults v)
+pub unread_as : (text lent : Text) (v : Vec ParseSingleError Global) → lent ≡ text → 0 < v.len → AreWithin (length lent) v.items → AreOver lent v.items → (syntax_faults v.items ≡ 0 ↔ ReadsSome lent) → AreFaultsOf text (unread.Faults v)
 unread_as text lent v e some within over reads =
     subst (λ xs. AreFaultsOf xs (unread.Faults v)) e
     (some, within, over, reads, λ r. let zero = reads.1 r in let all = all_faults v.items in let size = v.ok.0 in omega (arith, zero, all, size, some))

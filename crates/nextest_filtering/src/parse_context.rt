@@ -14,6 +14,7 @@ use std::marker::Model;
 
 /// The packages whose names filters are matched against, their binaries and features, the features that
 /// are said to be on, and the graph whose links `deps` and `rdeps` follow.
+#[derive(Debug)]
 pub struct ParseContext<'g> {
     graph: &'g PackageGraph,
     names: ContextNames,

@@ -1,5 +1,5 @@
 use Rattle.std.proofs.Common.{◌≡◌, ◌∙◌, ap, arith, length, string_bytes}
-use Rattle.nextest_filter_tokens.specs.FaultLists.{others}
+use Rattle.nextest_filter_tokens.specs.FaultLists.{syntax_faults}
 use Rattle.nextest_filter_leaves.proofs.ReadFacts.{some_is}
 use Rattle.nextest_filter_leaves.proofs.matchers.some_text.Goals as goal
 
@@ -14,4 +14,4 @@ pub returns-else-is_empty-clause-only : goal.returns-else-is_empty-clause-only
 returns-else-is_empty-clause-only c clean xs j reads =
     let whole = rw c.in-Some.is at c.in_ok-value.ensures.whole in
     let same = some_is c.args.text.now whole.0 reads in
-    (same.1, ap others whole.1 ∙ clean)
+    (same.1, ap syntax_faults whole.1 ∙ clean)

@@ -1,7 +1,15 @@
-use Rattle.std.proofs.Common.{◌≡◌, Some, sym, subst}
+use Rattle.std.proofs.Common.{◌≡◌, Some, arith, length, sym, subst}
 use Rattle.nextest_filter_leaves.specs.LeafGrammar.{made_of}
 use Rattle.nextest_filter_leaves.proofs.ReadFacts.{some_is}
 use Rattle.nextest_filter_leaves.proofs.matchers.text_matcher.Goals as goal
+
+pub returns-in_ok-matcher-in-Some-clause-goes_on : goal.returns-in_ok-matcher-in-Some-clause-goes_on
+returns-in_ok-matcher-in-Some-clause-goes_on c =
+    let text = c.args.text.now in
+    let on = c.in_ok-value.ensures.goes_on in
+    let made = c.in_ok-matcher-in-Some.ensures.grows in
+    let within = made.2 (length text) on.2.2.0 (omega (arith, on.0, on.1)) in
+    (on.0, on.1, (omega (arith, on.2.0, made.0), omega (arith, on.2.1, made.1), (within, made.3 text on.2.2.1)))
 
 pub returns-in_ok-matcher-in-Some-clause-only : goal.returns-in_ok-matcher-in-Some-clause-only
 returns-in_ok-matcher-in-Some-clause-only c clean m j from =

@@ -1,6 +1,6 @@
 use Rattle.std.proofs.Common.{◌≡◌, ◌∙◌, refl, sym, ap, subst, arith}
 use Rattle.nextest_filter_tokens.specs.Bytes.{skip}
-use Rattle.nextest_filter_tokens.specs.FaultLists.{others}
+use Rattle.nextest_filter_tokens.specs.ReadingSteps.{IsClean}
 use Rattle.nextest_filter_leaves.specs.Leaves.{Named}
 use Rattle.nextest_filter_leaves.specs.LeafGrammar.{ReadsMatcher, Stands, between}
 use Rattle.nextest_filter_leaves.proofs.sets.named_set_from.Goals as goal
@@ -23,18 +23,18 @@ returns-in-None-clause-only c clean leaf j from =
     let matcher = c.in_ok-matcher.ensures.only opened.1 from.matcher from.end reads in
     c.in_ok-after.ensures.only matcher.1 j (subst (λ k. Stands text k 41 j) (sym matcher.0) from.closes)
 
-pub returns-in-None-clause-refused : goal.returns-in-None-clause-refused
-returns-in-None-clause-refused c clean =
+pub returns-in-None-clause-unbuilt : goal.returns-in-None-clause-unbuilt
+returns-in-None-clause-unbuilt c clean =
     let text = c.args.text.now in
     let inner = c.in_ok-inner.inner in
     let end = c.in_ok-matcher.end in
-    let after : others c.matcher_from.new.faults.list.items ≡ 0 = omega (arith, clean, c.in_ok-after.ensures.others) in
-    let opened : others c.opened_after.new.faults.list.items ≡ 0 = omega (arith, after, c.in_ok-matcher.ensures.others) in
-    let refused = rw c.in-None.is at c.in_ok-matcher.ensures.refused after in
-    let reads = subst (λ k. ReadsMatcher text c.args.predicate k refused.0 end) c.skip_blanks-start.ensures.value refused.1 in (
-      Named c.args.predicate refused.0 (between inner end),
+    let after : IsClean c.matcher_from.new.faults = omega (arith, clean, c.in_ok-after.ensures.goes_on.2.1) in
+    let opened : IsClean c.opened_after.new.faults = omega (arith, after, c.in_ok-matcher.ensures.goes_on.2.1) in
+    let unbuilt = rw c.in-None.is at c.in_ok-matcher.ensures.unbuilt after in
+    let reads = subst (λ k. ReadsMatcher text c.args.predicate k unbuilt.0 end) c.skip_blanks-start.ensures.value unbuilt.1 in (
+      Named c.args.predicate unbuilt.0 (between inner end),
       record {
-        matcher = refused.0;
+        matcher = unbuilt.0;
         inner = inner;
         end = end;
         opens = c.in_ok-inner.ensures.read opened;

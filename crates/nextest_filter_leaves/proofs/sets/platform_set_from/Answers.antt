@@ -1,4 +1,4 @@
-use Rattle.std.proofs.Common.{◌≡◌, ◌∙◌, sym, ap, subst}
+use Rattle.std.proofs.Common.{◌≡◌, ◌∙◌, sym, ap, subst, arith}
 use Rattle.std.specs.Str.{trim}
 use Rattle.nextest_filter_faults.specs.Signs.{platform_text}
 use Rattle.nextest_filter_tokens.specs.Bytes.{skip}
@@ -19,6 +19,16 @@ returns-in-Some-2-clause-only c clean leaf j from =
     let same = some_is text read.0 reads in
     let names = subst (λ xs. trim xs ≡ platform_text from.platform) (sym (c.as_str.ensures.value ∙ same.0)) from.names in
     (after.0, c.in_ok-platform.ensures.only after.1 from.platform names)
+
+pub returns-in_default-clause-only : goal.returns-in_default-clause-only
+returns-in_default-clause-only c clean leaf j from =
+    let text = c.args.text.now in
+    let opened = c.in_ok-inner.ensures.only clean from.inner from.opens in
+    let place = ap (skip text) (sym opened.0) ∙ sym c.skip_blanks-start.ensures.value in
+    let reads = subst (λ k. ReadsSome text k from.bytes from.end) place from.reads in
+    let name = c.in_ok-name.ensures.only opened.1 from.bytes from.end reads in
+    let spoiled = rw c.in_default.is at c.in_ok-name.ensures.spoils in
+    absurd (omega (arith, name.1, spoiled.1.1))
 
 pub returns-clause-only : goal.returns-clause-only
 returns-clause-only c clean leaf j from =

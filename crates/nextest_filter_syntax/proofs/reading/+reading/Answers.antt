@@ -1,5 +1,5 @@
 use Rattle.std.proofs.Common.{◌≡◌, ◌∙◌, ◌-◌, suc, refl, ap, sym, subst, arith}
-use Rattle.nextest_filter_tokens.specs.FaultLists.{others}
+use Rattle.nextest_filter_tokens.specs.ReadingSteps.{IsClean}
 use Rattle.nextest_filter_tokens.specs.declared.heads.Head.TheVariants.{Says}
 use Rattle.nextest_filter_leaves.specs.Leaves.{leaf_of}
 use Rattle.nextest_filter_leaves.specs.LeafGrammar.{NullaryFrom, Stands}
@@ -7,16 +7,16 @@ use Rattle.nextest_filter_syntax.specs.Trees.{set_of}
 use Rattle.nextest_filter_syntax.specs.Grammar.{MoreOf, joined_of}
 use Rattle.nextest_filter_syntax.specs.Reading.{is_wrong}
 use Rattle.nextest_filter_syntax.proofs.OperatorFacts.{close_ends}
-use Rattle.nextest_filter_syntax.proofs.StepFacts.{fault_none, first_only, first_read, last_only, last_read, leaf_read, negated_only, negated_read, nothing_of, operand_is, parens_only, parens_read, set_read, step_only, step_read, step_refusals, step_spoiled}
+use Rattle.nextest_filter_syntax.proofs.StepFacts.{fault_none, first_only, first_read, last_only, last_read, leaf_read, negated_only, negated_read, nothing_of, operand_is, parens_only, parens_read, set_read, step_only, step_read, step_patterns, step_spoiled}
 use Rattle.nextest_filter_syntax.proofs.reading.+reading.Goals as goal
 
 pub operand_from-returns-in_ok-leaf-in-Names-clause-read : goal.operand_from-returns-in_ok-leaf-in-Names-clause-read
 operand_from-returns-in_ok-leaf-in-Names-clause-read n c clean =
-    leaf_read c.args.text.now c.args.room c.args.at c.in_ok-leaf-in-Names.end c.skip_blanks-start.result _ c.in_ok-leaf-in-Names.leaf _ c.skip_blanks-start.ensures.value c.in-Names.ensures.value c.leaf_expr.ensures.value (c.in_ok-leaf-in-Names.ensures.read clean) (c.in_ok-leaf-in-Names.ensures.refused clean)
+    leaf_read c.args.text.now c.args.room c.args.at c.in_ok-leaf-in-Names.end c.skip_blanks-start.result _ c.in_ok-leaf-in-Names.leaf _ c.skip_blanks-start.ensures.value c.in-Names.ensures.value c.leaf_expr.ensures.value (c.in_ok-leaf-in-Names.ensures.read clean) (c.in_ok-leaf-in-Names.ensures.unbuilt clean)
 
 pub operand_from-returns-in_ok-leaf-in-Platform-clause-read : goal.operand_from-returns-in_ok-leaf-in-Platform-clause-read
 operand_from-returns-in_ok-leaf-in-Platform-clause-read n c clean =
-    leaf_read c.args.text.now c.args.room c.args.at c.in_ok-leaf-in-Platform.end c.skip_blanks-start.result _ c.in_ok-leaf-in-Platform.leaf _ c.skip_blanks-start.ensures.value c.in-Platform.ensures.value c.leaf_expr-in-Platform.ensures.value (c.in_ok-leaf-in-Platform.ensures.read clean) (fault_none _ c.in_ok-leaf-in-Platform.leaf _ clean c.in_ok-leaf-in-Platform.ensures.fault)
+    leaf_read c.args.text.now c.args.room c.args.at c.in_ok-leaf-in-Platform.end c.skip_blanks-start.result _ c.in_ok-leaf-in-Platform.leaf _ c.skip_blanks-start.ensures.value c.in-Platform.ensures.value c.leaf_expr-in-Platform.ensures.value (c.in_ok-leaf-in-Platform.ensures.read clean) (fault_none _ c.in_ok-leaf-in-Platform.leaf _ _ clean c.in_ok-leaf-in-Platform.ensures.spoils.1)
 
 pub operand_from-returns-in_ok-leaf-in-Says-clause-read : goal.operand_from-returns-in_ok-leaf-in-Says-clause-read
 operand_from-returns-in_ok-leaf-in-Says-clause-read n c clean =
@@ -38,7 +38,7 @@ operand_from-returns-in_ok-tree-in-Negates-2-clause-only n c clean t j r =
 
 pub operand_from-returns-in_ok-tree-in-Opens-2-clause-read : goal.operand_from-returns-in_ok-tree-in-Opens-2-clause-read
 operand_from-returns-in_ok-tree-in-Opens-2-clause-read n c clean =
-    let before : others c.tree_from.new.faults.list.items ≡ 0 = omega (arith, clean, c.in_ok-tree-in-Opens-2.ensures.others) in
+    let before : IsClean c.tree_from.new.faults = omega (arith, clean, c.in_ok-tree-in-Opens-2.ensures.goes_on.2.1) in
     parens_read c.args.text.now c.args.room c.args.at c.skip_blanks-start.result c.in-Opens.next c.in_ok-tree-in-Opens.end c.in_ok-tree-in-Opens-2.after c.in_ok-tree-in-Opens.tree c.in_ok-tree-in-Opens-2.tree c.skip_blanks-start.ensures.value c.in-Opens.ensures.value (omega arith) c.in_ok-tree-in-Opens-2.ensures.value (c.in_ok-tree-in-Opens.ensures.read before) (c.in_ok-tree-in-Opens-2.ensures.read clean)
 
 pub operand_from-returns-in_ok-tree-in-Opens-2-clause-only : goal.operand_from-returns-in_ok-tree-in-Opens-2-clause-only
@@ -55,15 +55,9 @@ tree_from-loop-tree-init n c =
     let is : suc lower ≡ c.args.level = omega (arith, c.if-level-eq0.false) in
     let first = c.in_ok-tree-2.ensures in
     record {
-      rises = first.rises;
-      end = first.end;
-      grows = first.grows;
-      more = first.others;
-      within = first.within;
-      over = first.over;
+      goes_on = first.goes_on;
+      spoils = first.spoils;
       read = λ clean. first_read text c.args.room c.args.level lower c.args.at c.in_ok-tree-2.end c.in_ok-tree-2.tree is (first.read clean);
-      refusals = first.refusals;
-      spoiled = first.spoiled;
       as_written = first.as_written;
       only = λ clean t j r ends.
           let from = first_only text c.args.room c.args.level lower c.args.at j t is r ends in
@@ -73,7 +67,7 @@ tree_from-loop-tree-init n c =
 
 pub tree_from-returns-in_default-clause-read : goal.tree_from-returns-in_default-clause-read
 tree_from-returns-in_default-clause-read n c clean =
-    let before : others c.loop-tree.faults.list.items ≡ 0 = omega (arith, clean, c.in_ok-found.ensures.others) in
+    let before : IsClean c.loop-tree.faults = omega (arith, clean, c.in_ok-found.ensures.grows.1) in
     last_read c.args.text.now c.args.room c.args.level (c.args.level - 1) c.args.at c.loop-tree.end c.loop-tree.tree (c.loop-tree.invariant.read before)
 
 pub tree_from-returns-in_default-clause-only : goal.tree_from-returns-in_default-clause-only
@@ -95,21 +89,16 @@ tree_from-loop-tree-preserved n c =
     let is : suc lower ≡ level = omega (arith, c.if-level-eq0.false) in
     let found = c.in_ok-found.ensures in
     let right = c.in_ok-right.ensures in
+    let on = right.goes_on in
     let before = c.loop-tree.invariant in
     let place = sym c.place_after.ensures ∙ c.in-Some.is in
     let goes = rw place at found.end in
     record {
-      rises = omega (arith, before.rises, goes.0, right.rises);
-      end = right.end;
-      grows = omega (arith, before.grows, found.grows, right.grows);
-      more = omega (arith, before.more, found.others, right.others);
-      within = right.within;
-      over = right.over;
+      goes_on = (omega (arith, before.goes_on.0, goes.0, on.0), on.1, (omega (arith, before.goes_on.2.0, found.grows.0, on.2.0), omega (arith, before.goes_on.2.1, found.grows.1, on.2.1), on.2.2));
+      spoils = (step_patterns text c.in_ok-found.found c.in-Some.next _ _ _ _ c.loop-tree.tree c.in_ok-right.right c.in_ok-tree-3.tree place c.in_ok-tree-3.ensures.value before.spoils.0 found.keeps right.spoils.0, step_spoiled text c.in_ok-found.found c.in-Some.next _ _ _ c.loop-tree.tree c.in_ok-right.right c.in_ok-tree-3.tree place c.in_ok-tree-3.ensures.value before.spoils.1 (λ wrong. (found.wrong wrong).0) right.spoils.1 (omega (arith, found.grows.0, on.2.0)) on.2.0);
       read = λ clean.
-          let first : others c.loop-tree.faults.list.items ≡ 0 = omega (arith, clean, right.others, found.others) in
-          step_read text room level lower c.args.at c.loop-tree.end c.in-Some.next c.in_ok-right.after c.in_ok-found.found c.loop-tree.tree c.in_ok-right.right c.in_ok-tree-3.tree found.value place (λ wrong. omega (arith, clean, right.others, found.wrong wrong)) c.in_ok-tree-3.ensures.value (before.read first) (right.read clean);
-      refusals = step_refusals text c.in_ok-found.found c.in-Some.next _ _ _ _ c.loop-tree.tree c.in_ok-right.right c.in_ok-tree-3.tree place c.in_ok-tree-3.ensures.value before.refusals found.refusals right.refusals;
-      spoiled = step_spoiled text c.in_ok-found.found c.in-Some.next _ _ _ c.loop-tree.tree c.in_ok-right.right c.in_ok-tree-3.tree place c.in_ok-tree-3.ensures.value before.spoiled found.some right.spoiled (omega (arith, found.grows, right.grows)) right.grows;
+          let first : IsClean c.loop-tree.faults = omega (arith, clean, on.2.1, found.grows.1) in
+          step_read text room level lower c.args.at c.loop-tree.end c.in-Some.next c.in_ok-right.after c.in_ok-found.found c.loop-tree.tree c.in_ok-right.right c.in_ok-tree-3.tree found.value place (λ wrong. omega (arith, clean, on.2.1, (found.wrong wrong).1)) c.in_ok-tree-3.ensures.value (before.read first) (right.read clean);
       as_written = c.in_ok-tree-3.ensures.as_written before.as_written right.as_written;
       only = λ clean t j r ends.
           let from = before.only clean t j r ends in

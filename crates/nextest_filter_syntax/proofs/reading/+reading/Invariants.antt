@@ -1,6 +1,6 @@
-use Rattle.std.proofs.Common.{◌≡◌, ℕ, ◌+◌, ◌-◌, ◌*◌, ◌≤◌, ◌<◌, IfSome, IfNone, length, vec_len}
+use Rattle.std.proofs.Common.{ℕ, ◌+◌, ◌-◌, ◌*◌, IfSome, length}
 use Rattle.nextest_filter_matchers.specs.declared.source_span.SourceSpan.{SourceSpan}
-use Rattle.nextest_filter_tokens.specs.FaultLists.{AreOver, AreWithin, others, refusals}
+use Rattle.nextest_filter_tokens.specs.ReadingSteps.{GoesOn, IsClean, Spoils}
 use Rattle.nextest_filter_syntax.specs.AsWritten.{IsExprAsWritten}
 use Rattle.nextest_filter_syntax.specs.Trees.{Tree}
 use Rattle.nextest_filter_syntax.specs.Grammar.{MoreOf, Reads}
@@ -16,17 +16,11 @@ decreases-operand_from l = 4 * l.room
 
 abbrev pub invariant-tree_from-loop-tree : goal.invariant-tree_from-loop-tree
 invariant-tree_from-loop-tree l = record {
-  rises : l.at ≤ l.end;
-  end : l.end ≤ length l.text;
-  grows : vec_len l.fn.faults.list ≤ vec_len l.faults.list;
-  more : others l.fn.faults.list.items ≤ others l.faults.list.items;
-  within : AreWithin (length l.text) l.faults.list.items;
-  over : AreOver l.text l.faults.list.items;
-  read : others l.faults.list.items ≡ 0 → IsBegun l.text l.room l.level (l.level - 1) l.at l.tree l.end;
-  refusals : IfSome l.tree (λ _. refusals l.faults.list.items ≡ refusals l.fn.faults.list.items);
+  goes_on : GoesOn l.text l.at l.end l.fn.faults l.faults;
+  spoils : Spoils l.tree l.fn.faults l.faults;
+  read : IsClean l.faults → IsBegun l.text l.room l.level (l.level - 1) l.at l.tree l.end;
   as_written : IfSome l.tree IsExprAsWritten;
-  spoiled : IfNone l.tree (0 < vec_len l.faults.list);
-  only : others l.fn.faults.list.items ≡ 0 → (t : Tree SourceSpan) (j : ℕ) → Reads l.text l.room l.level l.at t j → Ends l.text l.level j → (others l.faults.list.items ≡ 0) × ((a : Tree SourceSpan) × MoreOf l.text l.room (l.level - 1) l.end a t j);
+  only : IsClean l.fn.faults → (t : Tree SourceSpan) (j : ℕ) → Reads l.text l.room l.level l.at t j → Ends l.text l.level j → IsClean l.faults × ((a : Tree SourceSpan) × MoreOf l.text l.room (l.level - 1) l.end a t j);
 }
 
 abbrev pub decreases-tree_from-loop-tree : goal.decreases-tree_from-loop-tree

@@ -19,15 +19,11 @@ loop-value-preserved-in-Means c =
     let text = c.args.text.now in
     let end = c.plain_end-end.result in
     let goes = sym c.is_text_end.ensures ∙ c.if-is_text_end.false in
+    let before = c.loop-value.invariant.goes_on in
     let bytes = c.in_ok-push-in-Means.ensures.bytes ∙ ap (λ t. t ++ encode_utf8 c.in-Means.c) (c.in_ok-push_str.ensures.bytes ∙ ap (λ t. string_bytes c.loop-value.value ++ t) c.range.ensures.value) in
     record {
-      low = omega (arith, c.in-Means.ensures.end.0, c.plain_end-end.ensures.rises, c.loop-value.invariant.low);
-      high = c.in-Means.ensures.end.1;
+      goes_on = (omega (arith, c.in-Means.ensures.end.0, c.plain_end-end.ensures.rises, before.0), c.in-Means.ensures.end.1, before.2);
       boundary = c.in-Means.ensures.end.2;
-      grows = c.loop-value.invariant.grows;
-      more = c.loop-value.invariant.more;
-      within = c.loop-value.invariant.within;
-      over = c.loop-value.invariant.over;
       part = λ whole.
           let run = run_between text c.args.at c.loop-value.place end (string_bytes c.loop-value.value) c.plain_end-end.ensures.rises c.plain_end-end.ensures.plain (c.loop-value.invariant.part whole) in
           subst (λ v. IsPart text c.args.at c.in-Means.next v) (sym bytes) (escape_taken text c.args.at end c.in-Means.next c.in-Means.c _ c.plain_end-end.ensures.stops goes (sym c.in-Means.ensures.value) run);
@@ -41,16 +37,13 @@ loop-value-preserved c =
     let text = c.args.text.now in
     let end = c.plain_end-end.result in
     let goes = sym c.is_text_end.ensures ∙ c.if-is_text_end.false in
+    let before = c.loop-value.invariant.goes_on in
     let reported = c.in_ok-report_escape-in-Invalid.ensures in
+    let grows = reported.grows in
     let inside = within_text text end goes in
     record {
-      low = omega (arith, c.plain_end-end.ensures.rises, c.loop-value.invariant.low);
-      high = omega (arith, inside);
+      goes_on = (omega (arith, c.plain_end-end.ensures.rises, before.0), omega (arith, inside), (omega (arith, before.2.0, grows.0), omega (arith, before.2.1, grows.1), grows.2));
       boundary = boundary_after_backslash text end c.utf8.text c.plain_end-end.ensures.stops goes;
-      grows = omega (arith, c.loop-value.invariant.grows, reported.grows);
-      more = omega (arith, c.loop-value.invariant.more, reported.others);
-      within = reported.within;
-      over = reported.over;
       part = λ e. absurd (false≢true e);
       same = λ e. absurd (false≢true e);
       fault = λ _. reported.fault;
