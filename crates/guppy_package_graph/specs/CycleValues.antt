@@ -1,9 +1,10 @@
 -- Packages that depend on each other.
-use Rattle.std.specs.Prelude.{◌≡◌, ◌↔◌, ◌⊎◌, All, ℕ, ◌+◌, ◌<◌, Bool, nat_eq, List, Result, Ok, Err, IsTrue, drop, length, slice_index_or}
-use Rattle.std.specs.List.{list_any, position_or_len}
+pub use Rattle.numbered_graph.specs.Cycles.{has_node}
+use Rattle.std.specs.Prelude.{◌≡◌, ◌↔◌, ◌⊎◌, All, ℕ, ◌+◌, ◌<◌, Bool, List, Result, Ok, Err, IsTrue, drop, length, slice_index_or}
+use Rattle.std.specs.List.{position_or_len}
 use Rattle.numbered_graph.specs.declared.direction.Direction.TheVariants.{Forward}
 use Rattle.numbered_graph.specs.declared.link.Link.{Link}
-use Rattle.numbered_graph.specs.Cycles.{AreCycles}
+use Rattle.numbered_graph.specs.Cycles.{AreCycles, AreInListingOrder}
 use Rattle.numbered_graph.specs.Links.{link_at}
 use Rattle.numbered_graph.specs.Paths.{Reaches, any_link}
 use Rattle.guppy_row_parts.specs.declared.error.Error.{Error}
@@ -41,17 +42,14 @@ abbrev pub AnswersCyclic : TableValue → Text → Text → Result Bool Error �
 AnswersCyclic g a b (Ok answer) = SaysCyclic g a b answer
 AnswersCyclic g a b (Err error) = (IsUnknown g a ⊎ IsUnknown g b) × (error ≡ UnknownPackageId)
 
--- the node is in the list
-abbrev pub has_node : ℕ → List ℕ → Bool
-has_node v nodes = list_any (nat_eq v) nodes
-
 -- for each node the number of the first list from `at` on that it is in, or how many lists there are
 pub record AreNumbers (nodes : ℕ) (lists : List (List ℕ)) (at : ℕ) (numbers : List ℕ) : Type 0 where
   pub sized : length numbers ≡ nodes
   pub each : (v : ℕ) → v < nodes → slice_index_or numbers v 0 ≡ at + position_or_len (has_node v) (drop at lists)
 
--- the cycles of a graph, with the number of each place's cycle
+-- the cycles of a graph in the order in which its packages are listed, with the number of each place's cycle
 pub record AreNumbered (g : TableValue) (cycles : List (List ℕ)) (numbers : List ℕ) : Type 0 where
   pub cyclic : AreCycles Forward (numbered_links g) cycles
+  pub listed : AreInListingOrder g.listing cycles
   pub within : All (λ c. All (λ v. v < length g.packages) c) cycles
   pub numbered : AreNumbers (length g.packages) cycles 0 numbers

@@ -1,4 +1,5 @@
 pub mod Directions
+pub mod PlaceViews
 pub mod Views
 pub mod Identity
 pub mod Finding
@@ -23,3 +24,4 @@ pub mod Depending
 pub mod CycleValues
 pub mod LinkAnswers
 pub mod WorkspaceViews
+pub mod SetEquality

@@ -3,6 +3,7 @@ use Rattle.numbered_graph.specs.Links.{near_at}
 use Rattle.guppy_row_parts.specs.declared.dependency_direction.DependencyDirection.{DependencyDirection}
 use Rattle.guppy_package_table.specs.Tables.{TableValue, numbered_links}
 use Rattle.guppy_package_graph.specs.Directions.{direction_of}
+use Rattle.guppy_package_graph.specs.PlaceViews.{graph_of_places, left_of_places}
 use Rattle.guppy_package_graph.specs.declared.package_metadata.PackageMetadata.{PackageMetadata}
 use Rattle.guppy_package_graph.specs.declared.package_link.PackageLink.{PackageLink}
 use Rattle.guppy_package_graph.specs.declared.packages_at.PackagesAt.{PackagesAt}
@@ -27,10 +28,10 @@ number_of l = l.number
 
 -- the graph of packages that are still to come, and their places
 abbrev pub packages_graph_of : PackagesAt → TableValue
-packages_graph_of p = p.graph.now
+packages_graph_of p = graph_of_places p.places
 
 abbrev pub places_left : PackagesAt → List ℕ
-places_left p = p.places.now
+places_left p = left_of_places p.places
 
 -- each package that is still to come, by its graph and its place
 abbrev pub all_left : PackagesAt → List (TableValue × ℕ)

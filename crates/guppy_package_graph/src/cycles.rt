@@ -1,7 +1,7 @@
 //! Packages that depend on each other.
 
 ghost use Rattle.std.specs.Prelude.{◌≡◌, ◌↔◌, ◌<◌, ◌≤◌, ℕ, All, IfOk, IsTrue, length, map, slice_index_or, if◌then◌else◌};
-ghost use Rattle.numbered_graph.specs.Cycles.{AreCycles};
+ghost use Rattle.numbered_graph.specs.Cycles.{AreCycles, AreInListingOrder};
 ghost use Rattle.numbered_graph.specs.declared.direction.Direction.TheVariants.{Forward};
 ghost use Rattle.guppy_package_table.specs.Tables.{numbered_links};
 ghost use Rattle.guppy_package_graph.specs.CycleViews.{cycles_graph_of, cycles_left};
@@ -10,7 +10,7 @@ ghost use Rattle.guppy_package_graph.specs.CycleValues.{AnswersCyclic, AreNumber
 use crate::all_cycles::AllCycles;
 use crate::package_graph::PackageGraph;
 use guppy_package_parts::{Error, PackageId};
-use numbered_graph::{Direction, cycles};
+use numbered_graph::listed_cycles;
 use std::alloc::{AllocError, Global};
 use std::fmt;
 use std::marker::Model;
@@ -35,12 +35,14 @@ impl<'g> Model for Cycles<'g> {
 }
 
 impl PackageGraph {
-    /// The cycles of the graph, none before one that leads to it.
+    /// The cycles of the graph, in the order of `packages(Forward)` of the set of all packages.
     pub fn cycles(&self, alloc: Global) -> Result<Cycles<'_>, AllocError>
         ensures graph { IfOk result (λ c. c.graph ≡ self.now) }
         ensures cycles { IfOk result (λ c. AreCycles Forward (numbered_links self.now) c.cycles) }
+        ensures listed { IfOk result (λ c. AreInListingOrder self.now.listing c.cycles) }
     {
-        let components = cycles(alloc, self.table().graph(), Direction::Forward)?;
+        let table = self.table();
+        let components = listed_cycles(alloc, table.graph(), table.listing())?;
         let numbers = numbers_of(alloc, self.package_count(), &components)?;
         Ok(Cycles {
             graph: self,
@@ -63,12 +65,13 @@ impl<'g> Cycles<'g> {
 }
 
 impl<'g> Cycles<'g> {
-    /// The cycles, each as the ids of its packages: none before one that leads to it, packages of one
-    /// cycle together.
+    /// The cycles, each as the ids of its packages: as in `packages(Forward)` of the set of all
+    /// packages, in which the packages of a cycle stand together.
     pub fn all_cycles(&self) -> AllCycles<'g, '_>
         ensures graph { cycles_graph_of result ≡ self.now.graph }
         ensures cycles { cycles_left result ≡ self.now.cycles }
         ensures cyclic { AreCycles Forward (numbered_links self.now.graph) self.now.cycles }
+        ensures listed { AreInListingOrder self.now.graph.listing self.now.cycles }
     {
         AllCycles::of(self.graph, &self.cycles)
     }

@@ -14,6 +14,7 @@ mod direct_links;
 mod filters;
 mod found_members;
 mod found_packages;
+pub mod laws;
 mod members_by_name;
 mod members_by_path;
 mod metadata_links;
@@ -29,9 +30,11 @@ mod package_set;
 mod package_sets;
 mod packages;
 mod packages_at;
+mod places;
 mod queries;
 mod resolves;
 mod resolving;
+mod set_equality;
 mod set_parts;
 mod visitor;
 mod workspace;
@@ -61,7 +64,7 @@ pub use guppy_package_parts::{
     FeatureGraphWarning, FeatureRow, GitReq, LineKind, LineRow, LinkRow, MemberRow, PackageId,
     PackagePublish, PackageRow, PackageRowInfo, PackageSource, Platform, PlatformEval,
     PlatformSpec, PlatformStatus, RequirementFeatures, SortedSet, TargetKind, TargetRow,
-    TargetRowInfo, TargetSpecs, WorkspaceRow, laws,
+    TargetRowInfo, TargetSpecs, WorkspaceRow,
 };
 pub use guppy_package_table::{
     BuildTargets, LinkDetails, NamedFeatures, PackageDetails, PackageGraphError,

@@ -2,15 +2,14 @@ ghost use Rattle.std.specs.Prelude.{◌<◌, All, length};
 
 use crate::package_graph::PackageGraph;
 use crate::package_metadata::PackageMetadata;
+use crate::places::Places;
 use guppy_workspace_members::path_at;
 use std::fmt;
 
 /// Members of a workspace with their paths, one after the other.
 #[derive(Clone, Copy)]
 pub struct MembersByPath<'g> {
-    graph: &'g PackageGraph,
-    places: &'g [usize],
-    ghost in_range: { All (λ v. v < length graph.now.packages) places.now },
+    places: Places<'g, 'g>,
 }
 
 impl<'g> MembersByPath<'g> {
@@ -22,7 +21,9 @@ impl<'g> MembersByPath<'g> {
         ensures graph { path_graph_of result ≡ graph.entry.now }
         ensures places { path_places_left result ≡ places.entry.now }
     {
-        MembersByPath { graph, places }
+        MembersByPath {
+            places: Places::of(graph, places),
+        }
     }
 }
 
@@ -37,10 +38,9 @@ impl<'g> Iterator for MembersByPath<'g> {
     ghost remaining = { item_count all_paths_left };
 
     fn next(&mut self) -> Option<(&'g str, PackageMetadata<'g>)> {
-        let (first, others) = self.places.split_first()?;
-        self.places = others;
-        let graph = self.graph;
-        Some((path_at(graph.table(), *first), graph.metadata_at(*first)))
+        let place = self.places.first()?;
+        let graph = self.places.graph();
+        Some((path_at(graph.table(), place), graph.metadata_at(place)))
     }
 
     fn size_hint(&self) -> (usize, Option<usize>) {

@@ -1,14 +1,15 @@
 //! The graph of the same packages and workspace with other links.
 
-ghost use Rattle.std.specs.Prelude.{◌≡◌, IfErr, IfOk};
+ghost use Rattle.std.specs.Prelude.{IfErr, IfOk};
 ghost use Rattle.package_rules.specs.Kept.{AreKept};
 ghost use Rattle.guppy_package_table.specs.Refusals.{IsRefusal};
 ghost use Rattle.guppy_package_table.specs.Tables.{IsTableOf};
 
 use crate::package_graph::PackageGraph;
-use guppy_package_parts::{LinkRow, PackageRow};
+use guppy_package_parts::LinkRow;
 use guppy_package_table::PackageGraphError;
-use std::alloc::{AllocError, Global};
+use std::alloc::Global;
+use workspace_record::copy_packages;
 
 impl PackageGraph {
     /// The graph of the same packages and workspace with these links, or the first rule that they
@@ -25,14 +26,4 @@ impl PackageGraph {
         let workspace = self.table().workspace().copy(alloc)?;
         PackageGraph::from_records(alloc, packages, links, workspace)
     }
-}
-
-fn copy_packages(alloc: Global, packages: &[PackageRow]) -> Result<Vec<PackageRow>, AllocError>
-    ensures { IfOk result (λ v. v.items ≡ packages.now) }
-{
-    let mut copies = Vec::new(alloc);
-    for row in packages {
-        copies.push(row.copy(alloc)?)?;
-    }
-    Ok(copies)
 }

@@ -19,7 +19,7 @@ use guppy_package_parts::{Error, LinkRow, PackageId, PackageRow, WorkspaceRow};
 use guppy_package_table::{PackageGraphError, PackageTable};
 use guppy_workspace_members::{MemberOrders, member_orders};
 use numbered_graph::Direction;
-use std::alloc::Global;
+use std::alloc::{AllocError, Global};
 use std::fmt;
 use std::marker::Model;
 
@@ -69,6 +69,15 @@ impl PackageGraph {
             Ok(members) => Ok(PackageGraph { table, members }),
             Err(_) => Err(PackageGraphError::Memory),
         }
+    }
+
+    /// An equal graph in memory of its own.
+    pub fn copy(&self, alloc: Global) -> Result<PackageGraph, AllocError>
+        ensures same { IfOk result (λ g. g ≡ self.now) }
+    {
+        let table = self.table.copy(alloc)?;
+        let members = member_orders(alloc, &table)?;
+        Ok(PackageGraph { table, members })
     }
 
     /// The rows with what is found in them at once.

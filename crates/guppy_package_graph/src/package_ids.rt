@@ -2,6 +2,7 @@ ghost use Rattle.std.specs.Prelude.{◌<◌, All, length};
 ghost use Rattle.numbered_graph.specs.ListedViews.{listed_left};
 
 use crate::package_graph::PackageGraph;
+use crate::places::Places;
 use guppy_package_parts::PackageId;
 use numbered_graph::Listed;
 use std::fmt;
@@ -9,9 +10,7 @@ use std::fmt;
 /// The ids of packages of a graph, one after the other.
 #[derive(Clone, Copy)]
 pub struct PackageIdsAt<'g, 'a> {
-    graph: &'g PackageGraph,
-    places: &'a [usize],
-    ghost in_range: { All (λ v. v < length graph.now.packages) places.now },
+    places: Places<'g, 'a>,
 }
 
 impl<'g, 'a> PackageIdsAt<'g, 'a> {
@@ -23,7 +22,9 @@ impl<'g, 'a> PackageIdsAt<'g, 'a> {
         ensures graph { ids_graph_of result ≡ graph.entry.now }
         ensures places { id_places_left result ≡ places.entry.now }
     {
-        PackageIdsAt { graph, places }
+        PackageIdsAt {
+            places: Places::of(graph, places),
+        }
     }
 }
 
@@ -38,9 +39,8 @@ impl<'g> Iterator for PackageIdsAt<'g, '_> {
     ghost remaining = { item_count all_ids_left };
 
     fn next(&mut self) -> Option<&'g PackageId> {
-        let (first, others) = self.places.split_first()?;
-        self.places = others;
-        Some(self.graph.id_at(*first))
+        let place = self.places.first()?;
+        Some(self.places.graph().id_at(place))
     }
 
     fn size_hint(&self) -> (usize, Option<usize>) {

@@ -79,10 +79,11 @@ impl<'g> Deref for PackageMetadata<'g> {
     type Target = PackageDetails<'g>;
 
     ghost use Rattle.std.specs.Prelude.{◌≡◌, Some, slice_get};
-    ghost use Rattle.guppy_package_table.specs.PackageDetailsViews.{row_of};
+    ghost use Rattle.guppy_package_table.specs.PackageDetailsViews.{member_path_of, row_of};
+    ghost use Rattle.guppy_package_table.specs.Tables.{member_path_at};
     ghost use Rattle.guppy_package_graph.specs.Views.{graph_of, place_of};
 
-    ghost deref_gives = { λ m d. slice_get (graph_of m).packages (place_of m) ≡ Some (row_of d) };
+    ghost deref_gives = { λ m d. (slice_get (graph_of m).packages (place_of m) ≡ Some (row_of d)) × (member_path_of d ≡ member_path_at (graph_of m) (place_of m)) };
 
     fn deref(&self) -> &PackageDetails<'g> {
         &self.details

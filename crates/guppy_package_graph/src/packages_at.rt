@@ -2,26 +2,27 @@ ghost use Rattle.std.specs.Prelude.{◌<◌, All, length};
 
 use crate::package_graph::PackageGraph;
 use crate::package_metadata::PackageMetadata;
+use crate::places::Places;
 use std::fmt;
 
 /// Packages of a graph, one after the other.
 #[derive(Clone, Copy)]
 pub struct PackagesAt<'g, 'a> {
-    graph: &'g PackageGraph,
-    places: &'a [usize],
-    ghost in_range: { All (λ v. v < length graph.now.packages) places.now },
+    places: Places<'g, 'a>,
 }
 
 impl<'g, 'a> PackagesAt<'g, 'a> {
     ghost use Rattle.std.specs.Prelude.{◌≡◌};
-    ghost use Rattle.guppy_package_graph.specs.Views.{packages_graph_of, places_left};
+    ghost use Rattle.guppy_package_graph.specs.Views.{places_left, packages_graph_of};
 
     pub(crate) fn of(graph: &'g PackageGraph, places: &'a [usize]) -> PackagesAt<'g, 'a>
         requires { All (λ v. v < length graph.now.packages) places.now }
         ensures graph { packages_graph_of result ≡ graph.entry.now }
         ensures places { places_left result ≡ places.entry.now }
     {
-        PackagesAt { graph, places }
+        PackagesAt {
+            places: Places::of(graph, places),
+        }
     }
 }
 
@@ -36,9 +37,8 @@ impl<'g> Iterator for PackagesAt<'g, '_> {
     ghost remaining = { item_count all_left };
 
     fn next(&mut self) -> Option<PackageMetadata<'g>> {
-        let (first, others) = self.places.split_first()?;
-        self.places = others;
-        Some(self.graph.metadata_at(*first))
+        let place = self.places.first()?;
+        Some(self.places.graph().metadata_at(place))
     }
 
     fn size_hint(&self) -> (usize, Option<usize>) {
@@ -53,9 +53,8 @@ impl<'g> DoubleEndedIterator for PackagesAt<'g, '_> {
     ghost next_back_gives = { YieldsLastBy seen all_left };
 
     fn next_back(&mut self) -> Option<PackageMetadata<'g>> {
-        let (last, others) = self.places.split_last()?;
-        self.places = others;
-        Some(self.graph.metadata_at(*last))
+        let place = self.places.last()?;
+        Some(self.places.graph().metadata_at(place))
     }
 }
 

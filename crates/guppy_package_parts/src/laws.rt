@@ -1,6 +1,9 @@
 //! Laws that hold of every status, every question and every package id.
 
+ghost use Rattle.std.specs.List.Sorted.{IsStrictlySortedBy};
 ghost use Rattle.guppy_package_parts.specs.Laws.{AndIsMinimum, IdsAreLawful, NamesAscend, OrIsMaximum, PlatformsJoin};
+
+use guppy_row_parts::SortedSet;
 
 /// `&` on answers is the minimum of Disabled, Unknown and Enabled, in this order.
 pub fn and_is_minimum()
@@ -27,3 +30,10 @@ pub fn names_ascend()
 pub fn ids_are_lawful()
     ensures { IdsAreLawful }
 {}
+
+/// A set that is held in order ascends, each element once.
+pub fn sets_ascend<T: Ord>(set: &SortedSet<T>)
+    ensures { IsStrictlySortedBy T.cmp set.now }
+{
+    let _ = set.as_slice();
+}

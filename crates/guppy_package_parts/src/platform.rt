@@ -1,10 +1,11 @@
-ghost use Rattle.std.specs.Prelude.{◌≡◌, Bool, Option, Some, map};
+ghost use Rattle.std.specs.Prelude.{◌≡◌, Bool, IfOk, Option, Some, map};
 ghost use Rattle.workspace_record.specs.Records.{Text};
 ghost use Rattle.guppy_package_parts.specs.Statuses.{spec_answer};
-ghost use Rattle.guppy_package_parts.specs.PlatformViews.{spec_view};
+ghost use Rattle.guppy_package_parts.specs.PlatformViews.{AsksOfClones, spec_view};
 ghost use Rattle.guppy_package_parts.specs.Ternaries.{greatest, ternary_of};
 
 use crate::enabled_ternary::EnabledTernary;
+use std::alloc::{AllocError, Global};
 
 /// A platform that knows of some specs whether they name it.
 pub trait Platform {
@@ -33,6 +34,22 @@ impl<P> PlatformSpec<P> {
         ensures { result ≡ PlatformSpec.Platforms platforms }
     {
         PlatformSpec::Platforms(platforms)
+    }
+}
+
+impl<P: Clone> PlatformSpec<P> {
+    /// The same question about clones of the same platforms, in memory of its own.
+    pub fn copy(&self, alloc: Global) -> Result<PlatformSpec<P>, AllocError>
+        ensures clones { IfOk result (AsksOfClones P.is_clone self.now) }
+    {
+        match self {
+            PlatformSpec::Always => Ok(PlatformSpec::Always),
+            PlatformSpec::Any => Ok(PlatformSpec::Any),
+            PlatformSpec::Platforms(platforms) => {
+                let clones = Vec::from_clones(alloc, platforms.as_slice())?;
+                Ok(PlatformSpec::Platforms(clones))
+            }
+        }
     }
 }
 

@@ -2,3 +2,4 @@ pub mod RustNames
 pub mod IdFacts
 pub mod Places
 pub mod LinkFacts
+pub mod TableFacts

@@ -1,5 +1,5 @@
 -- Targets by their id, and the sorts of targets that a package is asked about.
-use Rattle.std.specs.Prelude.{◌≡◌, Bool, true, false}
+use Rattle.std.specs.Prelude.{◌≡◌, ℕ, Bool, true, false, List, All, Some, slice_get, take}
 use Rattle.workspace_record.specs.Records.{Target}
 use Rattle.workspace_record.specs.declared.kinds.TargetKind.{TargetKind}
 use Rattle.workspace_record.specs.declared.kinds.TargetKind.TheVariants as kind
@@ -8,6 +8,13 @@ use Rattle.guppy_row_parts.specs.BuildTargets.{TargetId, id_of}
 -- the target is called so
 abbrev pub HasId : TargetId → Target → Type 0
 HasId id t = id_of t.kind t.name ≡ id
+
+-- the first target that is called so
+pub record IsFirstWith (id : TargetId) (targets : List Target) (target : Target) : Type 0 where
+  pub place : ℕ
+  pub here : slice_get targets place ≡ Some target
+  pub called : HasId id target
+  pub first : All (λ t. ¬ HasId id t) (take place targets)
 
 abbrev pub is_proc_macro_kind : TargetKind → Bool
 is_proc_macro_kind kind.Lib = false

@@ -1,4 +1,4 @@
-ghost use Rattle.std.specs.Prelude.{◌≡◌, ◌↔◌, All, Contains, IfNone, IfSome, IsTrue, Ok, codes, is_some, map, option_map};
+ghost use Rattle.std.specs.Prelude.{◌≡◌, ◌↔◌, All, IfNone, IfSome, IsTrue, Ok, codes, is_some, map, option_map};
 ghost use Rattle.std.specs.List.{list_any};
 ghost use Rattle.std.specs.Str.{bytes_eq};
 ghost use Rattle.list_facts.specs.Texts.{texts};
@@ -8,7 +8,7 @@ ghost use Rattle.guppy_row_parts.specs.BuildTargetViews.{id_view, target_view};
 ghost use Rattle.guppy_row_parts.specs.PublishView.{publish_view};
 ghost use Rattle.guppy_row_parts.specs.Sources.{source_of};
 ghost use Rattle.guppy_row_parts.specs.SourceViews.{source_view};
-ghost use Rattle.guppy_package_table.specs.Targets.{HasId, is_build_script, is_proc_macro};
+ghost use Rattle.guppy_package_table.specs.Targets.{HasId, IsFirstWith, is_build_script, is_proc_macro};
 
 use crate::build_targets::BuildTargets;
 use crate::named_features::NamedFeatures;
@@ -213,7 +213,7 @@ impl<'g> PackageDetails<'g> {
 
     /// The first target with the id; the rules of a record leave one at most.
     pub fn build_target(&self, id: &BuildTargetId<'_>) -> Option<BuildTarget<'g>>
-        ensures found { IfSome result (λ t. Contains (row_of self.now).targets (target_view t) × HasId (id_view id.now) (target_view t)) }
+        ensures found { IfSome result (λ t. IsFirstWith (id_view id.now) (row_of self.now).targets (target_view t)) }
         ensures none { IfNone result (All (λ t. ¬ HasId (id_view id.now) t) (row_of self.now).targets) }
     {
         let row = self.row;
@@ -260,7 +260,7 @@ impl<'g> PackageDetails<'g> {
 }
 
 fn target_with<'g>(targets: &'g [TargetRow], id: BuildTargetId<'_>) -> Option<&'g TargetRow>
-    ensures found { IfSome result (λ t. Contains targets.entry.now t.now × HasId (id_view id.entry) t.now) }
+    ensures found { IfSome result (λ t. IsFirstWith (id_view id.entry) targets.entry.now t.now) }
     ensures none { IfNone result (All (λ t. ¬ HasId (id_view id.entry) t) targets.entry.now) }
 {
     for target in targets {

@@ -22,6 +22,7 @@ use numbered_graph::{Direction, Graph};
 use package_rules::first_broken_rule;
 use std::alloc::{AllocError, Global};
 use std::marker::Model;
+use workspace_record::{copy_links, copy_packages};
 
 /// The rows of a package graph: packages and links are told by their places in the lists.
 pub struct PackageTable {
@@ -90,6 +91,28 @@ impl PackageTable {
             workspace,
             indices,
         })
+    }
+
+    /// An equal table in memory of its own.
+    pub fn copy(&self, alloc: Global) -> Result<PackageTable, AllocError>
+        requires { AreKept self.now.packages self.now.links self.now.workspace }
+        ensures same { IfOk result (λ t. t ≡ self.now) }
+    {
+        let listing = Vec::from_slice(alloc, self.listing())?;
+        let packages = copy_packages(alloc, &self.packages)?;
+        let links = copy_links(alloc, &self.links)?;
+        let workspace = self.workspace.copy(alloc)?;
+        let table = PackageTable::new(alloc, packages, links, workspace)?;
+        Ok(table.listed_so(listing))
+    }
+
+    /// The same rows, with their packages listed in this order.
+    fn listed_so(mut self, listing: Vec<usize>) -> PackageTable
+        requires { IsListing (numbered_links self) (has (firm_flags self.links)) (λ v. nat_lt v (length self.packages)) listing.items }
+        ensures { result ≡ record { packages = self.packages; links = self.links; workspace = self.workspace; listing = listing.items } }
+    {
+        self.indices.listing = listing;
+        self
     }
 
     /// The packages' rows, in the order of the record.

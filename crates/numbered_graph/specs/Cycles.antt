@@ -1,6 +1,6 @@
 -- Cycles: the components with two or more nodes, or a link from a node to itself.
-use Rattle.std.specs.Prelude.{◌≡◌, ◌≢◌, ◌↔◌, ℕ, ◌+◌, ◌-◌, ◌<◌, ◌≤◌, Bool, true, List, ◌++◌, length, take, slice_index, Contains, All, AllPairs}
-use Rattle.std.specs.List.{flat_map}
+use Rattle.std.specs.Prelude.{◌≡◌, ◌≢◌, ◌↔◌, ℕ, ◌+◌, ◌-◌, ◌<◌, ◌≤◌, Bool, true, nat_eq, List, ◌++◌, length, take, filter, slice_index, Contains, All, AllPairs}
+use Rattle.std.specs.List.{flat_map, list_any}
 use Rattle.numbered_graph.specs.declared.link.Link.{Link}
 use Rattle.numbered_graph.specs.declared.direction.Direction.{Direction}
 use Rattle.numbered_graph.specs.declared.direction.Direction.TheVariants.{Forward, Reverse}
@@ -23,12 +23,25 @@ pub record AreCycles (d : Direction) (links : List Link) (cycles : List (List �
   pub mutual_inside : All (λ c. (u v : ℕ) → Contains c u → Contains c v → AreMutual links any_link u v) cycles
   pub ahead : AllPairs (λ c e. (u v : ℕ) → Contains c u → Contains e v → ¬ LeadsOn d links any_link v u) cycles
 
+-- the node is in the list
+abbrev pub has_node : ℕ → List ℕ → Bool
+has_node v nodes = list_any (nat_eq v) nodes
+
+-- the cycles, joined, are the listing without the nodes that are in none of them
+abbrev pub AreInListingOrder : List ℕ → List (List ℕ) → Type 0
+AreInListingOrder listing cycles = flat_map (λ c. c) cycles ≡ filter (λ v. has_node v (flat_map (λ c. c) cycles)) listing
+
 -- a rank, counted down from the top in reverse
 abbrev pub key_of : Direction → ℕ → ℕ → ℕ
 key_of Forward top rank = rank
 key_of Reverse top rank = top - rank
 
--- from `start` on, all nodes with its key
+-- what stands between two nodes with one key has it too
+abbrev pub AreKeysTogether : List ℕ → List ℕ → Type 0
+AreKeysTogether keys nodes =
+    (i j k : ℕ) → i < j → j < k → k < length nodes → slice_index keys (slice_index nodes i) ≡ slice_index keys (slice_index nodes k) → slice_index keys (slice_index nodes i) ≡ slice_index keys (slice_index nodes j)
+
+-- from `start` on, the nodes with its key up to the first with another
 pub record IsRun (keys nodes : List ℕ) (start : ℕ) (run : List ℕ) : Type 0 where
   pub some : 0 < length run
   pub within : start + length run ≤ length nodes
@@ -36,11 +49,11 @@ pub record IsRun (keys nodes : List ℕ) (start : ℕ) (run : List ℕ) : Type 0
   pub level : All (λ v. slice_index keys v ≡ slice_index keys (slice_index nodes start)) run
   pub ends : start + length run < length nodes → slice_index keys (slice_index nodes (start + length run)) ≢ slice_index keys (slice_index nodes start)
 
--- lists of nodes with one key each, the keys rising
+-- lists of nodes with one key each, and no key in two of them
 pub record AreRuns (keys : List ℕ) (runs : List (List ℕ)) : Type 0 where
   pub some : All (λ c. 0 < length c) runs
   pub level : All (λ c. (u v : ℕ) → Contains c u → Contains c v → slice_index keys u ≡ slice_index keys v) runs
-  pub rises : AllPairs (λ c e. (u v : ℕ) → Contains c u → Contains e v → slice_index keys u < slice_index keys v) runs
+  pub apart : AllPairs (λ c e. (u v : ℕ) → Contains c u → Contains e v → slice_index keys u ≢ slice_index keys v) runs
 
 -- the link joins two nodes with this key
 pub record IsLevelLink (links : List Link) (keys : List ℕ) (key j : ℕ) : Type 0 where

@@ -1,8 +1,10 @@
-//! Cycles of a graph, in the order of its components.
+//! Cycles of a graph, in the order of its components or of a listing.
 
-ghost use Rattle.std.specs.Prelude.{◌≡◌, ℕ, ◌<◌, ◌≤◌, length, map, filter, slice_index, All, AllPairs, Contains, IfOk};
+ghost use Rattle.std.specs.Prelude.{◌≡◌, ℕ, ◌<◌, ◌≤◌, Bool, nat_lt, length, map, filter, slice_index, All, Contains, IfOk};
 ghost use Rattle.std.specs.List.{flat_map};
-ghost use Rattle.numbered_graph.specs.Cycles.{AreCycles, AreLevels, AreRuns, IsRun, key_of};
+ghost use Rattle.numbered_graph.specs.Cycles.{AreCycles, AreInListingOrder, AreKeysTogether, AreLevels, AreRuns, IsRun, key_of};
+ghost use Rattle.numbered_graph.specs.Listings.{IsListing};
+ghost use Rattle.numbered_graph.specs.declared.direction.Direction.TheVariants.{Forward};
 ghost use Rattle.numbered_graph.specs.Sets.{has};
 
 use crate::components::component_ranks;
@@ -29,6 +31,26 @@ pub fn cycles(
     let levels = levels_of(alloc, graph, &keys)?;
     let members = on_levels(alloc, &order, &keys, &levels)?;
     let cycles = runs_of(alloc, &members, &keys)?;
+    Ok(cycles)
+}
+
+/// The components that have two or more nodes or a link from a node to itself, in the order of a
+/// listing of all nodes, as the nodes within each.
+pub fn listed_cycles(
+    alloc: Global,
+    graph: &Graph,
+    listing: &[usize],
+) -> Result<Vec<Vec<usize>>, AllocError>
+    requires { (firm : ℕ → Bool) × IsListing graph.now.links firm (λ v. nat_lt v graph.now.nodes) listing.now }
+    ensures cycles { IfOk result (λ cs. AreCycles Forward graph.now.links (map (λ c. c.items) cs.items)) }
+    ensures listed { IfOk result (λ cs. AreInListingOrder listing.now (map (λ c. c.items) cs.items)) }
+    ensures within { IfOk result (λ cs. (v : ℕ) → Contains (flat_map (λ c. c) (map (λ c. c.items) cs.items)) v → v < graph.now.nodes) }
+{
+    let all = flags_of(alloc, true, graph.links().len())?;
+    let ranks = component_ranks(alloc, graph, &all)?;
+    let levels = levels_of(alloc, graph, &ranks)?;
+    let members = on_levels(alloc, listing, &ranks, &levels)?;
+    let cycles = runs_of(alloc, &members, &ranks)?;
     Ok(cycles)
 }
 
@@ -96,7 +118,7 @@ fn on_levels(
 // The nodes cut where their key changes.
 fn runs_of(alloc: Global, nodes: &[usize], keys: &[usize]) -> Result<Vec<Vec<usize>>, AllocError>
     requires within { All (λ v. v < length keys.now) nodes.now }
-    requires rising { AllPairs (λ u v. slice_index keys.now u ≤ slice_index keys.now v) nodes.now }
+    requires together { AreKeysTogether keys.now nodes.now }
     ensures whole { IfOk result (λ cs. flat_map (λ c. c) (map (λ c. c.items) cs.items) ≡ nodes.now) }
     ensures runs { IfOk result (λ cs. AreRuns keys.now (map (λ c. c.items) cs.items)) }
 {

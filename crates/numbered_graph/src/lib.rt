@@ -17,7 +17,7 @@ mod roots;
 mod walk;
 
 pub use crate::components::component_ranks;
-pub use crate::cycle_lists::cycles;
+pub use crate::cycle_lists::{cycles, listed_cycles};
 pub use crate::direction::Direction;
 pub use crate::graph::Graph;
 pub use crate::link::{Link, are_below, are_within};

@@ -2,6 +2,7 @@
 
 ghost use Rattle.std.specs.Prelude.{◌≡◌, ℕ, ◌+◌, ◌<◌};
 
+use std::fmt;
 use std::marker::Model;
 use std::sync::ledger::{Blank, Book, Ledger, Share};
 
@@ -38,5 +39,12 @@ impl<L: Ledger> Looks<L> {
         ensures more { self.new ≡ self.old + 1 }
     {
         self.book.add(&mut self.share, 1);
+    }
+}
+
+/// Its count is no data, so there is none to print.
+impl<L: Ledger> fmt::Debug for Looks<L> {
+    fn fmt<W: fmt::Write>(&self, f: &mut fmt::Formatter<W>) -> fmt::Result {
+        f.debug_struct("Looks").finish_non_exhaustive()
     }
 }

@@ -156,7 +156,8 @@ impl LinkRecord {
     }
 }
 
-pub(crate) fn copy_links(alloc: Global, links: &[LinkRecord]) -> Result<Vec<LinkRecord>, AllocError>
+/// Equal rows in memory of their own.
+pub fn copy_links(alloc: Global, links: &[LinkRecord]) -> Result<Vec<LinkRecord>, AllocError>
     ensures { IfOk result (λ v. v.items ≡ links.now) }
 {
     let mut copies = Vec::new(alloc);

@@ -336,7 +336,8 @@ impl PackageRecord {
     }
 }
 
-pub(crate) fn copy_packages(
+/// Equal rows in memory of their own.
+pub fn copy_packages(
     alloc: Global,
     packages: &[PackageRecord],
 ) -> Result<Vec<PackageRecord>, AllocError>

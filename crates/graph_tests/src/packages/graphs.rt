@@ -46,6 +46,23 @@ pub(crate) const TURNED: &str = r#"{
     "workspace": {"members": []}
 }"#;
 
+/// Two pairs of packages, those of each on a cycle, and no link between the pairs.
+pub(crate) const TWO_PAIRS: &str = r#"{
+    "packages": [
+        {"id": "a", "name": "a", "version": "1.0.0"},
+        {"id": "b", "name": "b", "version": "1.0.0"},
+        {"id": "c", "name": "c", "version": "1.0.0"},
+        {"id": "d", "name": "d", "version": "1.0.0"}
+    ],
+    "links": [
+        {"from": "a", "to": "d", "name": "d", "lines": [{"kind": "dev"}]},
+        {"from": "d", "to": "a", "name": "a", "lines": [{}]},
+        {"from": "c", "to": "b", "name": "b", "lines": [{}]},
+        {"from": "b", "to": "c", "name": "c", "lines": [{"kind": "dev"}]}
+    ],
+    "workspace": {"members": []}
+}"#;
+
 /// Two of the packages.
 pub(crate) const FEWER: &str = r#"{
     "packages": [

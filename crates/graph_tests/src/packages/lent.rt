@@ -18,8 +18,11 @@ fn all_packages<'g>(
     Ok(packages)
 }
 
-// Their ids, of packages that are gone when these are looked at.
-fn all_ids<'g>(alloc: Global, graph: &'g PackageGraph) -> Result<Vec<&'g str>, AllocError> {
+/// Their ids, of packages that are gone when these are looked at.
+pub(crate) fn all_ids<'g>(
+    alloc: Global,
+    graph: &'g PackageGraph,
+) -> Result<Vec<&'g str>, AllocError> {
     let packages = all_packages(alloc, graph)?;
     let mut ids: Vec<&'g str> = Vec::new(alloc);
     for package in &packages {
@@ -46,6 +49,26 @@ fn copy_text(alloc: Global, graph: &PackageGraph) -> Result<String, AllocError> 
     let all = graph.resolve_all(alloc)?;
     let copy = all.copy(alloc)?;
     format!(in alloc; "{copy:?}")
+}
+
+// Whether all packages of both graphs are equal sets, and none is neither.
+fn sets_compared(
+    alloc: Global,
+    graph: &PackageGraph,
+    other: &PackageGraph,
+) -> Result<bool, AllocError> {
+    let all = graph.resolve_all(alloc)?;
+    let others = other.resolve_all(alloc)?;
+    let none = other.resolve_none(alloc)?;
+    Ok(all == others && all != none && none != all)
+}
+
+#[test]
+fn sets_of_a_copied_graph_are_equal(rt: HostRuntime) -> Result<(), Fail> {
+    let graph = graph_of(rt.alloc(), TRIANGLE)?;
+    let copy = graph.copy(rt.alloc())?;
+    assert!(rt; sets_compared(rt.alloc(), &graph, &copy)?);
+    Ok(())
 }
 
 #[test]

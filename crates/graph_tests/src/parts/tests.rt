@@ -41,7 +41,7 @@ fn link(alloc: Global) -> Result<LinkRow, AllocError> {
 }
 
 // The platform that one spec names, and that knows of no other spec.
-#[derive(Clone, Copy)]
+#[derive(Clone, Copy, Debug)]
 struct OneSpec(&'static str);
 
 impl Platform for OneSpec {
@@ -94,6 +94,16 @@ fn orders_sets_of_texts(rt: HostRuntime) -> Result<(), Fail> {
     Ok(())
 }
 
+#[test]
+fn compares_sets_by_their_elements(rt: HostRuntime) -> Result<(), Fail> {
+    let alloc = rt.alloc();
+    let set = SortedSet::new(Vec::from_slice(alloc, &[2_usize, 1, 2])?);
+    let later = SortedSet::new(Vec::from_slice(alloc, &[1_usize, 3])?);
+    assert!(rt; set.copy(alloc)? == set);
+    assert!(rt; set < later && later != set);
+    Ok(())
+}
+
 fn are_below(places: &[usize], count: usize) -> bool
     ensures { IsTrue result ↔ All (λ i. i < count) places.now }
 {
@@ -127,6 +137,11 @@ fn joins_no_lines(rt: HostRuntime) -> Result<(), Fail> {
     platforms.push(OneSpec("one"))?;
     let platforms = PlatformSpec::platforms(platforms);
     assert!(rt; nothing.enabled_on(&platforms) == EnabledTernary::Disabled);
+    let copy = platforms.copy(alloc)?;
+    assert_eq!(rt;
+        format!(in alloc; "{copy:?}")?,
+        format!(in alloc; "{platforms:?}")?
+    );
     Ok(())
 }
 

@@ -1,8 +1,8 @@
 //! What the package under `package` says of itself.
 
 use crate::graphs::ids::{id_in, push_word};
-use guppy_package_graph::{PackageGraph, PackageMetadata};
-use guppy_package_parts::{BuildTarget, BuildTargetId, PackageId};
+use guppy_package_graph::{Error, PackageGraph, PackageLink, PackageMetadata};
+use guppy_package_parts::{BuildTarget, BuildTargetId, PackageId, PackageSource};
 use row_program::{Answers, Row, RowFault};
 use std::alloc::{AllocError, Global};
 
@@ -13,8 +13,49 @@ pub(crate) fn tell_package(
     answers: &mut Answers,
 ) -> Result<(), RowFault> {
     match id_in(alloc, row, "package")? {
-        Some(id) => tell_found(alloc, graph, &id, answers),
+        Some(id) => {
+            tell_found(alloc, graph, &id, answers)?;
+            tell_links(alloc, row, graph, &id, answers)
+        }
         None => Ok(()),
+    }
+}
+
+/// The first link from the package to the one under `target`, and the first back.
+fn tell_links(
+    alloc: Global,
+    row: Row<'_>,
+    graph: &PackageGraph,
+    id: &PackageId,
+    answers: &mut Answers,
+) -> Result<(), RowFault> {
+    let Some(target) = id_in(alloc, row, "target")? else {
+        return Ok(());
+    };
+    match graph.metadata(id) {
+        Err(error) => answers.tell("link_to", format!(in alloc; "{error}")),
+        Ok(package) => {
+            answers.tell("link_to", first_link_text(alloc, package.link_to(&target)))?;
+            answers.tell(
+                "link_from",
+                first_link_text(alloc, package.link_from(&target)),
+            )
+        }
+    }
+}
+
+fn first_link_text(
+    alloc: Global,
+    found: Result<Option<PackageLink<'_>>, Error>,
+) -> Result<String, AllocError> {
+    match found {
+        Ok(Some(link)) => {
+            let (from, to) = link.endpoints();
+            let (from, to, name) = (from.id(), to.id(), link.dep_name());
+            format!(in alloc; "{from} to {to} as {name}")
+        }
+        Ok(None) => String::from_str(alloc, "none"),
+        Err(error) => format!(in alloc; "{error}"),
     }
 }
 
@@ -28,6 +69,7 @@ fn tell_found(
         Err(error) => answers.tell("found", format!(in alloc; "{error}")),
         Ok(package) => {
             answers.tell("found", found_text(alloc, package))?;
+            answers.tell("source", source_text(alloc, package.source()))?;
             answers.tell("texts", texts_text(alloc, package))?;
             answers.tell("lists", lists_text(alloc, package))?;
             tell_parts(alloc, package, answers)
@@ -40,6 +82,13 @@ fn found_text(alloc: Global, package: PackageMetadata<'_>) -> Result<String, All
     let source = package.source();
     let is_member = package.in_workspace();
     format!(in alloc; "{id}, {name} {version}, from {source}, member {is_member}")
+}
+
+fn source_text(alloc: Global, source: PackageSource<'_>) -> Result<String, AllocError> {
+    let (is_workspace, is_path) = (source.is_workspace(), source.is_path());
+    let in_workspace = source.workspace_path().unwrap_or("-");
+    let local = source.local_path().unwrap_or("-");
+    format!(in alloc; "workspace {is_workspace} {in_workspace}, path {is_path}, local {local}")
 }
 
 /// The texts that a manifest may leave out, in the order in which `cargo metadata` gives them.
@@ -85,6 +134,7 @@ fn tell_parts(
     answers.tell("targets", targets_text(alloc, package))?;
     let library = package.build_target(&BuildTargetId::Library);
     answers.tell("library", target_text(alloc, library))?;
+    answers.tell("library_defaults", defaults_text(alloc, library))?;
     let binary = package.build_target(&BuildTargetId::Binary("x"));
     answers.tell("binary_x", target_text(alloc, binary))?;
     answers.tell("kinds", kinds_text(alloc, package))
@@ -111,6 +161,17 @@ fn target_text(alloc: Global, target: Option<BuildTarget<'_>>) -> Result<String,
         Some(target) => String::from_str(alloc, target.name()),
         None => String::from_str(alloc, "none"),
     }
+}
+
+/// What Cargo does with the target where nothing else is said.
+fn defaults_text(alloc: Global, target: Option<BuildTarget<'_>>) -> Result<String, AllocError> {
+    let Some(target) = target else {
+        return String::from_str(alloc, "none");
+    };
+    let is_documented = target.doc_by_default();
+    let has_doctests = target.doctest_by_default();
+    let is_tested = target.test_by_default();
+    format!(in alloc; "doc {is_documented}, doctest {has_doctests}, test {is_tested}")
 }
 
 fn kinds_text(alloc: Global, package: PackageMetadata<'_>) -> Result<String, AllocError> {

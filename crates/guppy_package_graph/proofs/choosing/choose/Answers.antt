@@ -1,4 +1,4 @@
-use Rattle.std.proofs.Common.{◌≡◌, ◌++◌, ◌∙◌, ap, append-nil, map, sym, length, subst, refl, true, false}
+use Rattle.std.proofs.Common.{◌≡◌, ◌++◌, ◌∙◌, ap, append-nil, map, sym, length, subst, true, false}
 use Rattle.std.proofs.lemmas.List.{length-replicate}
 use Rattle.numbered_graph.specs.ListedViews.{listed_left}
 use Rattle.numbered_graph.specs.Sets.{has}

@@ -3,7 +3,6 @@ use Rattle.numbered_graph.specs.Graphs.{GraphValue}
 use Rattle.numbered_graph.specs.Roots.{IsRoot}
 use Rattle.numbered_graph.specs.Sets.{has}
 use Rattle.guppy_package_table.specs.Tables.{numbered_links}
-use Rattle.guppy_package_graph.specs.Directions.{direction_of}
 use Rattle.guppy_package_graph.specs.Queries.{places_of}
 use Rattle.guppy_package_graph.proofs.PlaceFacts.{ok_more}
 use Rattle.guppy_package_graph.proofs.set_parts.root_places.Goals as goal

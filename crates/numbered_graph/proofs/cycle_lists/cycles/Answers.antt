@@ -4,13 +4,12 @@ use Rattle.std.proofs.lemmas.List.Elements.{All-filter}
 use Rattle.std.proofs.lemmas.List.Sorted.{All-permutation}
 use Rattle.numbered_graph.specs.Listings.{numbers_below}
 use Rattle.numbered_graph.specs.Ranks.{AreRanks}
-use Rattle.numbered_graph.specs.Cycles.{AreRuns, AreLevels, key_of}
+use Rattle.numbered_graph.specs.Cycles.{AreKeysTogether, AreRuns, AreLevels, key_of}
 use Rattle.numbered_graph.specs.Sets.{has}
-use Rattle.numbered_graph.proofs.Kept.{AllPairs-filter}
 use Rattle.numbered_graph.proofs.Numbers.{numbers-small}
 use Rattle.numbered_graph.proofs.PathFacts.{Reaches-by_all}
 use Rattle.numbered_graph.proofs.RankFacts.{AreRanks-by_all}
-use Rattle.numbered_graph.proofs.CycleFacts.{AreCycles-from_runs, on_cycle_within}
+use Rattle.numbered_graph.proofs.CycleFacts.{AreCycles-from_runs, AreKeyed-by_keys, on_cycle_within, rising_together, together_filter}
 use Rattle.numbered_graph.proofs.cycle_lists.cycles.Goals as goal
 
 pub on_levels-requires-clause-order : goal.on_levels-requires-clause-order
@@ -29,14 +28,14 @@ runs_of-requires-clause-within c =
     let members = c.deref-9.ensures.value ∙ c.in_ok-members.ensures ∙ ap (filter kept) c.deref-6.ensures.value in
     subst (λ ks. All (λ v. v < length ks) c.deref-9.result.now) (sym c.deref-10.ensures.value) (subst (λ xs. All (λ v. v < length keys) xs) (sym members) (All-filter kept (λ v. v < length keys) order (All-permutation (λ v. v < length keys) (numbers_below (length keys)) order perm (numbers-small (length keys)))))
 
-pub runs_of-requires-clause-rising : goal.runs_of-requires-clause-rising
-runs_of-requires-clause-rising c =
+pub runs_of-requires-clause-together : goal.runs_of-requires-clause-together
+runs_of-requires-clause-together c =
     let keys = c.in_ok-keys.keys.items in
     let order = c.in_ok-order.order.items in
     let kept = λ (v : ℕ). has c.deref-8.result.now (get_or c.deref-7.result.now v 0) in
     let members = c.deref-9.ensures.value ∙ c.in_ok-members.ensures ∙ ap (filter kept) c.deref-6.ensures.value in
     let rising : AllPairs (λ u v. get_or keys u 0 ≤ get_or keys v 0) order = subst (λ ks. AllPairs (λ u v. get_or ks u 0 ≤ get_or ks v 0) order) c.deref-3.ensures.value (λ i j d lt small. (c.in_ok-order.ensures.order i j d lt small).0) in
-    subst (λ ks. AllPairs (λ u v. get_or ks u 0 ≤ get_or ks v 0) c.deref-9.result.now) (sym c.deref-10.ensures.value) (subst (AllPairs (λ u v. get_or keys u 0 ≤ get_or keys v 0)) (sym members) (AllPairs-filter (λ u v. get_or keys u 0 ≤ get_or keys v 0) kept order rising))
+    subst (λ ks. AreKeysTogether ks c.deref-9.result.now) (sym c.deref-10.ensures.value) (subst (AreKeysTogether keys) (sym members) (together_filter keys kept order (rising_together keys order rising)))
 
 pub returns : goal.returns
 returns c =
@@ -57,5 +56,6 @@ returns c =
     let are_levels = subst (λ ks. AreLevels links ks (length links) levels) c.deref-5.ensures.value c.in_ok-levels.ensures.levels in
     let whole = c.in_ok-cycles.ensures.whole ∙ c.deref-9.ensures.value ∙ c.in_ok-members.ensures ∙ ap (filter (λ v. has c.deref-8.result.now (get_or c.deref-7.result.now v 0))) c.deref-6.ensures.value ∙ ap (λ fs. filter (λ v. has fs (get_or c.deref-7.result.now v 0)) order) c.deref-8.ensures.value ∙ ap (λ ks. filter (λ v. has levels (get_or ks v 0)) order) c.deref-7.ensures.value in
     let runs = subst (λ ks. AreRuns ks lists) c.deref-10.ensures.value c.in_ok-cycles.ensures.runs in
-    let are = AreCycles-from_runs c.args.direction c.links.ensures.within all most made perm are_levels whole runs in
+    let rising : AllPairs (λ u v. get_or keys u 0 ≤ get_or keys v 0) order = subst (λ ks. AllPairs (λ u v. get_or ks u 0 ≤ get_or ks v 0) order) c.deref-3.ensures.value (λ i j d lt small. (c.in_ok-order.ensures.order i j d lt small).0) in
+    let are = AreCycles-from_runs c.links.ensures.within (AreKeyed-by_keys c.args.direction all most made perm rising) are_levels lists whole runs in
     record { cycles = are; within = λ v inside. on_cycle_within nodes links c.links.ensures.within v ((are.each v).0 inside) }

@@ -17,7 +17,7 @@ returns-in_ok-list-in-Ok-clause-all c =
     let found = c.in-Ok.ensures.found in
     let graph : graph_of m ≡ rows = found.1 ∙ c.package_graph.ensures.rows in
     let at : IsAt rows c.args.package_id.now (place_of m) = subst (λ (t : TableValue). IsAt t c.args.package_id.now (place_of m)) c.package_graph.ensures.rows found.0 in
-    let row : slice_get rows.packages (place_of m) ≡ Some c.row.result.now = subst (λ (t : TableValue). slice_get t.packages (place_of m) ≡ Some c.row.result.now) graph (c.deref.ensures ∙ ap Some (sym c.row.ensures)) in
+    let row : slice_get rows.packages (place_of m) ≡ Some c.row.result.now = subst (λ (t : TableValue). slice_get t.packages (place_of m) ≡ Some c.row.result.now) graph (c.deref.ensures.0 ∙ ap Some (sym c.row.ensures)) in
     let labels : map label_view c.deref-in-Ok.result.now ≡ labels_of c.row.result.now = ap (λ (xs : List FeatureLabel). map label_view xs) c.deref-in-Ok.ensures.value ∙ c.in_ok-labels-in-Ok.ensures.labels in
     record {
       row = c.row.result.now;

@@ -18,7 +18,7 @@ returns-in-Ok c =
     let of_graph : c.package_graph.result.now ≡ rows = c.package_graph.ensures.rows ∙ ap (λ (x : FeatureGraphValue). x.rows) c.graph.ensures.graph in
     let graph : graph_of m ≡ rows = found.1 ∙ of_graph in
     let at : IsAt rows c.args.package_id.now (place_of m) = subst (λ (t : TableValue). IsAt t c.args.package_id.now (place_of m)) of_graph found.0 in
-    let row : slice_get rows.packages (place_of m) ≡ Some r = subst (λ (t : TableValue). slice_get t.packages (place_of m) ≡ Some r) graph (c.deref.ensures ∙ ap Some (sym c.row.ensures)) in
+    let row : slice_get rows.packages (place_of m) ≡ Some r = subst (λ (t : TableValue). slice_get t.packages (place_of m) ≡ Some r) graph (c.deref.ensures.0 ∙ ap Some (sym c.row.ensures)) in
     record {
       answer = record {
         place = place_of m;

@@ -22,7 +22,7 @@ returns-in_ok-list-in-Ok-clause-found c =
     let of_graph : c.package_graph.result.now ≡ rows = c.package_graph.ensures.rows ∙ ap (λ (x : FeatureGraphValue). x.rows) c.graph.ensures.graph in
     let graph : graph_of m ≡ rows = found.1 ∙ of_graph in
     let at : IsAt rows c.args.package_id.now (place_of m) = subst (λ (t : TableValue). IsAt t c.args.package_id.now (place_of m)) of_graph found.0 in
-    let row : slice_get rows.packages (place_of m) ≡ Some c.row.result.now = subst (λ (t : TableValue). slice_get t.packages (place_of m) ≡ Some c.row.result.now) graph (c.deref.ensures ∙ ap Some (sym c.row.ensures)) in
+    let row : slice_get rows.packages (place_of m) ≡ Some c.row.result.now = subst (λ (t : TableValue). slice_get t.packages (place_of m) ≡ Some c.row.result.now) graph (c.deref.ensures.0 ∙ ap Some (sym c.row.ensures)) in
     let labels : map label_view c.deref-in-Ok.result.now ≡ labels_in s c.row.result.now = ap (λ (xs : List FeatureLabel). map label_view xs) c.deref-in-Ok.ensures.value ∙ c.in_ok-labels-in-Ok.ensures in
     record {
       row = c.row.result.now;

@@ -1,4 +1,4 @@
-use Rattle.std.proofs.Common.{◌≡◌, ◌∙◌, ◌<◌, ◌∷◌, ℕ, suc, IfNone, IfSome, ap, length, map, subst, sym, arith}
+use Rattle.std.proofs.Common.{◌≡◌, ◌∙◌, ◌<◌, ◌∷◌, suc, IfNone, IfSome, ap, length, map, subst, sym, arith}
 use Rattle.std.proofs.lemmas.List.{length-map}
 use Rattle.numbered_graph.specs.Chains.{IsNextLink}
 use Rattle.numbered_graph.specs.Graphs.{GraphValue}

@@ -1,4 +1,4 @@
-use Rattle.std.proofs.Common.{◌≡◌, ◌∙◌, ◌↔◌, ◌∷◌, [], ℕ, Contains, IsTrue, subst}
+use Rattle.std.proofs.Common.{◌≡◌, ◌↔◌, ◌∷◌, [], ℕ, Contains, IsTrue, subst}
 use Rattle.numbered_graph.specs.Sets.{has}
 use Rattle.guppy_package_table.specs.Tables.{TableValue}
 use Rattle.guppy_package_graph.specs.Queries.{IsQueryOf}

@@ -1,6 +1,6 @@
 use Rattle.std.proofs.Common.{ℕ, subst, All, ◌<◌, length}
 use Rattle.std.proofs.lemmas.List.Elements.{All-tail}
-use Rattle.guppy_package_graph.proofs.package_ids.PackageIdsAtIterator.next.Goals as goal
+use Rattle.guppy_package_graph.proofs.places.Places.first.Goals as goal
 
 pub invariant_of-self : goal.invariant_of-self
 invariant_of-self c =
