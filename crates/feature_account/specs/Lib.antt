@@ -9,3 +9,4 @@ pub mod Found
 pub mod IsEntry
 pub mod IsRule
 pub mod Laws
+pub mod VerdictTexts

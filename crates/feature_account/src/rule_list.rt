@@ -34,7 +34,7 @@ pub fn rules(
     choice: &FeatureChoice,
     table: &PlatformTable,
 ) -> Result<Vec<Rule>, AllocError>
-    ensures { IfOk result (λ v. v.items ≡ rule_list record.now choice.now table.now) }
+    ensures listed { IfOk result (λ v. v.items ≡ rule_list record.now choice.now table.now) }
 {
     let index = RecordIndex::of(alloc, record)?;
     rules_by(alloc, &index, &record.links, choice, table)

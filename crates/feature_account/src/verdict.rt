@@ -1,3 +1,5 @@
+use std::fmt;
+
 /// What is to be said of an account or of an explanation: that it is valid, or its first fault.
 ///
 /// A place counts the entries from 0, and a number is a rule's.
@@ -16,4 +18,25 @@ pub enum Verdict {
     NotGoal,
     /// What the entry at this place concludes is no premise of a later one. Said of explanations alone.
     Unused(usize),
+}
+
+impl fmt::Display for Verdict {
+    ghost use Rattle.std.specs.Prelude.{Some};
+    ghost use Rattle.feature_account.specs.VerdictTexts.{verdict_text};
+
+    ghost output = { λ verdict. Some (verdict_text verdict) };
+
+    fn fmt<W: fmt::Write>(&self, f: &mut fmt::Formatter<W>) -> fmt::Result {
+        match self {
+            Verdict::Accepted => f.write_str("accepted"),
+            Verdict::UnknownRule(place) => write!(f, "refused: unknown rule at {place}"),
+            Verdict::RepeatedConclusion(place) => {
+                write!(f, "refused: repeated conclusion at {place}")
+            }
+            Verdict::MissingPremise(place) => write!(f, "refused: missing premise at {place}"),
+            Verdict::NotClosed(number) => write!(f, "refused: not closed at {number}"),
+            Verdict::NotGoal => f.write_str("refused: goal not reached"),
+            Verdict::Unused(place) => write!(f, "refused: unused at {place}"),
+        }
+    }
 }

@@ -54,19 +54,7 @@ pub fn verdict_on(
 pub fn verdict_line(alloc: Global, verdict: Verdict) -> Result<String, AllocError>
     ensures text { IfOk result (λ text. string_bytes text ≡ verdict_line verdict) }
 {
-    match verdict {
-        Verdict::Accepted => format!(in alloc; "accepted\n"),
-        Verdict::UnknownRule(place) => format!(in alloc; "refused: unknown rule at {place}\n"),
-        Verdict::RepeatedConclusion(place) => {
-            format!(in alloc; "refused: repeated conclusion at {place}\n")
-        }
-        Verdict::MissingPremise(place) => {
-            format!(in alloc; "refused: missing premise at {place}\n")
-        }
-        Verdict::NotClosed(number) => format!(in alloc; "refused: not closed at {number}\n"),
-        Verdict::NotGoal => format!(in alloc; "refused: goal not reached\n"),
-        Verdict::Unused(place) => format!(in alloc; "refused: unused at {place}\n"),
-    }
+    format!(in alloc; "{verdict}\n")
 }
 
 // The output is flushed here, since a run ends early after a refusal.

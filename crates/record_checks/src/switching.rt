@@ -32,7 +32,7 @@ pub fn features_on(
     choice: &FeatureChoice,
     table: &PlatformTable,
 ) -> Result<FeaturesOn, SelectError>
-    ensures { SwitchesOn record.now choice.now table.now result }
+    ensures on { SwitchesOn record.now choice.now table.now result }
 {
     match check_question(alloc, record, choice) {
         Err(refusal) => Err(refusal),
@@ -48,7 +48,7 @@ pub fn account(
     choice: &FeatureChoice,
     table: &PlatformTable,
 ) -> Result<Account, SelectError>
-    ensures { Accounts record.now choice.now table.now result }
+    ensures accounts { Accounts record.now choice.now table.now result }
 {
     match check_question(alloc, record, choice) {
         Err(refusal) => Err(refusal),

@@ -21,7 +21,7 @@ use workspace_record::Feature;
 ///
 /// Each number is whole, a `usize` holds it, and it is written without a fraction or an exponent.
 pub fn read_account(alloc: Global, bytes: &[u8]) -> Result<AccountFile, ReadError>
-    ensures { ReadsFile (λ f. f) account_file bytes.now result }
+    ensures reads { ReadsFile (λ f. f) account_file bytes.now result }
 {
     let value = value_of(alloc, bytes)?;
     account_of(alloc, object_of(&value, Key::File)?)

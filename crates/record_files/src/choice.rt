@@ -22,7 +22,7 @@ use workspace_record::{Feature, FeatureChoice, Label, Standard};
 /// the optional dependency `d`, and any other text the feature of that name. As in Cargo, the
 /// standard features that are left out are the default ones; the extras are then none.
 pub fn read_choice(alloc: Global, bytes: &[u8]) -> Result<FeatureChoice, ReadError>
-    ensures { ReadsFile (λ c. c) choice_file bytes.now result }
+    ensures reads { ReadsFile (λ c. c) choice_file bytes.now result }
 {
     let value = value_of(alloc, bytes)?;
     choice_of(alloc, object_of(&value, Key::File)?)

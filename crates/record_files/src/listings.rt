@@ -20,7 +20,7 @@ pub fn read_listings(
     alloc: Global,
     bytes: &[u8],
 ) -> Result<BTreeMap<String, Vec<String>>, ReadError>
-    ensures { ReadsFile (λ m. map listing m.entries) listings_file bytes.now result }
+    ensures reads { ReadsFile (λ m. map listing m.entries) listings_file bytes.now result }
 {
     let value = value_of(alloc, bytes)?;
     match value.as_object() {

@@ -24,7 +24,7 @@ use workspace_record::WorkspaceRecord;
 /// empty, except that an edition is `2021`, a requirement `*`, the target directory `target` and a
 /// line's kind `normal`, as in Cargo. Null counts as left out, and unknown keys are ignored.
 pub fn read_record(alloc: Global, bytes: &[u8]) -> Result<WorkspaceRecord, ReadError>
-    ensures { ReadsFile (λ w. w) record_file bytes.now result }
+    ensures reads { ReadsFile (λ w. w) record_file bytes.now result }
 {
     let value = value_of(alloc, bytes)?;
     record_of(alloc, object_of(&value, Key::File)?)

@@ -12,7 +12,7 @@ use std::io::{self, Write};
 /// Writes a line for each chosen test: the binary's id, a space, and the test's name. After a fault
 /// of the writer what was written is a beginning of this.
 pub fn write_report<W: Write>(selection: &Selection, writer: &mut W) -> io::Result<()>
-    ensures { Writes (W.contents writer.old) (W.contents writer.new) result (report selection.now.chosen) }
+    ensures writes { Writes (W.contents writer.old) (W.contents writer.new) result (report selection.now.chosen) }
 {
     write_lines(selection.chosen(), writer)
 }

@@ -31,7 +31,7 @@ pub fn select(
     texts: &[&str],
     lister: &mut dyn TestLister,
 ) -> Result<Selection, SelectError>
-    ensures { Answers (record { workspace = record.now; choice = choice.now; table = table.now; scope = scope; texts = map (λ t. t.now) texts.now; asks = LetThrough }) (shown lister.old) result (shown lister.new) }
+    ensures answers { Answers (record { workspace = record.now; choice = choice.now; table = table.now; scope = scope; texts = map (λ t. t.now) texts.now; asks = LetThrough }) (shown lister.old) result (shown lister.new) }
 {
     let asks = AskedBinaries::LetThrough;
     let plan = make_plan(alloc, record, choice, table, scope, texts, asks)?;

@@ -6,4 +6,4 @@ use Rattle.feature_account.proofs.explanation_check.check_explanation.Goals as g
 
 pub returns-clause-accepted : goal.returns-clause-accepted
 returns-clause-accepted c =
-    explanation_accepted_if_ok _ _ _ _ (subst (λ rules. IfOk c.verdict_of.result (IsExplanationVerdict rules c.args.feature.now c.args.explanation.now)) (c.deref.ensures.value ∙ c.in_ok-rules.ensures) c.verdict_of.ensures)
+    explanation_accepted_if_ok _ _ _ _ (subst (λ rules. IfOk c.verdict_of.result (IsExplanationVerdict rules c.args.feature.now c.args.explanation.now)) (c.deref.ensures.value ∙ c.in_ok-rules.ensures.listed) c.verdict_of.ensures)

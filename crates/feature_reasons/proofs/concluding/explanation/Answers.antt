@@ -6,8 +6,8 @@ use Rattle.feature_reasons.proofs.concluding.explanation.Goals as goal
 
 pub returns-clause-found : goal.returns-clause-found
 returns-clause-found c =
-    subst (λ rules. IfOk c.explained_by.result (λ o. IsSome o ↔ IsOn rules c.args.feature.now)) (c.deref.ensures.value ∙ c.in_ok-rules.ensures) c.explained_by.ensures.found
+    subst (λ rules. IfOk c.explained_by.result (λ o. IsSome o ↔ IsOn rules c.args.feature.now)) (c.deref.ensures.value ∙ c.in_ok-rules.ensures.listed) c.explained_by.ensures.found
 
 pub returns-clause-explains : goal.returns-clause-explains
 returns-clause-explains c =
-    subst (λ rules. IfOk c.explained_by.result (λ o. IfSome o (λ v. IsExplanation rules c.args.feature.now v.items))) (c.deref.ensures.value ∙ c.in_ok-rules.ensures) c.explained_by.ensures.explains
+    subst (λ rules. IfOk c.explained_by.result (λ o. IfSome o (λ v. IsExplanation rules c.args.feature.now v.items))) (c.deref.ensures.value ∙ c.in_ok-rules.ensures.listed) c.explained_by.ensures.explains

@@ -6,4 +6,4 @@ use Rattle.feature_reasons.proofs.concluding.on_features.Goals as goal
 
 pub returns-clause-on : goal.returns-clause-on
 returns-clause-on c =
-    subst (λ rules. IfOk c.on_by.result (λ on. (f : FeatureValue) → Contains on f ↔ IsOn rules f)) (c.deref.ensures.value ∙ c.in_ok-rules.ensures) c.on_by.ensures.on
+    subst (λ rules. IfOk c.on_by.result (λ on. (f : FeatureValue) → Contains on f ↔ IsOn rules f)) (c.deref.ensures.value ∙ c.in_ok-rules.ensures.listed) c.on_by.ensures.on

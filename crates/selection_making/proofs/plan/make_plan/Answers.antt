@@ -9,10 +9,10 @@ pub returns-in_err-filters : goal.returns-in_err-filters
 returns-in_err-filters c =
     let q : Question = record { workspace = c.args.record.now; choice = c.args.choice.now; table = c.args.table.now; scope = c.args.scope; texts = map (λ t. t.now) c.args.texts.now; asks = c.args.asks } in
     let p = err_from_is_err_and c.from_residual-in_err-filters.result c.from_residual-in_err-filters.ensures.1 in
-    rw (p.1, p.2) (plan_err q c.in_ok-on.on c.in_ok-on.ensures _ c.in_err-filters.ensures)
+    rw (p.1, p.2) (plan_err q c.in_ok-on.on c.in_ok-on.ensures.on _ c.in_err-filters.ensures)
 
 pub returns : goal.returns
 returns c =
     let q : Question = record { workspace = c.args.record.now; choice = c.args.choice.now; table = c.args.table.now; scope = c.args.scope; texts = map (λ t. t.now) c.args.texts.now; asks = c.args.asks } in
     let f = c.in_ok-filters.ensures in
-    plan_made q c.in_ok-on.on c.in_ok-on.ensures (question_view c.in_ok-filters.filters) f.0 f.1.0 (f.1.1, f.1.2) f.2 c.in_ok-let_through.field-0.items c.in_ok-asked.asked.items c.in_ok-let_through.ensures c.in_ok-asked.ensures.ascending c.in_ok-asked.ensures.all_of_them
+    plan_made q c.in_ok-on.on c.in_ok-on.ensures.on (question_view c.in_ok-filters.filters) f.0 f.1.0 (f.1.1, f.1.2) f.2 c.in_ok-let_through.field-0.items c.in_ok-asked.asked.items c.in_ok-let_through.ensures c.in_ok-asked.ensures.ascending c.in_ok-asked.ensures.all_of_them

@@ -4,4 +4,4 @@ use Rattle.selection_making.specs.Selections.{line}
 use Rattle.selection_making.proofs.report.write_report.Goals as goal
 
 pub returns : goal.returns
-returns g c = rw (← c.chosen.ensures, flat_map-map line pair_of c.chosen.result.now) c.write_lines.ensures
+returns g c = record { writes = rw (← c.chosen.ensures, flat_map-map line pair_of c.chosen.result.now) c.write_lines.ensures }
