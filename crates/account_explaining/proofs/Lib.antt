@@ -1,2 +1,5 @@
+pub mod NumberItems
+pub mod ReadingFacts
 pub mod Selecting
 pub mod TextFacts
+pub mod WrittenLines

@@ -1,1 +1,2 @@
 pub mod ExplanationText
+pub mod Laws

@@ -2,6 +2,7 @@
 #![tactic(auto)]
 
 mod explaining;
+pub mod laws;
 mod writing;
 
 pub use crate::explaining::explanation_of;
