@@ -14,7 +14,7 @@ use Rattle.demand_rules.proofs.StandingFacts.{found_alone, found_cases}
 use Rattle.kept_records.specs.Laws.{HaveAlike, IsFeatureReordered, IsLineReordered, IsLinkReordered, IsPackageReordered, IsReordered}
 
 -- likes in the other direction
-turned_alike : {X : Type 0} (Like : X → X → Type 0) → ((x y : X) → Like x y → Like y x) → (xs ys : List X) → HaveAlike Like xs ys → HaveAlike Like ys xs
+pub turned_alike : {X : Type 0} (Like : X → X → Type 0) → ((x y : X) → Like x y → Like y x) → (xs ys : List X) → HaveAlike Like xs ys → HaveAlike Like ys xs
 turned_alike Like turn xs ys h = (
   λ y there. let (x, here, like) = h.1 y there in (x, here, turn x y like),
   λ x here. let (y, there, like) = h.0 x here in (y, there, turn x y like),
@@ -23,7 +23,7 @@ turned_alike Like turn xs ys h = (
 turned_feature : (f g : FeatureEntry) → IsFeatureReordered f g → IsFeatureReordered g f
 turned_feature f g h = record { name = sym h.name; enables = λ e. ((h.enables e).1, (h.enables e).0) }
 
-turned_package : (p q : Package) → IsPackageReordered p q → IsPackageReordered q p
+pub turned_package : (p q : Package) → IsPackageReordered p q → IsPackageReordered q p
 turned_package p q h = record {
   id = sym h.id;
   features = turned_alike IsFeatureReordered turned_feature p.features q.features h.features;
@@ -65,7 +65,7 @@ module _ (p q : Package) (like : IsPackageReordered p q) where
   optional_there name h = (like.optional name).0 h
 
 -- a line starts where its like does
-start_same : (l m : Link) (like : IsLinkReordered l m) (x y : Line) → IsLineReordered x y → line_start l x ≡ line_start m y
+pub start_same : (l m : Link) (like : IsLinkReordered l m) (x y : Line) → IsLineReordered x y → line_start l x ≡ line_start m y
 start_same l m like x y one =
     ap (λ t. cond x.optional (dep_of t l.name) (base_of t)) like.from ∙ ap (λ t. cond x.optional (dep_of m.from t) (base_of m.from)) like.name ∙ ap (λ b. cond b (dep_of m.from m.name) (base_of m.from)) one.optional
 
@@ -85,7 +85,7 @@ module _ (w v : Workspace) (apart : AllPairs (λ a b. a.id ≢ b.id) w.packages)
   member_there : (id : Text) → IsMember w id → IsMember v id
   member_there id h = (h.0, (same.members (record { package_id = id; path = h.0 })).0 h.1)
 
-  workspace_there : (id : Text) → IsInWorkspace w id → IsInWorkspace v id
+  pub workspace_there : (id : Text) → IsInWorkspace w id → IsInWorkspace v id
   workspace_there id h =
       let (q, there, like) = same.packages.0 h.0.0 h.0.1 in
       ((q, there, sym like.id ∙ h.0.2), member_there id h.1)

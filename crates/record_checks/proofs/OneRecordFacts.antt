@@ -23,7 +23,7 @@ module _ (g h : TableValue) (packages : g.packages ≡ h.packages) (links : g.li
   pub leads_too : (a b : Text) → Leads g a b → Leads h a b
   leads_too a b l = record { from = l.from; to = l.to; is_from = at_too a l.from l.is_from; is_to = at_too b l.to l.is_to; path = path_too l.from l.to l.path }
 
-  needed_too : g.workspace ≡ h.workspace → (v : ℕ) → IsNeeded g v → IsNeeded h v
+  pub needed_too : g.workspace ≡ h.workspace → (v : ℕ) → IsNeeded g v → IsNeeded h v
   needed_too workspace v n = record {
     member = n.member;
     is_member = subst (λ (w : WorkspaceDetails). Contains (map (λ (m : Member). place_among (ids_of h.packages) m.package_id) w.members) n.member) workspace

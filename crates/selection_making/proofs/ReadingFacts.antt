@@ -39,7 +39,7 @@ use Rattle.question_filters.specs.declared.scope.LinkScope.{LinkScope}
 use Rattle.question_filters.specs.declared.scope.LinkScope.TheVariants.{SwitchedOn, Declared}
 
 -- what is on is one list
-one_on : (q : Question) (a b : List FeatureValue) → AreOn q.workspace q.choice q.table a → AreOn q.workspace q.choice q.table b → a ≡ b
+pub one_on : (q : Question) (a b : List FeatureValue) → AreOn q.workspace q.choice q.table a → AreOn q.workspace q.choice q.table b → a ≡ b
 one_on q a b p o =
     let itself : IsAscendingOf feature_cmp a a = record { members = λ f. same (Contains a f); ascending = p.ascending } in
     let other : IsAscendingOf feature_cmp a b = record { members = λ f. (λ h. (p.members f).1 ((o.members f).0 h), λ h. (o.members f).1 ((p.members f).0 h)); ascending = o.ascending } in

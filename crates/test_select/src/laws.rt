@@ -1,6 +1,7 @@
 //! The laws of what the program answers from. Each stands, with its statement, at the crate that it speaks of; those of filters
 //! and of graphs are in the modules `laws` of `nextest_filtering`, `guppy_feature_graph` and `guppy_package_graph`.
 
+pub use account_explaining::laws::{accounts_read_back, explanations_read_back};
 pub use account_making::laws::lowest_accounts_agree;
 pub use demand_rules::laws::{demands_close_as_rules_do, what_is_chosen_leads_on};
 pub use feature_account::laws::{
@@ -13,8 +14,9 @@ pub use kept_records::laws::{
     workspace_packages_are_on,
 };
 pub use line_verdicts::laws::{edges_close_as_demands_do, edges_close_as_rules_do};
-pub use scope_laws::laws::{
-    accepted_texts_agree, declared_selections_agree, switched_dependencies_are_declared,
+pub use selection_laws::laws::{
+    accepted_texts_agree, declared_selections_agree, selection_order_is_free,
+    served_questions_are_answered, switched_dependencies_are_declared,
 };
 pub use selection_making::laws::{
     readings_say_the_same, reasons_say_what_is_selected, reports_agree,

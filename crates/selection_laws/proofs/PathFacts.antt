@@ -13,7 +13,7 @@ use Rattle.workspace_record.specs.declared.choice.PlatformTable.{PlatformTable}
 use Rattle.guppy_package_table.specs.Tables.{TableValue, ids_of, link_between, links_among}
 use Rattle.graph_switching.specs.LinesOn.{is_link_on, links_on, with_lines_on}
 use Rattle.nextest_filtering.specs.Contexts.{Leads}
-use Rattle.scope_laws.specs.Laws.{IsSwitchedOn}
+use Rattle.selection_laws.specs.Laws.{IsSwitchedOn}
 
 -- a path over some links is one over more
 module _ (fewer more : List NumberedLink) (among : (l : NumberedLink) → Contains fewer l → Contains more l) where

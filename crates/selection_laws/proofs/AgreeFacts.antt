@@ -14,8 +14,8 @@ use Rattle.selection_making.specs.declared.asked_binaries.AskedBinaries.{AskedBi
 use Rattle.selection_making.proofs.ReadingFacts.{one_followed, one_says_the_same}
 use Rattle.selection_making.proofs.SelectingFacts.{one_asked, one_report}
 use Rattle.question_filters.specs.declared.scope.LinkScope.TheVariants.{Declared}
-use Rattle.scope_laws.specs.Laws.{AreAvailableAlike, DeclaredSelectionsAgree, over_declared}
-use Rattle.scope_laws.proofs.PlainFacts.{asked_plain, chosen_plain, plain, plain_names}
+use Rattle.selection_laws.specs.Laws.{AreAvailableAlike, DeclaredSelectionsAgree, over_declared}
+use Rattle.selection_laws.proofs.PlainFacts.{asked_plain, chosen_plain, plain, plain_names}
 
 module _ (w : Workspace) (texts : List Text) (asks : AskedBinaries) (choice other : Choice) (table known : PlatformTable) where
   -- with nothing said to be on, the readings of both questions are one but for their patterns

@@ -5,9 +5,9 @@ use Rattle.workspace_record.specs.declared.choice.PlatformTable.{PlatformTable}
 use Rattle.nextest_filtering.specs.Contexts.{ContextValue}
 use Rattle.nextest_filter_queries.specs.NameTests.{NameTest}
 use Rattle.nextest_filtering.specs.Meaning.{IsDependency, IsDependent, IsMatched}
-use Rattle.scope_laws.specs.Laws.{IsSwitchedOn, SwitchedDependenciesAreDeclared}
-use Rattle.scope_laws.proofs.PathFacts.{leads_declared}
-use Rattle.scope_laws.proofs.laws.switched_dependencies_are_declared.Goals as goal
+use Rattle.selection_laws.specs.Laws.{IsSwitchedOn, SwitchedDependenciesAreDeclared}
+use Rattle.selection_laws.proofs.PathFacts.{leads_declared}
+use Rattle.selection_laws.proofs.laws.switched_dependencies_are_declared.Goals as goal
 
 module _ (switched declared : ContextValue) (on : List FeatureValue) (table : PlatformTable) (test : NameTest) (id : Text) (is_on : IsSwitchedOn declared.graph on table switched.graph) (listed : (p : Text × Text) → Contains switched.packages p → Contains declared.packages p) where
   matched : (start : Text) → IsMatched switched test start → IsMatched declared test start

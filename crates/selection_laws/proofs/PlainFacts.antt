@@ -24,7 +24,7 @@ use Rattle.selection_making.specs.Selecting.{IsAsked, IsChosen, IsLetThrough}
 use Rattle.selection_making.specs.declared.asked_binaries.AskedBinaries.{AskedBinaries}
 use Rattle.selection_making.specs.declared.asked_binaries.AskedBinaries.TheVariants.{LetThrough, Available}
 use Rattle.record_rules.specs.Binaries.{Binary}
-use Rattle.scope_laws.specs.Laws.{NameNoFeature, names_feature}
+use Rattle.selection_laws.specs.Laws.{NameNoFeature, names_feature}
 
 -- the context with nothing said to be on
 abbrev pub plain_context : ContextValue → ContextValue

@@ -1,4 +1,0 @@
-mod AcceptedFacts
-mod AgreeFacts
-mod PathFacts
-mod PlainFacts

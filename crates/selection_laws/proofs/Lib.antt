@@ -1,0 +1,9 @@
+mod AcceptedFacts
+mod AgreeFacts
+mod OrderContextFacts
+mod OrderFacts
+mod OrderLinkFacts
+mod OrderPathFacts
+mod PathFacts
+mod PlainFacts
+mod ServedFacts

@@ -1,0 +1,41 @@
+-- Records that differ in the order of what they list alone.
+use Rattle.std.specs.Prelude.{◌≡◌, ◌↔◌}
+use Rattle.workspace_record.specs.Records.{Package, Text, Workspace}
+use Rattle.nextest_filter_faults.specs.declared.filterset_kind.FiltersetKind.{FiltersetKind}
+use Rattle.record_checks.specs.FilterTexts.{IsAcceptedText}
+use Rattle.kept_records.specs.Laws.{HaveAlike, HaveTheSame, IsLinkReordered}
+use Rattle.kept_records.specs.Laws as features
+use Rattle.selection_making.specs.Laws.{HasByteFeatures, HasByteTexts}
+use Rattle.selection_making.specs.Questions.{Question}
+use Rattle.selection_making.specs.Readings.{AreReadings, Readings}
+use Rattle.selection_laws.specs.Laws.{Agree}
+
+-- packages of one id and name with the same targets, features and optional dependencies, in whichever order
+pub record IsPackageReordered (p q : Package) : Type 0 where
+  pub itself : features.IsPackageReordered p q
+  pub name : p.name ≡ q.name
+  pub targets : HaveTheSame p.targets q.targets
+
+-- the records have the same packages, links and members, in whichever order, also of what stands in them, the same groups and the same default filter
+pub record IsReordered (w v : Workspace) : Type 0 where
+  pub packages : HaveAlike IsPackageReordered w.packages v.packages
+  pub links : HaveAlike IsLinkReordered w.links v.links
+  pub members : HaveTheSame w.workspace.members v.workspace.members
+  pub groups : w.groups ≡ v.groups
+  pub default_filter : w.default_filter ≡ v.default_filter
+
+-- two questions, each as it is read, accept the same texts, have one report over the same listings, and ask for the same binaries
+pub record AnswerAlike (q p : Question) (r s : Readings) : Type 0 where
+  pub accepted : (kind : FiltersetKind) (text : Text) → IsAcceptedText r.context r.groups kind text ↔ IsAcceptedText s.context s.groups kind text
+  pub agree : Agree q p r s
+
+-- another order of packages, targets, features, entries, optional dependencies, links, lines and members changes neither what is accepted nor what is chosen and asked
+abbrev pub SelectionOrderIsFree : Type 0
+SelectionOrderIsFree =
+    (q : Question) (v : Workspace) (r s : Readings)
+    → IsReordered q.workspace v
+    → HasByteTexts q.workspace
+    → HasByteFeatures q
+    → AreReadings q r
+    → AreReadings (record q { workspace = v }) s
+    → AnswerAlike q (record q { workspace = v }) r s
