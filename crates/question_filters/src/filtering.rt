@@ -24,7 +24,7 @@ use guppy_package_graph::{PackageGraph, PackageId};
 use nextest_filtering::errors::FiltersetError;
 use nextest_filtering::{CompiledExpr, FiltersetKind, FiltersetLeaf, KnownGroups, ParseContext};
 use record_checks::{
-    RecordFilters, SelectError, compiled_text, context_over, declared_graph, known_groups,
+    CheckedRecord, RecordFilters, SelectError, compiled_text, context_over, known_groups,
     record_filters,
 };
 use std::alloc::{AllocError, Global};
@@ -35,18 +35,16 @@ use workspace_record::{PlatformTable, WorkspaceRecord};
 /// are on.
 pub fn filters_over(
     alloc: Global,
-    record: &WorkspaceRecord,
+    checked: &CheckedRecord<'_>,
     on: &FeaturesOn,
     table: &PlatformTable,
     scope: LinkScope,
     texts: &[&str],
 ) -> Result<QuestionFilters, SelectError>
-    ensures { Filters (λ cx. HasNamesOf record.now cx × IsFollowedIn scope record.now on.now table.now cx.graph × AreNamedOn on.now cx.on) record.now (map (λ t. t.now) texts.now) result }
+    ensures filters { Filters (λ cx. HasNamesOf checked.now cx × IsFollowedIn scope checked.now on.now table.now cx.graph × AreNamedOn on.now cx.on) checked.now (map (λ t. t.now) texts.now) result }
 {
-    match declared_graph(alloc, record) {
-        Ok(declared) => in_scope(alloc, record, on, table, scope, texts, &declared),
-        Err(refused) => Err(SelectError::from(refused)),
-    }
+    let (record, declared) = (checked.record(), checked.graph());
+    in_scope(alloc, record, on, table, scope, texts, declared)
 }
 
 fn in_scope(

@@ -12,3 +12,8 @@ IsChecked w (Ok _) = (fault_of w ≡ None) × HasAcceptedFilters w
 IsChecked w (Err (Broken rule place)) = fault_of w ≡ Some (rule, place)
 IsChecked w (Err (Filter place errors)) = (fault_of w ≡ None) × RefusesFilter w place errors
 IsChecked w (Err Memory) = Unit {0}
+
+-- the record that was tested, where the rules are kept and the filters accepted; else why it is refused
+abbrev pub ChecksRecord : Workspace → Result Workspace RecordError → Type 0
+ChecksRecord w (Ok checked) = (checked ≡ w) × IsChecked w (Ok tt)
+ChecksRecord w (Err e) = IsChecked w (Err e)

@@ -1,16 +1,14 @@
 //! Whether a record keeps the rules.
 
-ghost use Rattle.std.specs.Prelude.{◌≡◌, None};
-ghost use Rattle.record_rules.specs.RecordRules.{fault_of};
 ghost use Rattle.record_checks.specs.Checks.{IsChecked};
 ghost use Rattle.record_checks.specs.Compiling.{AnswersFilters, ChecksFilters};
 ghost use Rattle.record_checks.specs.Contexts.{IsDeclaredGraph};
 
+use crate::checked_record::CheckedRecord;
 use crate::compiled_filters::record_filters;
 use crate::graph::{context_over, graph_of};
 use crate::record_error::RecordError;
 use guppy_package_graph::{PackageGraph, PackageGraphError};
-use record_rules::fault_of;
 use std::alloc::Global;
 use workspace_record::WorkspaceRecord;
 
@@ -19,18 +17,8 @@ use workspace_record::WorkspaceRecord;
 pub fn check_record(alloc: Global, record: &WorkspaceRecord) -> Result<(), RecordError>
     ensures checked { IsChecked record.now result }
 {
-    if let Some((rule, place)) = fault_of(alloc, record)? {
-        return Err(RecordError::Broken { rule, place });
-    }
-    check_filters(alloc, record)
-}
-
-/// Whether the filters of the record are accepted.
-fn check_filters(alloc: Global, record: &WorkspaceRecord) -> Result<(), RecordError>
-    ensures { ChecksFilters record.now result }
-{
-    match declared_graph(alloc, record) {
-        Ok(graph) => check_over(alloc, record, &graph),
+    match CheckedRecord::of(alloc, record) {
+        Ok(_) => Ok(()),
         Err(refused) => Err(refused),
     }
 }
@@ -46,7 +34,8 @@ pub fn declared_graph(alloc: Global, record: &WorkspaceRecord) -> Result<Package
     }
 }
 
-fn check_over(
+/// Whether the filters of the record, whose packages have this graph, are accepted.
+pub(crate) fn check_filters(
     alloc: Global,
     record: &WorkspaceRecord,
     graph: &PackageGraph,

@@ -1,6 +1,7 @@
 //! The graph of a record's packages, and the packages over which its filters are matched.
 
 ghost use Rattle.std.specs.Prelude.{◌≡◌, IfErr, IfOk, map};
+ghost use Rattle.package_rules.specs.Kept.{AreKept};
 ghost use Rattle.guppy_package_table.specs.Refusals.{IsRefusal};
 ghost use Rattle.guppy_package_table.specs.Tables.{ids_of};
 ghost use Rattle.nextest_filtering.specs.Contexts.{IsContextOf};
@@ -15,6 +16,7 @@ use workspace_record::WorkspaceRecord;
 /// The package graph of the record, or the first rule on packages, links and members that it breaks.
 pub fn graph_of(alloc: Global, record: &WorkspaceRecord) -> Result<PackageGraph, PackageGraphError>
     ensures built { IfOk result (IsDeclaredGraph record.now) }
+    ensures kept { IfOk result (λ _. AreKept record.now.packages record.now.links record.now.workspace) }
     ensures refused { IfErr result (IsRefusal record.now.packages record.now.links record.now.workspace) }
 {
     let copy = record.copy(alloc)?;

@@ -9,5 +9,5 @@ mod group_rules;
 mod optional_lines;
 mod record_rules;
 
-pub use crate::record_rules::fault_of;
+pub use crate::record_rules::{fault_of, further_fault_of};
 pub use package_rules::RecordRule;

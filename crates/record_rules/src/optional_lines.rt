@@ -1,24 +1,13 @@
 //! The rule on links with optional lines.
 
-ghost use Rattle.std.specs.Prelude.{◌≡◌, IfOk, not, position};
+ghost use Rattle.std.specs.Prelude.{◌≡◌, not, position};
 ghost use Rattle.record_rules.specs.RecordRules.{has_optional_line, has_optional_name, names_its_optional_lines};
 
 use record_index::RecordIndex;
-use std::alloc::{AllocError, Global};
-use workspace_record::{LinkRecord, WorkspaceRecord};
+use workspace_record::LinkRecord;
 
 /// The first link with an optional line whose name is not among its source's optional dependencies.
-pub(crate) fn first_unnamed_link(
-    alloc: Global,
-    record: &WorkspaceRecord,
-) -> Result<Option<usize>, AllocError>
-    ensures { IfOk result (λ place. place ≡ position (λ l. not (names_its_optional_lines record.now l)) record.now.links) }
-{
-    let index = RecordIndex::of(alloc, record)?;
-    Ok(first_unnamed(&index))
-}
-
-fn first_unnamed(index: &RecordIndex<'_>) -> Option<usize>
+pub(crate) fn first_unnamed_link(index: &RecordIndex<'_>) -> Option<usize>
     ensures { result ≡ position (λ l. not (names_its_optional_lines index.now l)) index.now.links }
 {
     let row = index.record();

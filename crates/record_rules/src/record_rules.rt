@@ -1,14 +1,18 @@
 //! The first rule that a record breaks.
 
-ghost use Rattle.std.specs.Prelude.{◌≡◌, IfOk};
+ghost use Rattle.std.specs.Prelude.{◌≡◌, IfOk, map};
 ghost use Rattle.package_rules.specs.Rules.{first_fault};
-ghost use Rattle.record_rules.specs.RecordRules.{further_broken, fault_of};
+ghost use Rattle.record_rules.specs.Binaries.{binaries};
+ghost use Rattle.record_rules.specs.BinaryView.{binary_view};
+ghost use Rattle.record_rules.specs.RecordRules.{further_broken, further_rules, fault_of};
 
+use crate::binaries::{TestBinary, binaries};
 use crate::binary_rules::{first_blank_binary, first_repeated_binary};
 use crate::feature_rules::{first_lacking_package, first_repeated_feature};
 use crate::group_rules::first_bad_group;
 use crate::optional_lines::first_unnamed_link;
 use package_rules::{RecordRule, first_broken_rule};
+use record_index::RecordIndex;
 use std::alloc::{AllocError, Global};
 use workspace_record::WorkspaceRecord;
 
@@ -35,19 +39,45 @@ pub fn fault_of(
     if broken.is_some() {
         Ok(broken)
     } else {
-        first_fault(alloc, &FURTHER_RULES, record)
+        further_fault(alloc, record)
     }
+}
+
+fn further_fault(
+    alloc: Global,
+    record: &WorkspaceRecord,
+) -> Result<Option<(RecordRule, usize)>, AllocError>
+    ensures { IfOk result (λ fault. fault ≡ first_fault (further_broken record.now) further_rules) }
+{
+    let index = RecordIndex::of(alloc, record)?;
+    let all = binaries(alloc, record)?;
+    further_fault_of(alloc, &index, &all)
+}
+
+/// The first rule on optional lines, features, binaries and names of groups that the record breaks, with
+/// its first place. The record is given with what is found in it at once, and with its test binaries.
+pub fn further_fault_of(
+    alloc: Global,
+    index: &RecordIndex<'_>,
+    all: &[TestBinary<'_>],
+) -> Result<Option<(RecordRule, usize)>, AllocError>
+    requires binaries { map binary_view all.now ≡ binaries index.now }
+    ensures first { IfOk result (λ fault. fault ≡ first_fault (further_broken index.now) further_rules) }
+{
+    first_fault(alloc, &FURTHER_RULES, index, all)
 }
 
 fn first_fault(
     alloc: Global,
     rules: &[RecordRule],
-    record: &WorkspaceRecord,
+    index: &RecordIndex<'_>,
+    all: &[TestBinary<'_>],
 ) -> Result<Option<(RecordRule, usize)>, AllocError>
-    ensures { IfOk result (λ fault. fault ≡ first_fault (further_broken record.now) rules.now) }
+    requires { map binary_view all.now ≡ binaries index.now }
+    ensures { IfOk result (λ fault. fault ≡ first_fault (further_broken index.now) rules.now) }
 {
     for rule in rules {
-        if let Some(place) = further_broken(alloc, *rule, record)? {
+        if let Some(place) = further_broken(alloc, *rule, index, all)? {
             return Ok(Some((*rule, place)));
         }
     }
@@ -59,15 +89,18 @@ fn first_fault(
 fn further_broken(
     alloc: Global,
     rule: RecordRule,
-    record: &WorkspaceRecord,
+    index: &RecordIndex<'_>,
+    all: &[TestBinary<'_>],
 ) -> Result<Option<usize>, AllocError>
-    ensures { IfOk result (λ place. place ≡ further_broken record.now rule) }
+    requires { map binary_view all.now ≡ binaries index.now }
+    ensures { IfOk result (λ place. place ≡ further_broken index.now rule) }
 {
+    let record = index.record();
     match rule {
-        RecordRule::OptionalLines => first_unnamed_link(alloc, record),
+        RecordRule::OptionalLines => Ok(first_unnamed_link(index)),
         RecordRule::FeatureNames => first_repeated_feature(alloc, &record.packages),
-        RecordRule::BinaryIds => first_repeated_binary(alloc, record),
-        RecordRule::BinaryIdTexts => first_blank_binary(alloc, record),
+        RecordRule::BinaryIds => first_repeated_binary(alloc, all),
+        RecordRule::BinaryIdTexts => Ok(first_blank_binary(all)),
         RecordRule::RequiredFeatures => first_lacking_package(alloc, &record.packages),
         RecordRule::Groups => first_bad_group(alloc, &record.groups),
         RecordRule::PackageIds

@@ -21,7 +21,7 @@ use Rattle.record_checks.specs.Alike.{AreAlike}
 use Rattle.record_checks.specs.FilterTexts.{IsAcceptedText}
 use Rattle.record_checks.specs.Meaning.{DefaultGivesIn, DefaultHoldsIn, HoldsIn, MayHoldIn}
 use Rattle.record_checks.specs.RecordFilters.{AreReadingsOf, FilterReadings, IsReadDefault, IsReadGroup}
-use Rattle.record_checks.specs.Switching.{AreOn}
+use Rattle.feature_questions.specs.Switching.{AreOn}
 use Rattle.record_checks.proofs.OneReadingFacts.{AreOneReading}
 use Rattle.record_checks.proofs.OneRecordFacts.{byte_packages}
 use Rattle.question_filters.specs.Following.{IsFollowedIn}

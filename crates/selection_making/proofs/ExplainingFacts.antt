@@ -13,7 +13,7 @@ use Rattle.nextest_filtering.specs.Contexts.{ContextValue}
 use Rattle.record_rules.specs.Binaries.{Binary, binaries}
 use Rattle.record_checks.specs.Contexts.{HasNamesOf}
 use Rattle.record_checks.specs.Meaning.{DefaultGivesIn, DefaultHoldsIn, HoldsIn, MayHoldIn}
-use Rattle.record_checks.specs.Switching.{AreOn}
+use Rattle.feature_questions.specs.Switching.{AreOn}
 use Rattle.record_checks.specs.declared.select_error.SelectError.{SelectError}
 use Rattle.record_checks.specs.declared.select_error.SelectError.TheVariants.{Record, UnknownExtra, Filter, Lister, BadListing, Memory}
 use Rattle.record_checks.proofs.MeaningFacts.{default_gives_iff, default_holds_iff, gives_iff, holds_iff}
@@ -88,6 +88,7 @@ module _ (q : Question) (id : Text) (test : Option Text) (old : Shown) where
         binary_reason (IsCompiled cx) (MayHoldIn cx r.0 a) (λ c. SomeAnswersGive (MayBe filters.filters.default a) c true) (λ f c h. gives_iff cx r.0 filters.filters r.2 a f c h true) texts.0 filters.texts texts.2 (DefaultGives filters.filters.default a true) (DefaultGivesIn cx r.0 a true) (default_gives_iff cx r.0 filters.filters r.2 a true) why h
 
     -- and by the compiled filters
-    pub explained_by : (given : Bool) → (IsTrue given ↔ (0 < length q.texts)) → (new : Shown) (result : Result Reason SelectError) → TellsAmong (IsReasonOfTest filters (IsTrue given)) (IsReasonOfBinary filters) (λ f. Contains on f) (binaries q.workspace) id test old result new → Explains q id test old result new
-    explained_by given says new result h =
+    pub explained_by : (given : Bool) → (IsTrue given ↔ (0 < length q.texts)) → (all : List Binary) → all ≡ binaries q.workspace → (new : Shown) (result : Result Reason SelectError) → TellsAmong (IsReasonOfTest filters (IsTrue given)) (IsReasonOfBinary filters) (λ f. Contains on f) all id test old result new → Explains q id test old result new
+    explained_by given says all same new result told =
+        let h = subst (λ (bs : List Binary). TellsAmong (IsReasonOfTest filters (IsTrue given)) (IsReasonOfBinary filters) (λ f. Contains on f) bs id test old result new) same told in
         explained read (is_answered q on are_on filters cx names followed are) new result (tells_alike (IsReasonOfTest filters (IsTrue given)) (IsReasonOfTestIn q read) (IsReasonOfBinary filters) (IsReasonOfBinaryIn q read) (of_test given says) of_binary (λ f. Contains on f) (IsFeatureOn q) are_on.members (binaries q.workspace) id test old new result h)

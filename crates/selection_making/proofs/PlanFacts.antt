@@ -1,10 +1,11 @@
 -- From the parts of a plan to what the question says of them.
-use Rattle.std.proofs.Common.{◌≡◌, List, map, sym, subst, ◌↔◌, Contains, Err, string_bytes}
+use Rattle.std.proofs.Common.{◌≡◌, ◌∙◌, List, map, ap, sym, subst, ◌↔◌, Contains, Result, Ok, Err, string_bytes}
 use Rattle.std.specs.List.Sorted.{IsStrictlySortedBy}
 use Rattle.list_facts.specs.Ascending.{IsAscendingOf, text_cmp}
 use Rattle.list_facts.proofs.Lists.{map-map}
 use Rattle.list_facts.proofs.Membership.{Contains-map, Contains-map_cases}
 use Rattle.workspace_record.specs.Features.{FeatureValue}
+use Rattle.workspace_record.specs.Records.{Workspace}
 use Rattle.record_rules.specs.Binaries.{Binary, binaries}
 use Rattle.record_rules.specs.BinaryView.{binary_view}
 use Rattle.record_rules.specs.declared.binaries.TestBinary.{TestBinary}
@@ -17,7 +18,7 @@ use Rattle.nextest_filtering.specs.Filters.{FilterLeaf}
 use Rattle.record_checks.specs.Alike.{AreAlike}
 use Rattle.record_checks.specs.Contexts.{HasNamesOf}
 use Rattle.record_checks.specs.RecordFilters.{AreMadeOf, AreReadingsOf, FilterReadings}
-use Rattle.record_checks.specs.Switching.{AreOn}
+use Rattle.feature_questions.specs.Switching.{AreOn}
 use Rattle.record_checks.proofs.MeaningFacts.{readings_of}
 use Rattle.record_checks.specs.declared.record_error.RecordError.TheVariants as refused
 use Rattle.record_checks.specs.declared.select_error.SelectError.{SelectError}
@@ -30,6 +31,7 @@ use Rattle.question_filters.specs.QuestionFilters.{CompiledQuestion}
 use Rattle.selection_making.specs.Questions.{Question}
 use Rattle.question_filters.specs.Following.{IsFollowedIn}
 use Rattle.question_filters.specs.NamedFeatures.{AreNamedOn}
+use Rattle.question_filters.specs.declared.question_filters.QuestionFilters.{QuestionFilters}
 use Rattle.selection_making.specs.Readings.{AreReadAs, AreReadings, Readings}
 use Rattle.selection_making.specs.Selecting.{IsAnswered, IsAsked, IsAvailableBinary, IsWanted}
 use Rattle.selection_making.proofs.PassFacts.{may_iff, pass_iff, texts_accepted, texts_read}
@@ -42,6 +44,23 @@ available_in wider b h name inside = wider _ (h name inside)
 -- the ids of binaries, as the code has them and as contracts do
 pub same_ids : (bs : List TestBinary) → map (λ b. b.id) (map binary_view bs) ≡ map (λ b. string_bytes b.id) bs
 same_ids bs = map-map (λ (b : Binary). b.id) binary_view bs
+
+-- what is said of the record that was handed on is said of the question's
+module _ (q : Question) (v : Workspace) (same : v ≡ q.workspace) (on : List FeatureValue) where
+  pub on_of_question : AreOn v q.choice q.table on → AreOn q.workspace q.choice q.table on
+  on_of_question = subst (λ (w : Workspace). AreOn w q.choice q.table on) same
+
+  abbrev FiltersOf : Workspace → Result QuestionFilters SelectError → Type 0
+  FiltersOf w = Filters (λ cx. HasNamesOf w cx × IsFollowedIn q.scope w on q.table cx.graph × AreNamedOn on cx.on) w q.texts
+
+  pub filters_of_question : (filters : QuestionFilters) → FiltersOf v (Ok filters) → FiltersOf q.workspace (Ok filters)
+  filters_of_question filters = subst (λ (w : Workspace). FiltersOf w (Ok filters)) same
+
+  refusal_of_question : (e : SelectError) → FiltersOf v (Err e) → FiltersOf q.workspace (Err e)
+  refusal_of_question e = subst (λ (w : Workspace). FiltersOf w (Err e)) same
+
+  pub binaries_of_question : (all : List Binary) → all ≡ binaries v → all ≡ binaries q.workspace
+  binaries_of_question all are = are ∙ ap binaries same
 
 module _ (q : Question) (on : List FeatureValue) (are_on : AreOn q.workspace q.choice q.table on) where
   abbrev IsIn : FeatureValue → Type 0
@@ -150,3 +169,7 @@ module _ (q : Question) (on : List FeatureValue) (are_on : AreOn q.workspace q.c
   plan_err (Lister id) h = absurd h
   plan_err (BadListing id fault) h = absurd h
   plan_err Memory h = tt
+
+-- the same of the record that was handed on
+pub plan_err_of_question : (q : Question) (v : Workspace) → v ≡ q.workspace → (on : List FeatureValue) → AreOn v q.choice q.table on → (e : SelectError) → Filters (λ cx. HasNamesOf v cx × IsFollowedIn q.scope v on q.table cx.graph × AreNamedOn on cx.on) v q.texts (Err e) → Plans q (Err e)
+plan_err_of_question q v same on are_on e h = plan_err q on (on_of_question q v same on are_on) e (refusal_of_question q v same on e h)

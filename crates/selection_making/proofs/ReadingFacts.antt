@@ -22,7 +22,7 @@ use Rattle.nextest_filtering.proofs.AlikeFacts.{AlikeFormula}
 use Rattle.nextest_filtering.proofs.ByteFacts.{bytes_by_test, bytes_joined}
 use Rattle.nextest_filtering.proofs.SameFacts.{same}
 use Rattle.record_checks.specs.FilterTexts.{IsFilterOf}
-use Rattle.record_checks.specs.Switching.{AreOn}
+use Rattle.feature_questions.specs.Switching.{AreOn}
 use Rattle.record_checks.proofs.AlikeFacts.{alike_back, alike_there}
 use Rattle.record_checks.proofs.OneReadingFacts.{AreOneReading, all_alike, default_gives_alike, default_holds_alike, holds_in_alike, may_hold_alike, other_way, texts_alike}
 use Rattle.record_checks.proofs.OneRecordFacts.{byte_packages, one_context}

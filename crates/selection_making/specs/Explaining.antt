@@ -5,7 +5,7 @@ use Rattle.test_lister.specs.Listers.{Shown}
 use Rattle.record_rules.specs.Binaries.{Binary, binaries}
 use Rattle.record_checks.specs.Checks.{IsChecked}
 use Rattle.record_checks.specs.Meaning.{DefaultGivesIn, HoldsIn, MayHoldIn}
-use Rattle.record_checks.specs.Switching.{IsRefused, unknown_extra}
+use Rattle.feature_questions.specs.Switching.{IsRefused, unknown_extra}
 use Rattle.record_checks.specs.declared.select_error.SelectError.{SelectError}
 use Rattle.record_checks.specs.declared.select_error.SelectError.TheVariants.{Record, UnknownExtra, Filter, Memory}
 use Rattle.selection_making.specs.Queries.{binary_asked, test_asked}

@@ -6,7 +6,7 @@ use Rattle.record_rules.specs.Binaries.{Binary}
 use Rattle.record_rules.specs.BinaryView.{binary_view}
 use Rattle.feature_switching.specs.OnLines.{IsAvailable}
 use Rattle.record_checks.specs.Checks.{IsChecked}
-use Rattle.record_checks.specs.Switching.{IsRefused, unknown_extra}
+use Rattle.feature_questions.specs.Switching.{IsRefused, unknown_extra}
 use Rattle.record_checks.specs.declared.select_error.SelectError.{SelectError}
 use Rattle.record_checks.specs.declared.select_error.SelectError.TheVariants.{Record, UnknownExtra, Filter, Lister, BadListing, Memory}
 use Rattle.selection_making.specs.Queries.{binary_asked, test_asked}

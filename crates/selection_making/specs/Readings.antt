@@ -12,7 +12,7 @@ use Rattle.record_checks.specs.Contexts.{HasNamesOf}
 use Rattle.record_checks.specs.FilterTexts.{IsFilterOf}
 use Rattle.record_checks.specs.Groups.{AreGroupsOf}
 use Rattle.record_checks.specs.RecordFilters.{AreReadingsOf, FilterReadings}
-use Rattle.record_checks.specs.Switching.{AreOn}
+use Rattle.feature_questions.specs.Switching.{AreOn}
 use Rattle.selection_making.specs.Questions.{Question}
 use Rattle.question_filters.specs.Following.{IsFollowedIn}
 use Rattle.question_filters.specs.NamedFeatures.{AreNamedOn}

@@ -20,7 +20,7 @@ use Rattle.record_checks.specs.Contexts.{HasNamesOf}
 use Rattle.record_checks.specs.FilterTexts.{IsAcceptedText, IsRefusedText}
 use Rattle.record_checks.specs.Groups.{AreGroupsOf}
 use Rattle.record_checks.specs.Meaning.{DefaultGivesIn, DefaultHoldsIn, HoldsIn, MayHoldIn}
-use Rattle.record_checks.specs.Switching.{IsRefused, unknown_extra}
+use Rattle.feature_questions.specs.Switching.{IsRefused, unknown_extra}
 use Rattle.record_checks.specs.declared.select_error.SelectError.{SelectError}
 use Rattle.record_checks.specs.declared.select_error.SelectError.TheVariants.{Record, UnknownExtra, Filter, Lister, BadListing, Memory}
 use Rattle.selection_making.specs.Queries.{binary_asked, test_asked}

@@ -4,7 +4,6 @@ ghost use Rattle.std.specs.Prelude.{◌≡◌, ◌<◌, IfOk, IsTrue, Contains, 
 ghost use Rattle.list_facts.specs.Texts.{texts};
 ghost use Rattle.nextest_filter_queries.specs.Queries.{test_of};
 ghost use Rattle.question_filters.specs.QuestionFilters.{question_view};
-ghost use Rattle.record_rules.specs.Binaries.{binaries};
 ghost use Rattle.record_rules.specs.BinaryView.{binary_view};
 ghost use Rattle.selection_making.specs.CompiledReasons.{IsReasonOfBinary, IsReasonOfListed, IsReasonOfTest, chosen_by};
 ghost use Rattle.selection_making.specs.Queries.{binary_asked, test_asked};
@@ -16,6 +15,7 @@ use crate::asked_queries::AskedBinary;
 use crate::asking::info_of;
 use crate::finding::{binary_with_id, first_off};
 use crate::reason::{BinaryReason, Reason, TestReason};
+use feature_questions::{checked_question, features_on_in};
 use feature_switching::FeaturesOn;
 use guppy_row_parts::contains_text;
 use nextest_filtering::{TestCaseName, TestQuery};
@@ -23,8 +23,8 @@ use question_filters::{
     LinkScope, QuestionFilters, default_holds, default_may_pass, filters_over, first_that_holds,
     some_may_pass,
 };
-use record_checks::{SelectError, features_on};
-use record_rules::binaries::{TestBinary, binaries};
+use record_checks::SelectError;
+use record_rules::binaries::TestBinary;
 use std::alloc::{AllocError, Global};
 use test_lister::{AskError, Listing, TestLister, ask_each};
 use workspace_record::{FeatureChoice, PlatformTable, WorkspaceRecord};
@@ -47,16 +47,18 @@ pub fn why<'a>(
 ) -> Result<Reason<'a>, SelectError>
     ensures explains { Explains (record { workspace = «record».entry.now; choice = choice.now; table = table.now; scope = scope; texts = map (λ t. t.now) texts.now; asks = LetThrough }) id.entry.now (option_map (λ t. t.now) test.entry) (shown lister.old) result (shown lister.new) }
 {
-    let on = features_on(alloc, record, choice, table)?;
-    let filters = filters_over(alloc, record, &on, table, scope, texts)?;
+    let checked = checked_question(alloc, record, choice)?;
+    let on = features_on_in(alloc, &checked, choice, table)?;
+    let filters = filters_over(alloc, &checked, &on, table, scope, texts)?;
     let are_given = !texts.is_empty();
-    over(alloc, record, &on, &filters, are_given, id, test, lister)
+    let all = checked.binaries();
+    among(alloc, all, &on, &filters, are_given, id, test, lister)
 }
 
-/// The same by the features that are on, and the filters.
-fn over<'a>(
+/// The same by the test binaries, the features that are on, and the filters.
+fn among<'a>(
     alloc: Global,
-    record: &'a WorkspaceRecord,
+    all: &[TestBinary<'a>],
     on: &FeaturesOn,
     filters: &QuestionFilters,
     are_given: bool,
@@ -64,10 +66,9 @@ fn over<'a>(
     test: Option<&str>,
     lister: &mut dyn TestLister,
 ) -> Result<Reason<'a>, SelectError>
-    ensures { TellsAmong (IsReasonOfTest (question_view filters.now) (IsTrue are_given)) (IsReasonOfBinary (question_view filters.now)) (λ f. Contains on.now f) (binaries record.entry.now) id.entry.now (option_map (λ t. t.now) test.entry) (shown lister.old) result (shown lister.new) }
+    ensures { TellsAmong (IsReasonOfTest (question_view filters.now) (IsTrue are_given)) (IsReasonOfBinary (question_view filters.now)) (λ f. Contains on.now f) (map binary_view all.entry.now) id.entry.now (option_map (λ t. t.now) test.entry) (shown lister.old) result (shown lister.new) }
 {
-    let all = binaries(alloc, record)?;
-    match binary_with_id(&all, id) {
+    match binary_with_id(all, id) {
         Some(binary) => of_binary(alloc, on, filters, are_given, binary, test, lister),
         None => Ok(Reason::NoBinary(id)),
     }

@@ -2,7 +2,6 @@
 
 ghost use Rattle.std.specs.Prelude.{◌↔◌, IfOk, IsTrue, map, Contains, string_bytes};
 ghost use Rattle.list_facts.specs.Ascending.{IsAscendingOf, text_cmp};
-ghost use Rattle.record_rules.specs.Binaries.{binaries};
 ghost use Rattle.record_rules.specs.BinaryView.{binary_view};
 ghost use Rattle.record_rules.specs.declared.binaries.TestBinary.{TestBinary};
 ghost use Rattle.selection_making.specs.Kept.{AreThose};
@@ -13,11 +12,12 @@ ghost use Rattle.selection_making.specs.Questions.{WantedIn};
 
 use crate::asked_binaries::AskedBinaries;
 use crate::asked_queries::AskedBinary;
+use feature_questions::{checked_question, features_on_in};
 use feature_switching::FeaturesOn;
 use feature_switching::availability::is_available;
 use question_filters::{LinkScope, QuestionFilters, filters_over, may_pass};
-use record_checks::{SelectError, features_on};
-use record_rules::binaries::{TestBinary, binaries};
+use record_checks::SelectError;
+use record_rules::binaries::TestBinary;
 use std::alloc::{AllocError, Global};
 use workspace_record::{FeatureChoice, PlatformTable, WorkspaceRecord};
 
@@ -48,24 +48,26 @@ pub(crate) fn make_plan<'r>(
 ) -> Result<Plan<'r>, SelectError>
     ensures { Plans (record { workspace = record.entry.now; choice = choice.now; table = table.now; scope = scope; texts = map (λ t. t.now) texts.now; asks = asks }) result }
 {
-    let on = features_on(alloc, record, choice, table)?;
-    let filters = filters_over(alloc, record, &on, table, scope, texts)?;
-    let asked = sorted_binaries(let_through(alloc, record, &on, &filters, asks)?)?;
+    let checked = checked_question(alloc, record, choice)?;
+    let on = features_on_in(alloc, &checked, choice, table)?;
+    let filters = filters_over(alloc, &checked, &on, table, scope, texts)?;
+    let all = checked.into_binaries();
+    let asked = sorted_binaries(let_through(alloc, all, &on, &filters, asks)?)?;
     Ok(Plan { filters, asked })
 }
 
-/// The available binaries that are wanted, in the record's order.
+/// Those of the binaries that are available and wanted, in their order.
 fn let_through<'r>(
     alloc: Global,
-    record: &'r WorkspaceRecord,
+    all: Vec<TestBinary<'r>>,
     on: &FeaturesOn,
     filters: &QuestionFilters,
     asks: AskedBinaries,
 ) -> Result<Vec<TestBinary<'r>>, AllocError>
-    ensures { IfOk result (λ v. AreThose (MayMatch asks (λ f. Contains on.now f) (question_view filters.now)) (binaries record.entry.now) (map binary_view v.items)) }
+    ensures { IfOk result (λ v. AreThose (MayMatch asks (λ f. Contains on.now f) (question_view filters.now)) (map binary_view all.entry.items) (map binary_view v.items)) }
 {
     let mut kept: Vec<TestBinary<'r>> = Vec::new(alloc);
-    for binary in binaries(alloc, record)? {
+    for binary in all {
         if may_match(alloc, on, filters, asks, &binary)? {
             kept.push(binary)?;
         }

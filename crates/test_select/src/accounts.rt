@@ -8,7 +8,7 @@ use crate::failure::Failure;
 use crate::readable::print_entries;
 use clap::ArgMatches;
 use question_files::{FeatureQuestion, FileSource, feature_question, named_files};
-use record_checks::{account, write_account};
+use feature_questions::{account, write_account};
 use std::alloc::Global;
 use std::io::Write;
 

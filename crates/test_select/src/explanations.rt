@@ -9,7 +9,7 @@ use crate::failure::Failure;
 use crate::readable::print_entries;
 use clap::ArgMatches;
 use question_files::{FeatureQuestion, FileSource, RunFailure, feature_question, named_files};
-use record_checks::{explain, write_explanation};
+use feature_questions::{explain, write_explanation};
 use record_files::label_of;
 use std::alloc::{AllocError, Global};
 use std::io::{self, Write};

@@ -5,8 +5,9 @@ ghost use Rattle.question_files.specs.declared.run_failure.RunFailure.TheVariant
 ghost use Rattle.test_select.specs.Failures.{status_of};
 ghost use Rattle.test_select.specs.declared.failure.Failure.TheVariants.{Refused, Run};
 
+use feature_questions::WriteAccountError;
 use question_files::RunFailure;
-use record_checks::{SelectError, WriteAccountError};
+use record_checks::SelectError;
 use std::alloc::{AllocError, AllocFailed};
 use std::{fmt, io};
 

@@ -14,7 +14,7 @@ mod readable;
 mod reasons;
 mod selections;
 
-pub use crate::order::{package_order, write_order};
+pub use crate::order::write_order;
 pub use crate::program::run;
 pub use feature_account::{
     Feature, FeatureChoice, FeatureRecord, GroupRecord, Label, LineKind, LineRecord, LinkRecord,
@@ -22,14 +22,17 @@ pub use feature_account::{
     TargetKind, TargetRecord, Verdict, WorkspaceInfo, WorkspaceRecord, check_account,
     check_explanation, rules,
 };
+pub use feature_questions::{
+    Account, FeaturesOn, WriteAccountError, account, explain, features_on, package_order,
+    write_account, write_explanation,
+};
 pub use graph_switching::{dependency_order, switched_on};
 pub use line_verdicts::LineVerdict;
 pub use question_files::{FileFault, FileSource};
 pub use question_filters::LinkScope;
 pub use record_checks::{
-    Account, FeaturesOn, GroupFilter, GroupTable, ParseSingleError, RecordError, RecordFilters,
-    RecordRule, SelectError, SourceSpan, WriteAccountError, account, check_record, context_over,
-    declared_graph, explain, features_on, record_filters, write_account, write_explanation,
+    GroupFilter, GroupTable, ParseSingleError, RecordError, RecordFilters, RecordRule, SelectError,
+    SourceSpan, check_record, context_over, declared_graph, record_filters,
 };
 pub use record_files::{
     AccountFile, Field, Key, ReadError, read_account, read_choice, read_listings, read_record,

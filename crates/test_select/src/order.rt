@@ -1,54 +1,17 @@
-//! The order in which packages build, and how it is printed.
+//! The order in which packages build, printed.
 
-ghost use Rattle.std.specs.Prelude.{◌≡◌, IfErr, flat_map, map, string_bytes};
+ghost use Rattle.std.specs.Prelude.{◌≡◌, IfErr, flat_map, string_bytes};
 ghost use Rattle.list_facts.specs.Writers.{Writes};
 ghost use Rattle.test_select.specs.Failures.{status_of};
-ghost use Rattle.test_select.specs.Orders.{Orders, OrdersBy, order_line};
+ghost use Rattle.test_select.specs.Orders.{order_line};
 
 use crate::failure::Failure;
 use clap::ArgMatches;
-use feature_switching::FeaturesOn;
-use graph_switching::dependency_order;
+use feature_questions::package_order;
 use list_facts::write_pieces;
 use question_files::{FileSource, feature_question, named_files};
-use record_checks::{SelectError, declared_graph, features_on};
 use std::alloc::Global;
 use std::io::{self, Write};
-use workspace_record::{FeatureChoice, PlatformTable, WorkspaceRecord};
-
-/// The ids of the packages that are on, each once, dependencies first: a package comes after all to
-/// which lines that are on lead from it, but for those that lead back to it. The record is tested first,
-/// and then the extras of the choice.
-pub fn package_order(
-    alloc: Global,
-    record: &WorkspaceRecord,
-    choice: &FeatureChoice,
-    table: &PlatformTable,
-) -> Result<Vec<String>, SelectError>
-    ensures order { Orders record.now choice.now table.now result }
-{
-    match features_on(alloc, record, choice, table) {
-        Ok(on) => order_of(alloc, record, table, &on),
-        Err(refused) => Err(refused),
-    }
-}
-
-fn order_of(
-    alloc: Global,
-    record: &WorkspaceRecord,
-    table: &PlatformTable,
-    on: &FeaturesOn,
-) -> Result<Vec<String>, SelectError>
-    ensures { OrdersBy record.now table.now on.now result }
-{
-    match declared_graph(alloc, record) {
-        Ok(graph) => match dependency_order(alloc, &graph, on, table) {
-            Ok(ids) => Ok(ids),
-            Err(_) => Err(SelectError::Memory),
-        },
-        Err(refused) => Err(SelectError::from(refused)),
-    }
-}
 
 /// Writes a line for each id. After a fault of the writer what was written is a beginning of this.
 pub fn write_order<W: Write>(ids: &[String], writer: &mut W) -> io::Result<()>

@@ -7,7 +7,7 @@ use crate::failure::Failure;
 use clap::ArgMatches;
 use feature_reasons::{sourced_rules, write_entries, write_features, write_rules};
 use question_files::{FeatureQuestion, FileSource, feature_question, named_files};
-use record_checks::features_on;
+use feature_questions::features_on;
 use std::alloc::Global;
 use std::io::Write;
 

@@ -4,4 +4,4 @@ use Rattle.record_rules.specs.RecordRules.{further_broken}
 use Rattle.record_rules.proofs.record_rules.first_fault.Given as goal
 
 abbrev pub invariant-loop-rule : goal.invariant-loop-rule
-invariant-loop-rule l = first_fault (further_broken l.record) l.rules ≡ first_fault (further_broken l.record) (drop l.rule-index l.rules)
+invariant-loop-rule l = first_fault (further_broken l.index) l.rules ≡ first_fault (further_broken l.index) (drop l.rule-index l.rules)

@@ -2,7 +2,7 @@ use Rattle.std.proofs.Common.{◌≡◌, length, Contains, map, subst, sym, ◌�
 use mathlib.Core.List.{map-id}
 use Rattle.std.proofs.lemmas.Iterator.Adapters.{YieldsList-from_vec}
 use Rattle.std.proofs.lemmas.Iterator.Consumers.{YieldsList-end}
-use Rattle.record_rules.specs.Binaries.{Binary, binaries}
+use Rattle.record_rules.specs.Binaries.{Binary}
 use Rattle.record_rules.specs.BinaryView.{binary_view}
 use Rattle.selection_making.specs.Kept.{AreThose}
 use Rattle.selection_making.specs.Plans.{MayMatch}
@@ -10,8 +10,8 @@ use Rattle.question_filters.specs.QuestionFilters.{question_view}
 use Rattle.selection_making.proofs.KeptFacts.{those_map_one, those_map_off}
 use Rattle.selection_making.proofs.plan.let_through.Goals as goal
 
-pub loop-binary-preserved-in-Continue-branch-3 : goal.loop-binary-preserved-in-Continue-branch-3
-loop-binary-preserved-in-Continue-branch-3 c =
+pub loop-binary-preserved-in-Continue-branch-2 : goal.loop-binary-preserved-in-Continue-branch-2
+loop-binary-preserved-in-Continue-branch-2 c =
     let may : Binary → Type 0 = MayMatch c.args.asks (λ f. Contains c.args.on.now f) (question_view c.args.filters.now) in
     those_map_one may binary_view c.loop-binary.yielded c.loop-binary.kept.items c.push.new.self.items c.in-Some.binary c.loop-binary.invariant (c.in_ok-may_match.ensures.0 c.if-branch.true) c.in_ok-push.ensures.items
 
@@ -23,8 +23,8 @@ loop-binary-preserved c =
 pub returns : goal.returns
 returns c =
     let may : Binary → Type 0 = MayMatch c.args.asks (λ f. Contains c.args.on.now f) (question_view c.args.filters.now) in
-    let size : c.into_iter-binary-iterator.result.rest.len ≡ length c.in_ok-binary-items.binary-items.items = cc in
-    let first : c.into_iter-binary-iterator.result.rest.items ≡ c.in_ok-binary-items.binary-items.items = cc in
-    let end = YieldsList-end (YieldsList-from_vec {s = c.into_iter-binary-iterator.result} c.in_ok-binary-items.binary-items.items first size) c.loop-binary.yielded c.loop-binary.binary-iterator c.loop-binary.yielded_by c.next.result c.next.new.self c.in-None.is c.next.ensures.steps in
-    let all : map binary_view c.loop-binary.yielded ≡ binaries c.args.record.now = ap (map binary_view) (sym (map-id c.loop-binary.yielded) ∙ end.0) ∙ c.in_ok-binary-items.ensures in
+    let size : c.into_iter-binary-iterator.result.rest.len ≡ length c.args.all.items = cc in
+    let first : c.into_iter-binary-iterator.result.rest.items ≡ c.args.all.items = cc in
+    let end = YieldsList-end (YieldsList-from_vec {s = c.into_iter-binary-iterator.result} c.args.all.items first size) c.loop-binary.yielded c.loop-binary.binary-iterator c.loop-binary.yielded_by c.next.result c.next.new.self c.in-None.is c.next.ensures.steps in
+    let all : map binary_view c.loop-binary.yielded ≡ map binary_view c.args.all.items = ap (map binary_view) (sym (map-id c.loop-binary.yielded) ∙ end.0) in
     subst (λ bs. AreThose may bs (map binary_view c.loop-binary.kept.items)) all c.loop-binary.invariant

@@ -1,0 +1,2 @@
+pub mod ExplainingFacts
+pub mod ServedFacts

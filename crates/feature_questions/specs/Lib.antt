@@ -1,0 +1,4 @@
+pub mod Explaining
+pub mod Extras
+pub mod Orders
+pub mod Switching

@@ -1,0 +1,44 @@
+//! Why a feature is on under a choice and a table.
+
+ghost use Rattle.std.specs.Prelude.{IfOk};
+ghost use Rattle.feature_questions.specs.Explaining.{Explains, IsExplained};
+
+use crate::questions::check_question;
+use account_explaining::explanation_of;
+use account_making::account_of;
+use feature_account::rules;
+use record_checks::SelectError;
+use std::alloc::{AllocError, Global};
+use workspace_record::{Feature, FeatureChoice, PlatformTable, WorkspaceRecord};
+
+/// The entries of the account of what is on, in its order, that the feature's conclusion rests on, that
+/// one last; none where the feature is not on. The record is tested first, and then the extras of the
+/// choice.
+pub fn explain(
+    alloc: Global,
+    record: &WorkspaceRecord,
+    choice: &FeatureChoice,
+    table: &PlatformTable,
+    feature: &Feature,
+) -> Result<Option<Vec<usize>>, SelectError>
+    ensures answer { Explains record.now choice.now table.now feature.now result }
+{
+    match check_question(alloc, record, choice) {
+        Err(refusal) => Err(refusal),
+        Ok(()) => Ok(explanation_under(alloc, record, choice, table, feature)?),
+    }
+}
+
+fn explanation_under(
+    alloc: Global,
+    record: &WorkspaceRecord,
+    choice: &FeatureChoice,
+    table: &PlatformTable,
+    feature: &Feature,
+) -> Result<Option<Vec<usize>>, AllocError>
+    ensures { IfOk result (IsExplained record.now choice.now table.now feature.now) }
+{
+    let rules = rules(alloc, record, choice, table)?;
+    let account = account_of(alloc, &rules)?;
+    explanation_of(alloc, &rules, &account.rules, feature)
+}

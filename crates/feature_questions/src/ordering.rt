@@ -1,0 +1,44 @@
+//! The order in which packages build.
+
+ghost use Rattle.std.specs.Prelude.{◌≡◌, None, IfOk};
+ghost use Rattle.list_facts.specs.Texts.{texts};
+ghost use Rattle.feature_questions.specs.Orders.{IsPackageOrder, Orders};
+ghost use Rattle.feature_questions.specs.Switching.{unknown_extra};
+
+use crate::questions::checked_question;
+use crate::switching::features_on_in;
+use graph_switching::dependency_order;
+use record_checks::{CheckedRecord, SelectError};
+use std::alloc::{AllocError, Global};
+use workspace_record::{FeatureChoice, PlatformTable, WorkspaceRecord};
+
+/// The ids of the packages that are on, each once, dependencies first: a package comes after all to
+/// which lines that are on lead from it, but for those that lead back to it. The record is tested first,
+/// and then the extras of the choice.
+pub fn package_order(
+    alloc: Global,
+    record: &WorkspaceRecord,
+    choice: &FeatureChoice,
+    table: &PlatformTable,
+) -> Result<Vec<String>, SelectError>
+    ensures order { Orders record.now choice.now table.now result }
+{
+    match checked_question(alloc, record, choice) {
+        Ok(checked) => Ok(order_of(alloc, &checked, choice, table)?),
+        Err(refused) => Err(refused),
+    }
+}
+
+/// The same in a record that was tested, where the extras of the choice are known.
+fn order_of(
+    alloc: Global,
+    checked: &CheckedRecord<'_>,
+    choice: &FeatureChoice,
+    table: &PlatformTable,
+) -> Result<Vec<String>, AllocError>
+    requires known { unknown_extra checked.now choice.now ≡ None }
+    ensures { IfOk result (λ ids. IsPackageOrder checked.now choice.now table.now (texts ids.items)) }
+{
+    let on = features_on_in(alloc, checked, choice, table)?;
+    dependency_order(alloc, checked.graph(), &on, table)
+}
