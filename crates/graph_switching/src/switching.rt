@@ -7,7 +7,7 @@ ghost use Rattle.graph_switching.specs.LinesOn.{is_link_on, link_on, links_on, w
 
 use crate::lines_on::places_on;
 use feature_switching::FeaturesOn;
-use guppy_package_graph::{PackageGraph, PackageGraphError};
+use guppy_package_graph::PackageGraph;
 use std::alloc::{AllocError, Global};
 use workspace_record::{LinkRecord, PlatformTable};
 
@@ -24,11 +24,7 @@ pub fn switched_on(
     ensures table { IfOk result (IsTableOf graph.now.packages (links_on graph.now features.now table.now) graph.now.workspace) }
 {
     let links = links_on(alloc, graph, features, table)?;
-    match graph.with_links(alloc, links) {
-        Ok(switched) => Ok(switched),
-        Err(PackageGraphError::Memory) => Err(AllocError),
-        Err(PackageGraphError::Broken { .. }) => unreachable!(),
-    }
+    graph.with_links(alloc, links)
 }
 
 /// The rows of the links that are on, each with just its lines that are.

@@ -1,29 +1,27 @@
 //! The graph of the same packages and workspace with other links.
 
-ghost use Rattle.std.specs.Prelude.{IfErr, IfOk};
+ghost use Rattle.std.specs.Prelude.{IfOk};
 ghost use Rattle.package_rules.specs.Kept.{AreKept};
-ghost use Rattle.guppy_package_table.specs.Refusals.{IsRefusal};
 ghost use Rattle.guppy_package_table.specs.Tables.{IsTableOf};
 
 use crate::package_graph::PackageGraph;
 use guppy_package_parts::LinkRow;
-use guppy_package_table::PackageGraphError;
-use std::alloc::Global;
+use std::alloc::{AllocError, Global};
 use workspace_record::copy_packages;
 
 impl PackageGraph {
-    /// The graph of the same packages and workspace with these links, or the first rule that they
-    /// break, at its first place.
+    /// The graph of the same packages and workspace with these links, which keep the rules, so that none
+    /// is tested.
     pub fn with_links(
         &self,
         alloc: Global,
         links: Vec<LinkRow>,
-    ) -> Result<PackageGraph, PackageGraphError>
+    ) -> Result<PackageGraph, AllocError>
+        requires kept { AreKept self.now.packages links.items self.now.workspace }
         ensures built { IfOk result (λ g. AreKept self.now.packages links.items self.now.workspace × IsTableOf self.now.packages links.items self.now.workspace g) }
-        ensures refused { IfErr result (IsRefusal self.now.packages links.items self.now.workspace) }
     {
         let packages = copy_packages(alloc, self.table().packages())?;
         let workspace = self.table().workspace().copy(alloc)?;
-        PackageGraph::from_records(alloc, packages, links, workspace)
+        PackageGraph::of_kept(alloc, packages, links, workspace)
     }
 }

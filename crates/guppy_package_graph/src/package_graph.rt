@@ -71,6 +71,21 @@ impl PackageGraph {
         }
     }
 
+    /// The graph of rows that keep the rules.
+    pub(crate) fn of_kept(
+        alloc: Global,
+        packages: Vec<PackageRow>,
+        links: Vec<LinkRow>,
+        workspace: WorkspaceRow,
+    ) -> Result<PackageGraph, AllocError>
+        requires { AreKept packages.items links.items workspace }
+        ensures { IfOk result (λ g. AreKept packages.items links.items workspace × IsTableOf packages.items links.items workspace g) }
+    {
+        let table = PackageTable::of_kept(alloc, packages, links, workspace)?;
+        let members = member_orders(alloc, &table)?;
+        Ok(PackageGraph { table, members })
+    }
+
     /// An equal graph in memory of its own.
     pub fn copy(&self, alloc: Global) -> Result<PackageGraph, AllocError>
         ensures same { IfOk result (λ g. g ≡ self.now) }

@@ -71,18 +71,19 @@ impl PackageTable {
         if let Some((rule, place)) = first_broken_rule(alloc, &packages, &links, &workspace)? {
             return Err(PackageGraphError::Broken { rule, place });
         }
-        let table = PackageTable::new(alloc, packages, links, workspace)?;
+        let table = PackageTable::of_kept(alloc, packages, links, workspace)?;
         Ok(table)
     }
 
-    fn new(
+    /// The table of rows that keep the rules on packages, links and members, so that none is tested.
+    pub fn of_kept(
         alloc: Global,
         packages: Vec<PackageRow>,
         links: Vec<LinkRow>,
         workspace: WorkspaceRow,
     ) -> Result<PackageTable, AllocError>
-        requires { AreKept packages.items links.items workspace }
-        ensures { IfOk result (IsTableOf packages.items links.items workspace) }
+        requires kept { AreKept packages.items links.items workspace }
+        ensures built { IfOk result (IsTableOf packages.items links.items workspace) }
     {
         let indices = indices_of(alloc, &packages, &links, &workspace)?;
         Ok(PackageTable {
@@ -102,7 +103,7 @@ impl PackageTable {
         let packages = copy_packages(alloc, &self.packages)?;
         let links = copy_links(alloc, &self.links)?;
         let workspace = self.workspace.copy(alloc)?;
-        let table = PackageTable::new(alloc, packages, links, workspace)?;
+        let table = PackageTable::of_kept(alloc, packages, links, workspace)?;
         Ok(table.listed_so(listing))
     }
 

@@ -1,5 +1,0 @@
-use Rattle.std.proofs.Common.{refl}
-use Rattle.guppy_package_table.proofs.table.PackageTable.new.Goals as goal
-
-pub returns : goal.returns
-returns c = record { rows = refl; link_rows = refl; workspace_row = refl; listed = rw (← c.deref.ensures.value, ← c.deref-2.ensures.value) c.in_ok-indices.ensures.listing }
