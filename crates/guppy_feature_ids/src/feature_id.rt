@@ -84,17 +84,7 @@ impl Hash for FeatureId<'_> {
 
     fn hash<H: Hasher>(&self, state: &mut H) {
         self.package_id.hash(state);
-        match self.label {
-            FeatureLabel::Base => state.write_u8(0),
-            FeatureLabel::Named(name) => {
-                state.write_u8(1);
-                name.hash(state);
-            }
-            FeatureLabel::OptionalDependency(name) => {
-                state.write_u8(2);
-                name.hash(state);
-            }
-        }
+        self.label.hash(state);
     }
 }
 
