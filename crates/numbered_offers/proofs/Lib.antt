@@ -11,4 +11,3 @@ pub mod EndFacts
 pub mod CountFacts
 pub mod StateFacts
 pub mod ViewFacts
-pub mod ReachFacts

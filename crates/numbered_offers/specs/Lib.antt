@@ -8,4 +8,3 @@ pub mod Keeping
 pub mod Counts
 pub mod States
 pub mod OfferWalks
-pub mod Verdicts

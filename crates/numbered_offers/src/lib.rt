@@ -9,7 +9,6 @@ mod link_walk;
 mod offer;
 mod offer_graph;
 mod offer_walk;
-mod resolving;
 mod state;
 
 pub use crate::due::Due;
@@ -17,4 +16,3 @@ pub use crate::edge::{Edge, EdgeSort, are_edges_within};
 pub use crate::offer::{Offer, OfferKind};
 pub use crate::offer_graph::OfferGraph;
 pub use crate::offer_walk::OfferWalk;
-pub use crate::resolving::{reach_all, resolve_by, resolve_by_counted};

@@ -5,7 +5,7 @@ use row_program::Row;
 
 /// How somebody answers who is asked about offers.
 #[derive(Clone, Copy)]
-pub(crate) enum Manner {
+pub(crate) enum Manner<'a> {
     All,
     Nothing,
     /// Accepts the first offer alone.
@@ -16,10 +16,16 @@ pub(crate) enum Manner {
     RequiredHalves,
     /// Refuses required halves.
     OptionalHalves,
+    /// Accepts an optional half where `halves` has its edge's flag set, and any other offer where
+    /// `others` has.
+    Table {
+        others: &'a [bool],
+        halves: &'a [bool],
+    },
 }
 
 /// The manner that a row names under `accepts`: all offers if it names none.
-pub(crate) fn manner_in(row: Row<'_>) -> Manner {
+pub(crate) fn manner_in(row: Row<'_>) -> Manner<'static> {
     match row.get("accepts").and_then(|value| value.as_str()) {
         Some("nothing") => Manner::Nothing,
         Some("once") => Manner::Once,
@@ -31,7 +37,7 @@ pub(crate) fn manner_in(row: Row<'_>) -> Manner {
 }
 
 /// The answer to an offer, after so many others.
-pub(crate) fn answer_to(manner: Manner, offer: Offer, before: usize) -> bool {
+pub(crate) fn answer_to(manner: Manner<'_>, offer: Offer, before: usize) -> bool {
     match manner {
         Manner::All => true,
         Manner::Nothing => false,
@@ -39,5 +45,13 @@ pub(crate) fn answer_to(manner: Manner, offer: Offer, before: usize) -> bool {
         Manner::Alternate => before % 2 == 0,
         Manner::RequiredHalves => offer.kind != OfferKind::Optional,
         Manner::OptionalHalves => offer.kind != OfferKind::Required,
+        Manner::Table { others, halves } => match offer.kind {
+            OfferKind::Optional => is_set(halves, offer.edge),
+            OfferKind::Unsplit | OfferKind::Required => is_set(others, offer.edge),
+        },
     }
+}
+
+fn is_set(flags: &[bool], place: usize) -> bool {
+    place < flags.len() && flags[place]
 }

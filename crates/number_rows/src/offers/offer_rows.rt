@@ -1,10 +1,10 @@
 ghost use Rattle.std.specs.Prelude.{◌≡◌, ◌<◌, All};
 
-use crate::offers::manner::manner_in;
+use crate::offers::manner::{Manner, manner_in};
 use crate::offers::offer_lists::{direction_in, flags_in, graph_in, starts_in};
 use crate::offers::walked::{Walked, walk_in};
 use numbered_graph::NodeSet;
-use numbered_offers::{Offer, OfferGraph, OfferKind, reach_all, resolve_by};
+use numbered_offers::{Offer, OfferGraph, OfferKind};
 use row_program::{Answers, Row, RowFault, RowRunner};
 use std::alloc::{AllocError, Global};
 
@@ -60,12 +60,8 @@ fn tell_runs(
     let direction = direction_in(row);
     let walked = walk_in(alloc, graph, starts, direction, manner_in(row))?;
     tell_walked(alloc, &walked, answers)?;
-    answers.tell(
-        "reached",
-        set_told(alloc, reach_all(alloc, graph, starts, direction)),
-    )?;
-    let whole = flags_in(alloc, row, graph, "refused")?;
-    tell_least(alloc, row, graph, starts, &whole, answers)
+    let others = flags_in(alloc, row, graph, "refused")?;
+    tell_least(alloc, row, graph, starts, &others, answers)
 }
 
 fn tell_walked(alloc: Global, walked: &Walked, answers: &mut Answers) -> Result<(), RowFault> {
@@ -79,14 +75,18 @@ fn tell_least(
     row: Row<'_>,
     graph: &OfferGraph,
     starts: &[usize],
-    whole: &[bool],
+    others: &[bool],
     answers: &mut Answers,
 ) -> Result<(), RowFault>
     requires starts { All (λ v. v < graph.now.nodes) starts.now }
 {
-    let optional = flags_in(alloc, row, graph, "refused_halves")?;
-    let least = resolve_by(alloc, graph, starts, direction_in(row), whole, &optional);
-    answers.tell("least", set_told(alloc, least))
+    let halves = flags_in(alloc, row, graph, "refused_halves")?;
+    let table = Manner::Table {
+        others,
+        halves: &halves,
+    };
+    let walked = walk_in(alloc, graph, starts, direction_in(row), table)?;
+    answers.tell("least", set_text(alloc, &walked.included))
 }
 
 // The offers in order, each with a sign for its answer.
@@ -105,10 +105,6 @@ fn run_text(alloc: Global, run: &[(Offer, bool)]) -> Result<String, AllocError> 
         text.push_str(part.as_str())?;
     }
     Ok(text)
-}
-
-fn set_told(alloc: Global, set: Result<NodeSet, AllocError>) -> Result<String, AllocError> {
-    set_text(alloc, &set?)
 }
 
 fn set_text(alloc: Global, set: &NodeSet) -> Result<String, AllocError> {

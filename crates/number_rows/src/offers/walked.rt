@@ -23,7 +23,7 @@ pub(crate) fn walk_in(
     graph: &OfferGraph,
     starts: &[usize],
     direction: Direction,
-    manner: Manner,
+    manner: Manner<'_>,
 ) -> Result<Walked, RowFault>
     requires starts { All (λ v. v < graph.now.nodes) starts.now }
 {
@@ -35,7 +35,7 @@ fn walk_with_blank<L: Ledger>(
     graph: &OfferGraph,
     starts: &[usize],
     direction: Direction,
-    manner: Manner,
+    manner: Manner<'_>,
     blank: Blank,
 ) -> Result<Walked, RowFault>
     requires starts { All (λ v. v < graph.now.nodes) starts.now }
@@ -55,7 +55,7 @@ fn walk_with_blank<L: Ledger>(
 }
 
 fn answers_to(
-    manner: Manner,
+    manner: Manner<'_>,
     due: Due,
     run: &mut Vec<(Offer, bool)>,
 ) -> Result<(bool, bool), AllocError> {
@@ -80,7 +80,7 @@ fn answers_to(
     }
 }
 
-fn ask(manner: Manner, offer: Offer, run: &mut Vec<(Offer, bool)>) -> Result<bool, AllocError> {
+fn ask(manner: Manner<'_>, offer: Offer, run: &mut Vec<(Offer, bool)>) -> Result<bool, AllocError> {
     let answer = answer_to(manner, offer, run.len());
     run.push((offer, answer))?;
     Ok(answer)

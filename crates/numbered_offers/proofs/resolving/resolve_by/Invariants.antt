@@ -1,5 +1,0 @@
-use Rattle.numbered_offers.proofs.resolving.resolve_by.Given as goal
-
--- the ledger of the blank
-abbrev pub ghosts-resolve_with_blank : goal.ghosts-resolve_with_blank
-ghosts-resolve_with_blank a = record { name = a.blank.name; parts = a.blank.parts }
