@@ -25,6 +25,7 @@ use guppy_package_graph::{FeatureGraphWarning, PackageGraph, PackageMetadata};
 use numbered_graph::{Direction, Graph};
 use numbered_offers::OfferGraph;
 use std::alloc::{AllocError, Global};
+use std::fmt;
 use std::marker::Model;
 use workspace_record::LineKind;
 
@@ -266,5 +267,13 @@ impl<'g> FeatureGraphData<'g> {
         ensures warnings { self.now.warnings ≡ warnings_of self.now.rows.packages self.now.rows.links }
     {
         &self.warnings
+    }
+}
+
+impl fmt::Debug for FeatureGraphData<'_> {
+    fn fmt<W: fmt::Write>(&self, f: &mut fmt::Formatter<W>) -> fmt::Result {
+        f.debug_struct("FeatureGraphData")
+            .field("features", &self.feature_ids())
+            .finish_non_exhaustive()
     }
 }

@@ -8,6 +8,7 @@ use crate::feature_metadata::FeatureMetadata;
 use crate::package_links::PackageLinks;
 use guppy_feature_nodes::{FeatureGraphData, LinkDeclarations};
 use guppy_package_graph::{DependencyKind, PlatformStatus};
+use std::fmt;
 use workspace_record::LineKind;
 
 /// A link from one feature to another that stands on lines of a manifest: on all lines behind an
@@ -134,5 +135,16 @@ impl<'g> ConditionalLink<'g> {
         ensures value { result ≡ (link_view self.now).declarations }
     {
         self.declarations
+    }
+}
+
+impl fmt::Debug for ConditionalLink<'_> {
+    fn fmt<W: fmt::Write>(&self, f: &mut fmt::Formatter<W>) -> fmt::Result {
+        let (from, to) = self.endpoints();
+        f.debug_tuple("ConditionalLink")
+            .field(&from.feature_id())
+            .field(&to.feature_id())
+            .field(&self.declarations)
+            .finish()
     }
 }

@@ -1,21 +1,22 @@
 ghost use Rattle.std.specs.Prelude.{◌<◌, All, length};
 
 use guppy_feature_nodes::{FeatureGraphData, FeatureId};
+use std::fmt;
 
 /// The ids of features of a graph, one after the other.
 #[derive(Clone, Copy)]
-pub struct FeatureIdsAt<'a> {
-    built: &'a FeatureGraphData<'a>,
+pub struct FeatureIdsAt<'g, 'a> {
+    built: &'g FeatureGraphData<'g>,
     nodes: &'a [usize],
     ghost in_range: { All (λ v. v < length built.now.nodes) nodes.now },
 }
 
-impl<'a> FeatureIdsAt<'a> {
+impl<'g, 'a> FeatureIdsAt<'g, 'a> {
     ghost use Rattle.std.specs.Prelude.{◌≡◌};
     ghost use Rattle.guppy_feature_views.specs.CycleViews.{nodes_graph_of, nodes_left};
 
     /// Those with these numbers.
-    pub fn of(built: &'a FeatureGraphData<'a>, nodes: &'a [usize]) -> FeatureIdsAt<'a>
+    pub fn of(built: &'g FeatureGraphData<'g>, nodes: &'a [usize]) -> FeatureIdsAt<'g, 'a>
         requires { All (λ v. v < length built.now.nodes) nodes.now }
         ensures graph { nodes_graph_of result ≡ built.entry.now }
         ensures nodes { nodes_left result ≡ nodes.entry.now }
@@ -24,8 +25,8 @@ impl<'a> FeatureIdsAt<'a> {
     }
 }
 
-impl<'a> Iterator for FeatureIdsAt<'a> {
-    type Item = FeatureId<'a>;
+impl<'g> Iterator for FeatureIdsAt<'g, '_> {
+    type Item = FeatureId<'g>;
 
     ghost use Rattle.std.specs.Iterator.{YieldsFirstBy, item_count};
     ghost use Rattle.guppy_feature_ids.specs.IdViews.{id_view};
@@ -35,7 +36,7 @@ impl<'a> Iterator for FeatureIdsAt<'a> {
 
     ghost remaining = { item_count all_nodes_left };
 
-    fn next(&mut self) -> Option<FeatureId<'a>> {
+    fn next(&mut self) -> Option<FeatureId<'g>> {
         let (first, others) = self.nodes.split_first()?;
         self.nodes = others;
         Some(self.built.feature_at(*first))
@@ -46,8 +47,15 @@ impl<'a> Iterator for FeatureIdsAt<'a> {
     }
 }
 
-impl ExactSizeIterator for FeatureIdsAt<'_> {
+impl ExactSizeIterator for FeatureIdsAt<'_, '_> {
     fn len(&self) -> usize {
         self.nodes.len()
+    }
+}
+
+/// Lists what is still to come.
+impl fmt::Debug for FeatureIdsAt<'_, '_> {
+    fn fmt<W: fmt::Write>(&self, f: &mut fmt::Formatter<W>) -> fmt::Result {
+        f.debug_list().entries(*self).finish()
     }
 }

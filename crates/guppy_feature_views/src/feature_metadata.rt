@@ -7,6 +7,7 @@ ghost use Rattle.guppy_feature_nodes.specs.Graphs.{feature_at};
 
 use guppy_feature_nodes::{FeatureGraphData, FeatureId, FeatureLabel};
 use guppy_package_graph::{PackageId, PackageMetadata};
+use std::fmt;
 
 /// A feature of a graph.
 #[derive(Clone, Copy)]
@@ -63,5 +64,13 @@ impl<'g> FeatureMetadata<'g> {
         ensures label { label_view result ≡ (feature_at (metadata_graph_of self.now) (node_of self.now)).label }
     {
         self.feature_id().label()
+    }
+}
+
+impl fmt::Debug for FeatureMetadata<'_> {
+    fn fmt<W: fmt::Write>(&self, f: &mut fmt::Formatter<W>) -> fmt::Result {
+        f.debug_tuple("FeatureMetadata")
+            .field(&self.feature_id())
+            .finish()
     }
 }

@@ -1,6 +1,7 @@
 ghost use Rattle.std.specs.Prelude.{◌<◌, All, length};
 
 use guppy_package_graph::{PackageGraph, PackageLink};
+use std::fmt;
 
 /// Links between packages, one after the other.
 #[derive(Clone, Copy)]
@@ -48,5 +49,12 @@ impl<'g> Iterator for PackageLinks<'g> {
 impl ExactSizeIterator for PackageLinks<'_> {
     fn len(&self) -> usize {
         self.numbers.len()
+    }
+}
+
+/// Lists what is still to come.
+impl fmt::Debug for PackageLinks<'_> {
+    fn fmt<W: fmt::Write>(&self, f: &mut fmt::Formatter<W>) -> fmt::Result {
+        f.debug_list().entries(*self).finish()
     }
 }
