@@ -1,20 +1,21 @@
 -- Labels in the order of the code, found among others.
-use Rattle.std.proofs.Common.{◌≡◌, ◌↔◌, ◌<◌, Bool, true, List, Contains, IsTrue, length, map, get_or, refl, sym, subst, arith, ◌∙◌}
-use Rattle.std.specs.List.{list_any}
+use Rattle.std.proofs.Common.{◌≡◌, ◌↔◌, ℕ, suc, ◌<◌, Bool, true, List, [], ◌∷◌, Contains, IsTrue, length, map, get_or, refl, sym, subst, ap, arith, ◌∙◌}
+use Rattle.std.specs.List.{AllByRecursion, list_any}
 use Rattle.std.specs.List.Sorted.{IsStrictlySortedBy}
+use Rattle.std.specs.Ordering.{is_eq, on}
 use Rattle.std.specs.declared.cmp.Ordering.{Ordering}
-use Rattle.std.specs.declared.cmp.Ordering.TheVariants.{Less}
+use Rattle.std.specs.declared.cmp.Ordering.TheVariants.{Less, Equal}
 use Rattle.std.proofs.lemmas.List.{get_or-map, length-map}
 use Rattle.std.proofs.lemmas.Map.Keys.{Less-from_sorted}
+use Rattle.list_facts.specs.Ascending.{IsAscendingOf}
+use Rattle.list_facts.proofs.Ascending.{one_ascending}
 use Rattle.list_facts.proofs.Membership.{Contains-map, Contains-map_cases}
 use Rattle.list_facts.proofs.Quantifiers.{Any_cases, list_any-from_Contains, list_any_cases}
-use Rattle.workspace_record.specs.Features.{LabelValue, label_cmp, label_eq, labels_decide}
+use Rattle.workspace_record.specs.Features.{LabelValue, label_cmp, label_cmp_total, label_eq, labels_decide}
 use Rattle.guppy_row_parts.specs.SortedSets.{HoldsEach}
-use Rattle.guppy_feature_ids.specs.LabelViews.{label_view}
+use Rattle.guppy_feature_ids.specs.LabelViews.{label_ties, label_view}
 use Rattle.guppy_feature_ids.specs.declared.feature_label.FeatureLabel.{FeatureLabel}
 use Rattle.guppy_feature_ids.specs.declared.feature_label.FeatureLabel.TheVariants as code
-use Rattle.guppy_feature_ids.specs.contracts.feature_label.FeatureLabelPartialEq.TheImpl as equality
-use Rattle.guppy_feature_ids.specs.contracts.feature_label.FeatureLabelOrd.TheImpl as order
 use Rattle.guppy_feature_lists.specs.Labels.{AreLabels, Ascend}
 
 -- an element is found exactly where what is seen of it is seen
@@ -26,35 +27,13 @@ found_by same view agrees xs x b is = (
 )
 
 abbrev pub same_label : FeatureLabel → FeatureLabel → Bool
-same_label = (equality.ghosts).eq
+same_label = on label_view label_eq
 
 abbrev pub label_order : FeatureLabel → FeatureLabel → Ordering
-label_order = (order.ghosts).cmp
-
-same_is : (x y : FeatureLabel) → same_label x y ≡ label_eq (label_view x) (label_view y)
-same_is code.Base code.Base = refl
-same_is code.Base (code.Named q) = refl
-same_is code.Base (code.OptionalDependency q) = refl
-same_is (code.Named p) code.Base = refl
-same_is (code.Named p) (code.Named q) = refl
-same_is (code.Named p) (code.OptionalDependency q) = refl
-same_is (code.OptionalDependency p) code.Base = refl
-same_is (code.OptionalDependency p) (code.Named q) = refl
-same_is (code.OptionalDependency p) (code.OptionalDependency q) = refl
-
-pub order_is : (x y : FeatureLabel) → label_order x y ≡ label_cmp (label_view x) (label_view y)
-order_is code.Base code.Base = refl
-order_is code.Base (code.Named q) = refl
-order_is code.Base (code.OptionalDependency q) = refl
-order_is (code.Named p) code.Base = refl
-order_is (code.Named p) (code.Named q) = refl
-order_is (code.Named p) (code.OptionalDependency q) = refl
-order_is (code.OptionalDependency p) code.Base = refl
-order_is (code.OptionalDependency p) (code.Named q) = refl
-order_is (code.OptionalDependency p) (code.OptionalDependency q) = refl
+label_order = on label_view label_cmp
 
 pub labels_agree : (x y : FeatureLabel) → (same_label x y ≡ true) ↔ (label_view x ≡ label_view y)
-labels_agree x y = (λ h. (labels_decide (label_view x) (label_view y)).0 (sym (same_is x y) ∙ h), λ e. same_is x y ∙ (labels_decide (label_view x) (label_view y)).1 e)
+labels_agree x y = labels_decide (label_view x) (label_view y)
 
 -- what ascends in the code's order
 pub labels_ascend : (xs : List FeatureLabel) → IsStrictlySortedBy label_order xs → Ascend (map label_view xs)
@@ -63,7 +42,7 @@ labels_ascend xs up i j d before within =
     let first : i < length xs = omega (arith, before, here) in
     let at_i = get_or-map label_view xs i code.Base d first in
     let at_j = get_or-map label_view xs j code.Base d here in
-    subst (λ a. label_cmp a (get_or (map label_view xs) j d) ≡ Less) (sym at_i) (subst (λ b. label_cmp (label_view (get_or xs i code.Base)) b ≡ Less) (sym at_j) (sym (order_is (get_or xs i code.Base) (get_or xs j code.Base)) ∙ Less-from_sorted label_order xs i j code.Base up before here))
+    subst (λ a. label_cmp a (get_or (map label_view xs) j d) ≡ Less) (sym at_i) (subst (λ b. label_cmp (label_view (get_or xs i code.Base)) b ≡ Less) (sym at_j) (Less-from_sorted label_order xs i j code.Base up before here))
 
 -- the labels that were put in order
 pub labels_held : (elements sorted : List FeatureLabel) → HoldsEach same_label label_order elements sorted → AreLabels (Contains (map label_view elements)) (map label_view sorted)
@@ -77,3 +56,33 @@ labels_held elements sorted holds = record {
         subst (Contains (map label_view sorted)) (sym ((labels_agree found.0 kept.0).0 kept.2) ∙ found.2) (Contains-map label_view sorted kept.0 kept.1),
   );
 }
+
+below : {X : Type 0} (P : X → Type 0) (xs : List X) → ((j : ℕ) (d : X) → j < length xs → P (get_or xs j d)) → AllByRecursion P xs
+below P [] each = tt
+below P (x ∷ xs) each = (each 0 x (omega arith), below P xs (λ j d within. each (suc j) d (omega (arith, within))))
+
+strictly : (labels : List LabelValue) → Ascend labels → IsStrictlySortedBy label_cmp labels
+unfolding IsStrictlySortedBy
+strictly [] up = tt
+strictly (l ∷ ls) up = (
+  below (λ m. label_cmp l m ≡ Less) ls (λ j d within. up 0 (suc j) d (omega arith) (omega (arith, within))),
+  strictly ls (λ i j d before within. up (suc i) (suc j) d (omega (arith, before)) (omega (arith, within))),
+)
+
+as_sorted : (elements labels : List LabelValue) → AreLabels (Contains elements) labels → IsAscendingOf label_cmp elements labels
+as_sorted elements labels are = record {
+  members = are.each;
+  ascending = strictly labels are.ascending;
+}
+
+label_exact : (l m : LabelValue) → label_cmp l m ≡ Equal → l ≡ m
+label_exact l m tie = (labels_decide l m).0 (label_ties l m ∙ ap is_eq tie)
+
+-- labels in order that are the same are one list
+pub same_labels : (labels others : List LabelValue) → Ascend labels → AreLabels (Contains labels) others → others ≡ labels
+same_labels labels others up are =
+    let own : AreLabels (Contains labels) labels = record {
+      ascending = up;
+      each = λ l. (λ h. h, λ h. h);
+    } in
+    one_ascending label_cmp_total label_exact labels others labels (as_sorted labels others are) (as_sorted labels labels own)

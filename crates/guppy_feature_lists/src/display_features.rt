@@ -2,24 +2,24 @@ use guppy_feature_ids::FeatureLabel;
 use std::fmt;
 
 /// Features of one package, printed by their labels.
-#[derive(Clone, Copy)]
-pub struct DisplayFeatures<'a> {
-    labels: &'a [FeatureLabel<'a>],
+#[derive(Clone, Copy, Debug)]
+pub struct DisplayFeatures<'g, 'a> {
+    labels: &'a [FeatureLabel<'g>],
 }
 
-impl<'a> DisplayFeatures<'a> {
+impl<'g, 'a> DisplayFeatures<'g, 'a> {
     ghost use Rattle.std.specs.Prelude.{◌≡◌, map};
     ghost use Rattle.guppy_feature_ids.specs.LabelViews.{label_view};
     ghost use Rattle.guppy_feature_lists.specs.ListViews.{printed_labels};
 
-    pub(crate) fn of(labels: &'a [FeatureLabel<'a>]) -> DisplayFeatures<'a>
+    pub(crate) fn of(labels: &'a [FeatureLabel<'g>]) -> DisplayFeatures<'g, 'a>
         ensures { printed_labels result ≡ map label_view labels.entry.now }
     {
         DisplayFeatures { labels }
     }
 }
 
-impl fmt::Display for DisplayFeatures<'_> {
+impl fmt::Display for DisplayFeatures<'_, '_> {
     ghost use Rattle.std.specs.Prelude.{Some, map};
     ghost use Rattle.guppy_row_parts.specs.SortedSets.{joined};
     ghost use Rattle.guppy_feature_ids.specs.Printing.{label_text};

@@ -15,6 +15,7 @@ use guppy_feature_ids::{FeatureId, FeatureKind, FeatureLabel};
 use guppy_package_graph::PackageMetadata;
 use guppy_row_parts::SortedSet;
 use std::alloc::{AllocError, Global};
+use std::fmt;
 use std::marker::Model;
 
 /// Features of one package, told by their labels: ascending, each once.
@@ -53,6 +54,13 @@ impl<'g> FeatureList<'g> {
         let copied = Vec::from_slice(alloc, labels)?;
         let labels = SortedSet::new(copied);
         Ok(FeatureList { package, labels })
+    }
+
+    /// An equal list in memory of its own.
+    pub fn copy(&self, alloc: Global) -> Result<FeatureList<'g>, AllocError>
+        ensures same { IfOk result (λ l. l ≡ self.now) }
+    {
+        FeatureList::new(alloc, self.package, self.labels())
     }
 
     /// The package.
@@ -100,28 +108,28 @@ impl<'g> FeatureList<'g> {
     }
 
     /// The names of the features that the package names, ascending.
-    pub fn named_features(&self) -> LabelNames<'_>
+    pub fn named_features(&self) -> LabelNames<'g, '_>
         ensures names { names_left result ≡ names_of kind.Named self.now.labels }
     {
         LabelNames::of(FeatureKind::Named, self.labels.as_slice())
     }
 
     /// The names of the optional dependencies, ascending.
-    pub fn optional_deps(&self) -> LabelNames<'_>
+    pub fn optional_deps(&self) -> LabelNames<'g, '_>
         ensures names { names_left result ≡ names_of kind.OptionalDependency self.now.labels }
     {
         LabelNames::of(FeatureKind::OptionalDependency, self.labels.as_slice())
     }
 
     /// The ids of the features, ascending.
-    pub fn iter(&self) -> Iter<'_>
+    pub fn iter(&self) -> Iter<'g, '_>
         ensures features { Lists self.now (features_left result) }
     {
         Iter::new(self)
     }
 
     /// The features for printing, by their labels with a comma and a space between each two.
-    pub fn display_features(&self) -> DisplayFeatures<'_>
+    pub fn display_features(&self) -> DisplayFeatures<'g, '_>
         ensures labels { printed_labels result ≡ self.now.labels }
     {
         DisplayFeatures::of(self.labels.as_slice())
@@ -151,17 +159,26 @@ impl<'g> IntoIterator for FeatureList<'g> {
     }
 }
 
-impl<'a> IntoIterator for &'a FeatureList<'_> {
-    type Item = FeatureId<'a>;
+impl<'g, 'a> IntoIterator for &'a FeatureList<'g> {
+    type Item = FeatureId<'g>;
 
-    type IntoIter = Iter<'a>;
+    type IntoIter = Iter<'g, 'a>;
 
     ghost use Rattle.guppy_feature_lists.specs.Listing.{Lists};
     ghost use Rattle.guppy_feature_lists.specs.ListViews.{features_left};
 
     ghost into_iter_gives = { λ l it. Lists l.now (features_left it) };
 
-    fn into_iter(self) -> Iter<'a> {
+    fn into_iter(self) -> Iter<'g, 'a> {
         Iter::new(self)
+    }
+}
+
+impl fmt::Debug for FeatureList<'_> {
+    fn fmt<W: fmt::Write>(&self, f: &mut fmt::Formatter<W>) -> fmt::Result {
+        f.debug_struct("FeatureList")
+            .field("package", &self.package)
+            .field("labels", &self.labels)
+            .finish()
     }
 }

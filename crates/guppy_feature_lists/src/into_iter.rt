@@ -1,7 +1,7 @@
 use crate::feature_list::FeatureList;
 use guppy_feature_ids::{FeatureId, FeatureLabel};
 use guppy_row_parts::PackageId;
-use std::vec;
+use std::{fmt, vec};
 
 /// The ids of the features of a list that is given up, ascending, from both ends.
 #[derive(Drop)]
@@ -61,5 +61,14 @@ impl<'g> DoubleEndedIterator for IntoIter<'g> {
 impl ExactSizeIterator for IntoIter<'_> {
     fn len(&self) -> usize {
         self.labels.len()
+    }
+}
+
+impl fmt::Debug for IntoIter<'_> {
+    fn fmt<W: fmt::Write>(&self, f: &mut fmt::Formatter<W>) -> fmt::Result {
+        f.debug_struct("IntoIter")
+            .field("package_id", &self.package_id)
+            .field("left", &self.labels.len())
+            .finish_non_exhaustive()
     }
 }

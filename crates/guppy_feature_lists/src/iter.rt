@@ -1,21 +1,21 @@
 use crate::feature_list::FeatureList;
 use guppy_feature_ids::{FeatureId, FeatureLabel};
 use guppy_row_parts::PackageId;
-use std::slice;
+use std::{fmt, slice};
 
 /// The ids of the features of a list, ascending, from both ends.
 #[derive(Drop)]
-pub struct Iter<'a> {
-    package_id: &'a PackageId,
-    labels: slice::Iter<'a, FeatureLabel<'a>>,
+pub struct Iter<'g, 'a> {
+    package_id: &'g PackageId,
+    labels: slice::Iter<'a, FeatureLabel<'g>>,
 }
 
-impl<'a> Iter<'a> {
+impl<'g, 'a> Iter<'g, 'a> {
     ghost use Rattle.guppy_feature_lists.specs.Listing.{Lists};
     ghost use Rattle.guppy_feature_lists.specs.ListViews.{features_left};
 
     /// The features of a list.
-    pub fn new(list: &'a FeatureList<'_>) -> Iter<'a>
+    pub fn new(list: &'a FeatureList<'g>) -> Iter<'g, 'a>
         ensures features { Lists list.entry.now (features_left result) }
     {
         Iter {
@@ -25,8 +25,8 @@ impl<'a> Iter<'a> {
     }
 }
 
-impl<'a> Iterator for Iter<'a> {
-    type Item = FeatureId<'a>;
+impl<'g> Iterator for Iter<'g, '_> {
+    type Item = FeatureId<'g>;
 
     ghost use Rattle.std.specs.Iterator.{YieldsFirstBy, item_count};
     ghost use Rattle.guppy_feature_ids.specs.IdViews.{id_view};
@@ -36,7 +36,7 @@ impl<'a> Iterator for Iter<'a> {
 
     ghost remaining = { item_count features_left };
 
-    fn next(&mut self) -> Option<FeatureId<'a>> {
+    fn next(&mut self) -> Option<FeatureId<'g>> {
         let label = self.labels.next()?;
         Some(FeatureId::new(self.package_id, *label))
     }
@@ -46,21 +46,30 @@ impl<'a> Iterator for Iter<'a> {
     }
 }
 
-impl<'a> DoubleEndedIterator for Iter<'a> {
+impl<'g> DoubleEndedIterator for Iter<'g, '_> {
     ghost use Rattle.std.specs.Iterator.{YieldsLastBy};
     ghost use Rattle.guppy_feature_ids.specs.IdViews.{id_view};
     ghost use Rattle.guppy_feature_lists.specs.ListViews.{features_left};
 
     ghost next_back_gives = { YieldsLastBy id_view features_left };
 
-    fn next_back(&mut self) -> Option<FeatureId<'a>> {
+    fn next_back(&mut self) -> Option<FeatureId<'g>> {
         let label = self.labels.next_back()?;
         Some(FeatureId::new(self.package_id, *label))
     }
 }
 
-impl ExactSizeIterator for Iter<'_> {
+impl ExactSizeIterator for Iter<'_, '_> {
     fn len(&self) -> usize {
         self.labels.len()
+    }
+}
+
+impl fmt::Debug for Iter<'_, '_> {
+    fn fmt<W: fmt::Write>(&self, f: &mut fmt::Formatter<W>) -> fmt::Result {
+        f.debug_struct("Iter")
+            .field("package_id", &self.package_id)
+            .field("labels", &self.labels.as_slice())
+            .finish()
     }
 }

@@ -3,19 +3,19 @@ ghost use Rattle.guppy_feature_ids.specs.LabelViews.{label_view};
 ghost use Rattle.guppy_feature_lists.specs.Labels.{name_by, names_of};
 
 use guppy_feature_ids::{FeatureKind, FeatureLabel};
-use std::slice;
+use std::{fmt, slice};
 
 /// The names in labels of one kind, in their order.
 #[derive(Drop)]
-pub struct LabelNames<'a> {
+pub struct LabelNames<'g, 'a> {
     kind: FeatureKind,
-    labels: slice::Iter<'a, FeatureLabel<'a>>,
+    labels: slice::Iter<'a, FeatureLabel<'g>>,
 }
 
-impl<'a> LabelNames<'a> {
+impl<'g, 'a> LabelNames<'g, 'a> {
     ghost use Rattle.guppy_feature_lists.specs.ListViews.{names_left};
 
-    pub(crate) fn of(kind: FeatureKind, labels: &'a [FeatureLabel<'a>]) -> LabelNames<'a>
+    pub(crate) fn of(kind: FeatureKind, labels: &'a [FeatureLabel<'g>]) -> LabelNames<'g, 'a>
         ensures { names_left result ≡ names_of kind (map label_view labels.entry.now) }
     {
         LabelNames {
@@ -25,8 +25,8 @@ impl<'a> LabelNames<'a> {
     }
 }
 
-impl<'a> Iterator for LabelNames<'a> {
-    type Item = &'a str;
+impl<'g> Iterator for LabelNames<'g, '_> {
+    type Item = &'g str;
 
     ghost use Rattle.std.specs.Iterator.{YieldsFirstBy, item_count};
     ghost use Rattle.guppy_feature_lists.specs.ListViews.{names_left};
@@ -35,7 +35,7 @@ impl<'a> Iterator for LabelNames<'a> {
 
     ghost remaining = { item_count names_left };
 
-    fn next(&mut self) -> Option<&'a str> {
+    fn next(&mut self) -> Option<&'g str> {
         while let Some(label) = self.labels.next() {
             if let Some(name) = name_by(self.kind, *label) {
                 return Some(name);
@@ -45,12 +45,21 @@ impl<'a> Iterator for LabelNames<'a> {
     }
 }
 
-fn name_by<'a>(kind: FeatureKind, label: FeatureLabel<'a>) -> Option<&'a str>
+fn name_by<'g>(kind: FeatureKind, label: FeatureLabel<'g>) -> Option<&'g str>
     ensures { option_map (λ name. name.now) result ≡ name_by kind (label_view label.entry) }
 {
     match (kind, label) {
         (FeatureKind::Named, FeatureLabel::Named(name)) => Some(name),
         (FeatureKind::OptionalDependency, FeatureLabel::OptionalDependency(name)) => Some(name),
         _ => None,
+    }
+}
+
+impl fmt::Debug for LabelNames<'_, '_> {
+    fn fmt<W: fmt::Write>(&self, f: &mut fmt::Formatter<W>) -> fmt::Result {
+        f.debug_struct("LabelNames")
+            .field("kind", &self.kind)
+            .field("labels", &self.labels.as_slice())
+            .finish()
     }
 }
