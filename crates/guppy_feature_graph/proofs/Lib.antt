@@ -8,3 +8,4 @@ pub mod PackageFacts
 pub mod TakeFacts
 pub mod ListFacts
 pub mod RootOrderFacts
+pub mod InitialFacts

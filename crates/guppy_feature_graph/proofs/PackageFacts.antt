@@ -2,15 +2,11 @@
 use Rattle.std.proofs.Common.{◌≡◌, ◌↔◌, ◌⊎◌, ⊎_elim, inl, inr, ℕ, suc, ◌+◌, ◌<◌, Bool, true, false, true≢false, not, get_or, List, [], Option, Some, None, Contains, IsTrue, length, map, position, sym, subst, ap, ◌∙◌, refl, arith}
 use Rattle.std.specs.Str.{bytes_eq}
 use Rattle.std.proofs.lemmas.Bool.{cases_lt}
-use Rattle.std.proofs.lemmas.List.Sums.{prefix_len_stops}
-use Rattle.std.proofs.lemmas.Slice.Eq.{bytes_eq-Decides}
-use Rattle.guppy_feature_demands.proofs.NumberFacts.{at_place}
-use Rattle.guppy_feature_graph.specs.Queries.{QueryValue}
 use Rattle.numbered_graph.specs.Sets.{has}
 use Rattle.workspace_record.specs.Records.{Text}
-use Rattle.guppy_package_table.specs.Tables.{TableValue, id_at, ids_of}
+use Rattle.guppy_package_table.specs.Tables.{TableValue, ids_of}
 use Rattle.guppy_feature_nodes.specs.Graphs.{FeatureGraphValue, feature_at}
-use Rattle.guppy_feature_graph.specs.PackageFeatures.{IsOfFeature, IsOfInitial, IsOfPackage, IsOfSet}
+use Rattle.guppy_feature_graph.specs.PackageFeatures.{IsOfFeature, IsOfPackage, IsOfSet}
 use Rattle.guppy_feature_graph.specs.Sets.{SetValue}
 use Rattle.guppy_package_graph.specs.Finding.{IsAt, IsNamed}
 use Rattle.list_facts.proofs.Membership.{Contains-map, Contains-map_cases}
@@ -83,22 +79,3 @@ named_features s nodes ids place members are = (there, back)
     back : IsOfFeature s place → IsNamed s.graph.rows ids place
     back h =
         Any-from_Contains (λ id. IsAt s.graph.rows id place) ids (feature_at s.graph h.node).package_id (subst (λ xs. Contains xs (feature_at s.graph h.node).package_id) (sym are) (Contains-map (λ v. (feature_at s.graph v).package_id) nodes h.node ((members h.node).1 h.is_in))) h.is_at
-
-not_not : (b : Bool) → not b ≡ false → b ≡ true
-not_not true e = refl
-not_not false e = sym e
-
--- the package that was found by an id has it
-pub found_id : (t : TableValue) (id : Text) (place : ℕ) → IsAt t id place → place < length (ids_of t.packages) → id_at t place ≡ id
-found_id t id place at lt =
-    let ids = ids_of t.packages in
-    let here = at_place (bytes_eq id) ids place at in
-    let stops = not_not _ (prefix_len_stops (λ x. not (bytes_eq id x)) ids [] (subst (λ n. n < length ids) (sym here) lt)) in
-    sym ((bytes_eq-Decides id (id_at t place)).0 (subst (λ n. bytes_eq id (get_or ids n []) ≡ true) here stops))
-
--- packages of the features of a query's initials
-pub of_initial : (q : QueryValue) (s : SetValue) (place : ℕ) → s.graph ≡ q.graph → ((v : ℕ) → Contains q.initials v ↔ IsTrue (has s.included v)) → IsOfFeature s place ↔ IsOfInitial q place
-of_initial q s place graph members = (
-  λ h. record { node = h.node; among = (members h.node).1 h.is_in; is_at = subst (λ (g : FeatureGraphValue). IsAt g.rows (feature_at g h.node).package_id place) graph h.is_at },
-  λ h. record { node = h.node; is_in = (members h.node).0 h.among; is_at = subst (λ (g : FeatureGraphValue). IsAt g.rows (feature_at g h.node).package_id place) (sym graph) h.is_at },
-)

@@ -4,8 +4,8 @@ use Rattle.std.specs.Option.{is_none}
 use Rattle.std.proofs.lemmas.Bool.{and_parts}
 use Rattle.std.proofs.lemmas.Bool.Decides.{nat_tests}
 use Rattle.std.proofs.lemmas.List.{length-map, map-append}
-use Rattle.list_facts.proofs.Lists.{map-map}
 use Rattle.numbered_graph.specs.declared.direction.Direction.{Direction}
+use Rattle.numbered_graph.specs.Graphs.{GraphValue}
 use Rattle.numbered_graph.specs.Paths.{any_link, IsReached}
 use Rattle.numbered_graph.specs.Sets.{has}
 use Rattle.numbered_offers.specs.declared.due.Due.{Due}
@@ -13,14 +13,14 @@ use Rattle.numbered_offers.specs.declared.edge.Edge.{Edge}
 use Rattle.numbered_offers.specs.declared.offer.Offer.{Offer}
 use Rattle.numbered_offers.specs.declared.due.Due.TheVariants.{One, Halves}
 use Rattle.numbered_offers.specs.Dues.{asked_of, asks}
-use Rattle.numbered_offers.specs.Edges.{edge_at, edge_links, has_offer, is_offer, link_of, required_half, same_offer}
+use Rattle.numbered_offers.specs.Edges.{edge_at, has_offer, is_offer, required_half, same_offer}
 use Rattle.numbered_offers.specs.Graphs.{OfferGraphValue}
 use Rattle.numbered_offers.specs.OfferWalks.{OfferWalkValue}
 use Rattle.numbered_offers.specs.Runs.{IsLegalRun, IsReachedBy, Run}
 use Rattle.guppy_row_parts.specs.declared.dependency_direction.DependencyDirection.{DependencyDirection}
 use Rattle.guppy_package_graph.specs.Directions.{direction_of}
 use Rattle.guppy_package_graph.specs.Visits.{Chain, SameSteps}
-use Rattle.guppy_feature_nodes.specs.GraphEdges.{ends_of}
+use Rattle.guppy_feature_nodes.specs.GraphEdges.{edge_ends}
 use Rattle.guppy_feature_nodes.specs.Graphs.{FeatureGraphValue}
 use Rattle.guppy_feature_nodes.specs.Offering.{offer_edge, offered}
 use Rattle.guppy_feature_graph.specs.Queries.{IsQueryOf, QueryValue}
@@ -102,19 +102,14 @@ required_asked due e is = ap (λ d. asks (Some d) (required_half e)) is ∙ here
     here : (e : ℕ) → asks (Some (Halves e)) (required_half e) ≡ true
     here e = grind (arith, nat_tests)
 
--- the ends of the edges that are offered are those of the edges
-pub ends_offered : (q : QueryValue) → edge_links (offered_edges q) ≡ map ends_of q.graph.edges
-ends_offered q = map-map link_of (offer_edge (direction_of q.direction) (length q.graph.nodes) q.graph.rows.links) q.graph.edges
-
 -- what edges lead to is the reach of a query
-pub reach_of : (q : QueryValue) (g : OfferGraphValue) (d : Direction) (starts : List ℕ) (set : List Bool) (s : SetValue) → g ≡ offered (direction_of q.direction) q.graph → d ≡ direction_of q.direction → starts ≡ q.initials → s.graph ≡ q.graph → s.included ≡ set → ((v : ℕ) → IsTrue (has set v) ↔ IsReached d (edge_links g.edges) any_link starts v) → IsReachOf q s
-reach_of q g d starts set s graph direction initials of_graph included members =
-    let by_set : (v : ℕ) → IsTrue (has s.included v) ↔ IsReached d (edge_links g.edges) any_link starts v = subst (λ xs. (v : ℕ) → IsTrue (has xs v) ↔ IsReached d (edge_links g.edges) any_link starts v) (sym included) members in
-    let ends : edge_links g.edges ≡ map ends_of q.graph.edges = ap (λ (x : OfferGraphValue). edge_links x.edges) graph ∙ ends_offered q in
+pub reach_of : (q : QueryValue) (g : GraphValue) (d : Direction) (starts : List ℕ) (set : List Bool) (s : SetValue) → g ≡ record { nodes = length q.graph.nodes; links = edge_ends q.graph.edges } → d ≡ direction_of q.direction → starts ≡ q.initials → s.graph ≡ q.graph → s.included ≡ set → ((v : ℕ) → IsTrue (has set v) ↔ IsReached d g.links any_link starts v) → IsReachOf q s
+reach_of q g d starts set s edges direction initials of_graph included members =
+    let by_set : (v : ℕ) → IsTrue (has s.included v) ↔ IsReached d g.links any_link starts v = subst (λ xs. (v : ℕ) → IsTrue (has xs v) ↔ IsReached d g.links any_link starts v) (sym included) members in
     record {
       graph = of_graph;
-      members = subst (λ xs. (v : ℕ) → IsTrue (has s.included v) ↔ IsReached (direction_of q.direction) (map ends_of q.graph.edges) any_link xs v) initials
-          (subst (λ ls. (v : ℕ) → IsTrue (has s.included v) ↔ IsReached (direction_of q.direction) ls any_link starts v) ends (subst (λ x. (v : ℕ) → IsTrue (has s.included v) ↔ IsReached x (edge_links g.edges) any_link starts v) direction by_set));
+      members = subst (λ xs. (v : ℕ) → IsTrue (has s.included v) ↔ IsReached (direction_of q.direction) (edge_ends q.graph.edges) any_link xs v) initials
+          (subst (λ (x : GraphValue). (v : ℕ) → IsTrue (has s.included v) ↔ IsReached (direction_of q.direction) x.links any_link starts v) edges (subst (λ x. (v : ℕ) → IsTrue (has s.included v) ↔ IsReached x g.links any_link starts v) direction by_set));
     }
 
 below : (a b : ℕ) → nat_lt a b ≡ true → a < b

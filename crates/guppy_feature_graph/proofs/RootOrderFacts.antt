@@ -23,7 +23,6 @@ use Rattle.guppy_feature_demands.specs.Nodes.{base_of, dep_of, features_of, firs
 use Rattle.guppy_feature_nodes.proofs.DistinctFacts.{nodes_differ}
 use Rattle.guppy_feature_nodes.proofs.NodeFacts.{node_package}
 use Rattle.guppy_feature_nodes.specs.Graphs.{FeatureGraphValue, feature_at}
-use Rattle.guppy_feature_lists.proofs.LabelFacts.{order_is}
 use Rattle.guppy_feature_ids.specs.declared.feature_label.FeatureLabel.TheVariants as code
 use Rattle.guppy_feature_graph.specs.RootOrder.{Ascend, package_place, root_cmp}
 use Rattle.guppy_feature_graph.specs.RootPlaces.{PlaceValue, place_at, place_view}
@@ -172,7 +171,7 @@ place_total =
     then_total (on_total (λ p. p.base) nat_cmp_total) (then_total (on_total (λ p. p.label) label_cmp_total) (on_total (λ p. p.node) nat_cmp_total))
 
 order_seen : (p q : RootPlace) → code_order p q ≡ by_place (place_view p) (place_view q)
-order_seen p q = ap (λ o. ordering_then (nat_cmp p.base q.base) (ordering_then o (nat_cmp p.node q.node))) (order_is p.label q.label)
+order_seen p q = refl
 
 -- where the last comparison does not count, the first two tell
 told : (o l n : Ordering) → ordering_then o (ordering_then l n) ≡ Less → (o ≡ Equal → l ≡ Equal → n ≡ Less → ⊥) → ordering_then o l ≡ Less

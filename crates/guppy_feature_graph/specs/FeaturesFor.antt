@@ -1,5 +1,5 @@
 -- The features of one package that are in a set.
-use Rattle.std.specs.Prelude.{◌≡◌, ◌≢◌, ◌↔◌, ◌⊎◌, ⊤, ℕ, Bool, List, [], ◌∷◌, Any, Contains, IsTrue, map, Option, Some, None, Result, Ok, Err, filter, slice_get}
+use Rattle.std.specs.Prelude.{◌≡◌, ◌≢◌, ◌↔◌, ◌⊎◌, ⊤, ℕ, Bool, false, List, [], ◌∷◌, Any, Contains, IsTrue, map, Option, Some, None, Result, Ok, Err, filter, slice_get}
 use Rattle.std.specs.List.{list_any}
 use Rattle.numbered_graph.specs.Sets.{has}
 use Rattle.workspace_record.specs.Records.{Package, Text}
@@ -26,6 +26,11 @@ has_label s id l = has s.included (number_of s.graph.nodes (record { package_id 
 -- the labels of a package's row whose features are in the set
 abbrev pub labels_in : SetValue → Package → List LabelValue
 labels_in s row = filter (has_label s row.id) (labels_of row)
+
+-- one of the features that a package's row lists is in the set
+abbrev pub has_row : SetValue → Option Package → Bool
+has_row s None = false
+has_row s (Some row) = list_any (has_label s row.id) (labels_of row)
 
 -- the package with the id, and its row
 pub record IsRowOf (t : TableValue) (id : Text) (place : ℕ) (row : Package) : Type 0 where
@@ -96,3 +101,9 @@ pub record SaysStarts (q : QueryValue) (id : Text) (answer : Bool) : Type 0 wher
 abbrev pub AnswersStarts : QueryValue → Text → Result Bool Error → Type 0
 AnswersStarts q id (Ok answer) = SaysStarts q id answer
 AnswersStarts q id (Err error) = IsUnknown q.graph.rows id × (error ≡ UnknownPackageId)
+
+-- one of the features that are listed by the row of the package at a place is an initial
+pub record HasInitial (q : QueryValue) (place : ℕ) : Type 0 where
+  pub row : Package
+  pub is_row : slice_get q.graph.rows.packages place ≡ Some row
+  pub among : Any (λ l. Contains q.initials (number_of q.graph.nodes (record { package_id = row.id; label = l }))) (labels_of row)

@@ -1,20 +1,27 @@
 -- Laws of features and of their labels.
-use Rattle.std.specs.Prelude.{◌≡◌, true}
+use Rattle.std.specs.Prelude.{◌≡◌, Bool, true}
 use Rattle.std.specs.Cmp.{IsEquivalence, IsTotalOrder}
+use Rattle.std.specs.Hash as fed
 use Rattle.std.specs.Ordering.{eq_by_cmp}
-use Rattle.workspace_record.specs.Features.{FeatureValue, LabelValue, feature_cmp, feature_eq, feature_writes, label_cmp, label_eq, label_writes}
+use Rattle.std.specs.declared.cmp.Ordering.{Ordering}
+use Rattle.guppy_feature_ids.specs.contracts.feature_id.FeatureIdHash.TheImpl as id_hash
+use Rattle.guppy_feature_ids.specs.contracts.feature_id.FeatureIdOrd.TheImpl as id_order
+use Rattle.guppy_feature_ids.specs.contracts.feature_id.FeatureIdPartialEq.TheImpl as id_equality
+use Rattle.guppy_feature_ids.specs.contracts.feature_label.FeatureLabelHash.TheImpl as label_hash
+use Rattle.guppy_feature_ids.specs.contracts.feature_label.FeatureLabelOrd.TheImpl as label_order
+use Rattle.guppy_feature_ids.specs.contracts.feature_label.FeatureLabelPartialEq.TheImpl as label_equality
 
--- equality of features is an equivalence, their order is total and tells just unequal ones apart, and equal ones feed a hasher
--- the same
-pub record FeaturesAreLawful : Type 0 where
-  pub equality : IsEquivalence feature_eq
-  pub order : IsTotalOrder feature_cmp
-  pub ties : (a b : FeatureValue) → feature_eq a b ≡ eq_by_cmp feature_cmp a b
-  pub hash : (a b : FeatureValue) → feature_eq a b ≡ true → feature_writes a ≡ feature_writes b
+-- equality is an equivalence, the order is total and tells just unequal ones apart, and equal ones feed a hasher the same
+pub record AreLawful {X : Type 0} (eq : X → X → Bool) (cmp : X → X → Ordering) (writes : X → fed.HashWrites) : Type 0 where
+  pub equality : IsEquivalence eq
+  pub order : IsTotalOrder cmp
+  pub ties : (a b : X) → eq a b ≡ eq_by_cmp cmp a b
+  pub hash : (a b : X) → eq a b ≡ true → writes a ≡ writes b
 
--- the same of labels
-pub record LabelsAreLawful : Type 0 where
-  pub equality : IsEquivalence label_eq
-  pub order : IsTotalOrder label_cmp
-  pub ties : (a b : LabelValue) → label_eq a b ≡ eq_by_cmp label_cmp a b
-  pub hash : (a b : LabelValue) → label_eq a b ≡ true → label_writes a ≡ label_writes b
+-- by the equality, the order and the hash of `FeatureId`
+abbrev pub FeaturesAreLawful : Type 0
+FeaturesAreLawful = AreLawful (id_equality.ghosts).eq (id_order.ghosts).cmp (id_hash.ghosts).hash_input
+
+-- by those of `FeatureLabel`
+abbrev pub LabelsAreLawful : Type 0
+LabelsAreLawful = AreLawful (label_equality.ghosts).eq (label_order.ghosts).cmp (label_hash.ghosts).hash_input

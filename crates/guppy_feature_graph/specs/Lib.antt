@@ -2,6 +2,7 @@ pub mod Links
 pub mod Views
 pub mod Finding
 pub mod Sets
+pub mod SetEquality
 pub mod Filters
 pub mod StandardFilters
 pub mod FilterClosures
@@ -18,4 +19,5 @@ pub mod SetParts
 pub mod PackageFeatures
 pub mod Judging
 pub mod FeaturesFor
+pub mod InitialViews
 pub mod Laws

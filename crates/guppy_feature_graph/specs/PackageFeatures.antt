@@ -1,5 +1,5 @@
 -- The features of packages.
-use Rattle.std.specs.Prelude.{◌≡◌, ◌↔◌, ℕ, ◌<◌, Bool, List, Contains, IsTrue, Some, length, slice_get, if◌then◌else◌}
+use Rattle.std.specs.Prelude.{◌≡◌, ◌↔◌, ℕ, ◌<◌, Bool, List, IsTrue, Some, length, slice_get, if◌then◌else◌}
 use Rattle.std.specs.List.{list_any}
 use Rattle.std.specs.Str.{bytes_eq}
 use Rattle.numbered_graph.specs.Sets.{has}
@@ -11,7 +11,6 @@ use Rattle.guppy_package_table.specs.Tables.{TableValue, id_at}
 use Rattle.guppy_feature_demands.specs.Nodes.{base_of, named_of}
 use Rattle.guppy_feature_nodes.specs.Orders.{default_name}
 use Rattle.guppy_feature_nodes.specs.Graphs.{FeatureGraphValue, feature_at}
-use Rattle.guppy_feature_graph.specs.Queries.{QueryValue}
 use Rattle.guppy_feature_graph.specs.Sets.{SetValue}
 
 -- the feature's package is at a place that passes
@@ -41,12 +40,6 @@ pub record IsOfFeature (s : SetValue) (place : ℕ) : Type 0 where
 pub record IsPackageSetOf (g : FeatureGraphValue) (passes : ℕ → Type 0) (packages : sets.SetValue) : Type 0 where
   pub graph : packages.graph ≡ g.rows
   pub members : (place : ℕ) → IsTrue (has packages.included place) ↔ passes place
-
--- one of a query's initials is of the package at the place
-pub record IsOfInitial (q : QueryValue) (place : ℕ) : Type 0 where
-  pub node : ℕ
-  pub among : Contains q.initials node
-  pub is_at : IsAt q.graph.rows (feature_at q.graph node).package_id place
 
 -- the id of a package that is told by its graph and its place
 abbrev pub id_seen : TableValue × ℕ → Text

@@ -16,6 +16,7 @@ use guppy_feature_views::AllCycles;
 use guppy_package_graph::Error;
 use numbered_graph::{Direction, cycles};
 use std::alloc::{AllocError, Global};
+use std::fmt;
 use std::marker::Model;
 
 /// The components of a graph with two or more features.
@@ -71,12 +72,18 @@ impl<'g> Cycles<'g> {
 
     /// The cycles, each as the ids of its features: none after one that leads to it, features of one
     /// cycle together.
-    pub fn all_cycles(&self) -> AllCycles<'_>
+    pub fn all_cycles(&self) -> AllCycles<'g, '_>
         ensures graph { cycles_graph_of result ≡ self.now.graph }
         ensures cycles { cycles_left result ≡ self.now.cycles }
         ensures cyclic { AreCycles Reverse (edge_ends self.now.graph.edges) self.now.cycles }
     {
         AllCycles::of(self.graph.built(), &self.cycles)
+    }
+}
+
+impl fmt::Debug for Cycles<'_> {
+    fn fmt<W: fmt::Write>(&self, f: &mut fmt::Formatter<W>) -> fmt::Result {
+        f.debug_tuple("Cycles").field(&self.all_cycles()).finish()
     }
 }
 

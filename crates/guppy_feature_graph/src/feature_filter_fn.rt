@@ -1,6 +1,7 @@
 use crate::feature_filter::FeatureFilter;
 use crate::feature_graph::FeatureGraph;
 use guppy_feature_nodes::FeatureId;
+use std::fmt;
 
 /// A filter that answers as a closure does. The closure's state is not changed by a call.
 #[derive(Drop)]
@@ -31,5 +32,11 @@ impl<F: Fn(&FeatureGraph<'_>, FeatureId<'_>) -> bool> FeatureFilter for FeatureF
 
     fn accept(&mut self, graph: &FeatureGraph<'_>, feature_id: FeatureId<'_>) -> bool {
         (self.filter)(graph, feature_id)
+    }
+}
+
+impl<F> fmt::Debug for FeatureFilterFn<F> {
+    fn fmt<W: fmt::Write>(&self, f: &mut fmt::Formatter<W>) -> fmt::Result {
+        f.debug_struct("FeatureFilterFn").finish_non_exhaustive()
     }
 }

@@ -17,7 +17,7 @@ use guppy_package_graph::{Error, FeatureGraphWarning, PackageGraph};
 
 /// The features of a package graph's packages and the links between them: a view of data that is
 /// built once, by `FeatureGraphData::build`.
-#[derive(Clone, Copy)]
+#[derive(Clone, Copy, Debug)]
 pub struct FeatureGraph<'g> {
     built: &'g FeatureGraphData<'g>,
 }
@@ -115,7 +115,8 @@ impl<'g> FeatureGraph<'g> {
     }
 }
 
-fn name_of(feature_id: FeatureId<'_>) -> FeatureName<'_>
+/// A feature as its id names it.
+pub(crate) fn name_of(feature_id: FeatureId<'_>) -> FeatureName<'_>
     ensures { name_view result ≡ id_view feature_id.entry }
 {
     FeatureName {

@@ -8,7 +8,7 @@ use guppy_feature_views::ConditionalLink;
 use guppy_package_graph::DependencyDirection;
 
 /// The query for which a link is shown.
-#[derive(Clone, Copy)]
+#[derive(Clone, Copy, Debug)]
 pub struct FeatureLinkContext<'a> {
     query: &'a FeatureQuery<'a>,
 }

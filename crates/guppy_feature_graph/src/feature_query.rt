@@ -7,6 +7,7 @@ use crate::feature_graph::FeatureGraph;
 use crate::feature_set::FeatureSet;
 use guppy_package_graph::DependencyDirection;
 use std::alloc::{AllocError, Global};
+use std::fmt;
 use std::marker::Model;
 
 /// Features of a graph from which links are followed in a direction.
@@ -61,6 +62,15 @@ impl<'g> FeatureQuery<'g> {
         }
     }
 
+    /// An equal query in memory of its own.
+    pub fn copy(&self, alloc: Global) -> Result<FeatureQuery<'g>, AllocError>
+        ensures same { IfOk result (λ q. q ≡ self.now) }
+    {
+        let initials = self.initials.copy(alloc)?;
+        let starts = Vec::from_slice(alloc, &self.starts)?;
+        Ok(FeatureQuery::with_starts(initials, self.direction, starts))
+    }
+
     /// The graph that is asked.
     pub fn graph(&self) -> &FeatureGraph<'g>
         ensures graph { feature_graph_of result.now ≡ self.now.graph }
@@ -94,5 +104,14 @@ impl<'g> FeatureQuery<'g> {
         ensures { IsTrue result ↔ Contains self.now.initials node }
     {
         self.initials.included().contains(node)
+    }
+}
+
+impl fmt::Debug for FeatureQuery<'_> {
+    fn fmt<W: fmt::Write>(&self, f: &mut fmt::Formatter<W>) -> fmt::Result {
+        f.debug_struct("FeatureQuery")
+            .field("direction", &self.direction)
+            .field("initials", &self.initials)
+            .finish()
     }
 }

@@ -15,6 +15,7 @@ use guppy_feature_views::{FeatureIds, Features};
 use guppy_package_graph::{DependencyDirection, Error};
 use numbered_graph::{Listed, NodeSet};
 use std::alloc::{AllocError, Global};
+use std::fmt;
 use std::marker::Model;
 
 /// A set of features of a graph.
@@ -56,6 +57,14 @@ impl<'g> FeatureSet<'g> {
         ensures sized { length result.now ≡ length self.now.graph.nodes }
     {
         &self.included
+    }
+
+    /// An equal set in memory of its own.
+    pub fn copy(&self, alloc: Global) -> Result<FeatureSet<'g>, AllocError>
+        ensures same { IfOk result (λ s. s ≡ self.now) }
+    {
+        let included = same_nodes(alloc, &self.included)?;
+        Ok(FeatureSet::of(self.graph, included))
     }
 
     /// How many features are in the set.
@@ -145,7 +154,7 @@ impl<'g> FeatureSet<'g> {
     /// The ids of the features of the set: components together, edges between components forward, and
     /// those forward too that stand on more than dev lines, unless they lie on a cycle of such edges.
     /// In Reverse that list reversed.
-    pub fn feature_ids(&self, direction: DependencyDirection) -> FeatureIds<'_>
+    pub fn feature_ids(&self, direction: DependencyDirection) -> FeatureIds<'g, '_>
         ensures graph { ids_graph_of result ≡ self.now.graph }
         ensures listed { ids_nodes_left result ≡ in_direction (direction_of direction) (listed self.now) }
         ensures listing { IsInOrder self.now }
@@ -154,7 +163,7 @@ impl<'g> FeatureSet<'g> {
     }
 
     /// The features of the set, in the order of `feature_ids`.
-    pub fn features(&self, direction: DependencyDirection) -> Features<'_>
+    pub fn features(&self, direction: DependencyDirection) -> Features<'g, '_>
         ensures graph { features_graph_of result ≡ self.now.graph }
         ensures listed { features_left result ≡ in_direction (direction_of direction) (listed self.now) }
         ensures listing { IsInOrder self.now }
@@ -171,6 +180,22 @@ impl<'g> FeatureSet<'g> {
         let built = self.graph.built();
         Listed::new(built.listing(), &self.included, direction_of(direction))
     }
+}
+
+impl fmt::Debug for FeatureSet<'_> {
+    fn fmt<W: fmt::Write>(&self, f: &mut fmt::Formatter<W>) -> fmt::Result {
+        f.debug_set()
+            .entries(self.feature_ids(DependencyDirection::Forward))
+            .finish()
+    }
+}
+
+// The same nodes once more.
+fn same_nodes(alloc: Global, nodes: &NodeSet) -> Result<NodeSet, AllocError>
+    ensures { IfOk result (λ s. s ≡ nodes.now) }
+{
+    let same = nodes.union(alloc, nodes)?;
+    Ok(same)
 }
 
 fn same_ids(a: &[FeatureId<'_>], b: &[FeatureId<'_>]) -> bool

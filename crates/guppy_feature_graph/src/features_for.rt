@@ -117,7 +117,14 @@ fn has_label(set: &FeatureSet<'_>, package_id: &str, label: FeatureLabel<'_>) ->
     set.included().contains(set.graph().built().number_of(name))
 }
 
-fn has_feature_of(set: &FeatureSet<'_>, row: &PackageRow) -> bool
+/// Whether one of the features that a package's row lists is in the set.
+pub(crate) fn has_feature_of(set: &FeatureSet<'_>, row: &PackageRow) -> bool
+    ensures { result ≡ list_any (has_label set.now row.now.id) (labels_of row.now) }
+{
+    has_one(set, row)
+}
+
+fn has_one(set: &FeatureSet<'_>, row: &PackageRow) -> bool
     ensures { result ≡ (has_label set.now row.now.id Base || (list_any (λ f. has_label set.now row.now.id (Named f.name)) row.now.features || list_any (λ n. has_label set.now row.now.id (Dep n)) row.now.optional)) }
 {
     let base = has_label(set, row.id.as_str(), FeatureLabel::Base);

@@ -9,7 +9,7 @@ use crate::feature_graph::FeatureGraph;
 use guppy_feature_nodes::FeatureId;
 
 /// Takes what its base takes, and each of these features.
-#[derive(Drop)]
+#[derive(Debug, Drop)]
 pub struct FeatureIdFilter<'a, B: FeatureFilter> {
     base: B,
     feature_ids: &'a [FeatureId<'a>],

@@ -9,7 +9,7 @@ use crate::feature_graph::FeatureGraph;
 use guppy_feature_nodes::{FeatureId, FeatureLabel};
 
 /// Takes what its base takes, and each feature that a package names so.
-#[derive(Drop)]
+#[derive(Debug, Drop)]
 pub struct NamedFeatureFilter<'a, B: FeatureFilter> {
     base: B,
     names: &'a [&'a str],

@@ -1,53 +1,59 @@
 //! The packages from whose features links are followed.
 
-ghost use Rattle.std.specs.Prelude.{◌≡◌, ℕ, List, IfOk, map};
-ghost use Rattle.guppy_package_table.specs.Tables.{id_at};
-ghost use Rattle.guppy_package_graph.specs.Queries.{AreInitials};
-ghost use Rattle.guppy_package_graph.specs.Views.{seen};
-ghost use Rattle.guppy_feature_graph.specs.PackageFeatures.{IsOfInitial, id_seen};
+ghost use Rattle.std.specs.Prelude.{◌≡◌, ℕ, List, map};
+ghost use Rattle.guppy_feature_graph.specs.FeaturesFor.{HasInitial};
+ghost use Rattle.guppy_feature_graph.specs.InitialViews.{initial_packages_left};
+ghost use Rattle.guppy_feature_graph.specs.Queries.{AreInitials};
 
 use crate::feature_query::FeatureQuery;
-use guppy_package_graph::{PackageGraph, PackageMetadata, PackageQuery};
-use std::alloc::{AllocError, Global};
+use crate::feature_set::FeatureSet;
+use crate::features_for::has_feature_of;
+use guppy_package_graph::{AllPackages, PackageMetadata};
+use std::fmt;
+
+/// The packages that have a feature in a set, each once in the order of the record.
+#[derive(Clone, Copy)]
+pub struct InitialPackages<'g, 'a> {
+    initials: &'a FeatureSet<'g>,
+    packages: AllPackages<'g>,
+}
 
 impl<'g> FeatureQuery<'g> {
     /// The packages that have a feature among the initials, each once in the order of the record.
-    pub fn initial_packages(&self, alloc: Global) -> Result<Vec<PackageMetadata<'g>>, AllocError>
-        ensures packages { IfOk result (λ ps. (places : List ℕ) × AreInitials (IsOfInitial self.now) places
-            × (map (λ m. id_seen (seen m)) ps.items ≡ map (id_at self.now.graph.rows) places)) }
+    pub fn initial_packages(&self) -> InitialPackages<'g, '_>
+        ensures packages { (places : List ℕ) × AreInitials (HasInitial self.now) places
+            × (initial_packages_left result ≡ map (λ v. (self.now.graph.rows, v)) places) }
     {
-        let packages = self.initials().to_package_set(alloc)?;
-        let query = packages.to_package_query(alloc, self.direction())?;
-        packages_of(alloc, self.graph().package_graph(), &query)
+        let initials = self.initials();
+        let packages = self.graph().package_graph().packages();
+        InitialPackages { initials, packages }
     }
 }
 
-// The initials of a query, as packages of a graph.
-fn packages_of<'g>(
-    alloc: Global,
-    graph: &'g PackageGraph,
-    query: &PackageQuery<'_>,
-) -> Result<Vec<PackageMetadata<'g>>, AllocError>
-    ensures { IfOk result (λ ps. map (λ m. id_seen (seen m)) ps.items ≡ map (id_at query.now.graph) query.now.initials) }
-{
-    let mut found: Vec<PackageMetadata<'g>> = Vec::new(alloc);
-    let mut packages = query.initials();
-    while let Some(package) = packages.next() {
-        let own = package_of(graph, package)?;
-        found.push(own)?;
+impl<'g> Iterator for InitialPackages<'g, '_> {
+    type Item = PackageMetadata<'g>;
+
+    ghost use Rattle.std.specs.Iterator.{YieldsFirstBy, item_count};
+    ghost use Rattle.guppy_package_graph.specs.Views.{seen};
+    ghost use Rattle.guppy_feature_graph.specs.InitialViews.{initial_packages_left};
+
+    ghost next_gives = { YieldsFirstBy seen initial_packages_left };
+
+    ghost remaining = { item_count initial_packages_left };
+
+    fn next(&mut self) -> Option<PackageMetadata<'g>> {
+        while let Some(package) = self.packages.next() {
+            if has_feature_of(self.initials, package.row()) {
+                return Some(package);
+            }
+        }
+        None
     }
-    Ok(found)
 }
 
-// The package with the id of another one, which the graph has.
-fn package_of<'g>(
-    graph: &'g PackageGraph,
-    package: PackageMetadata<'_>,
-) -> Result<PackageMetadata<'g>, AllocError>
-    ensures { IfOk result (λ m. id_seen (seen m) ≡ id_seen (seen «package».entry)) }
-{
-    match graph.metadata(package.id()) {
-        Ok(own) => Ok(own),
-        Err(_) => Err(AllocError),
+/// Lists what is still to come.
+impl fmt::Debug for InitialPackages<'_, '_> {
+    fn fmt<W: fmt::Write>(&self, f: &mut fmt::Formatter<W>) -> fmt::Result {
+        f.debug_list().entries(*self).finish()
     }
 }

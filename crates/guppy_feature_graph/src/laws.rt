@@ -1,7 +1,10 @@
-//! Laws that hold of every legal run, every feature and every label.
+//! Laws that hold of every legal run, every feature, every label and every set of features.
 
 ghost use Rattle.guppy_feature_graph.specs.Laws.{FeaturesAreLawful, LabelsAreLawful};
 ghost use Rattle.guppy_feature_graph.specs.Resolves.{IsAlwaysLeast};
+ghost use Rattle.guppy_feature_graph.specs.SetEquality.{SetsAreToldByFeatures};
+
+pub use guppy_package_graph::laws::exact_sizes_are_exact;
 
 /// At the end of a legal run whose answers depend on the link alone, what is reached is the least set
 /// that holds the initials and is closed under the edges that are crossed always and the offers that
@@ -21,4 +24,9 @@ pub fn features_are_lawful()
 /// The same of labels.
 pub fn labels_are_lawful()
     ensures labels { LabelsAreLawful }
+{}
+
+/// Sets of features are equal exactly where each feature is in both or in neither.
+pub fn sets_are_told_by_features()
+    ensures told { SetsAreToldByFeatures }
 {}

@@ -31,6 +31,7 @@ mod queries;
 mod resolves;
 mod resolving;
 mod root_order;
+mod set_equality;
 mod set_parts;
 mod standard_features;
 mod taking;
@@ -46,6 +47,7 @@ pub use crate::feature_query::FeatureQuery;
 pub use crate::feature_set::FeatureSet;
 pub use crate::filter_by_ids::{FeatureIdFilter, feature_id_filter};
 pub use crate::filter_by_names::{NamedFeatureFilter, named_feature_filter};
+pub use crate::initial_packages::InitialPackages;
 pub use crate::package_sets::{
     default_feature_id, package_to_feature_set, query_to_feature_query, set_to_feature_set,
 };

@@ -10,11 +10,10 @@ use crate::direction::direction_of;
 use crate::feature_link_context::FeatureLinkContext;
 use crate::feature_query::FeatureQuery;
 use crate::feature_set::FeatureSet;
-use crate::resolving::{offers_of, resolve_by_closure, resolve_by_visitor};
+use crate::resolving::{resolve_by_closure, resolve_by_visitor};
 use crate::visitor::FeatureLinkVisitor;
 use guppy_feature_views::ConditionalLink;
-use numbered_graph::Looks;
-use numbered_offers::reach_all;
+use numbered_graph::{Looks, reach};
 use std::alloc::{AllocError, Global};
 use std::marker::Brand;
 use std::sync::ledger::{Blank, Ledger};
@@ -25,8 +24,9 @@ impl<'g> FeatureQuery<'g> {
     pub fn resolve(self, alloc: Global) -> Result<FeatureSet<'g>, AllocError>
         ensures reached { IfOk result (IsReachOf self.entry) }
     {
+        let edges = self.graph().built().edge_graph();
         let direction = direction_of(self.direction());
-        let reached = reach_all(alloc, offers_of(&self), self.starts(), direction)?;
+        let reached = reach(alloc, edges, self.starts(), direction)?;
         Ok(FeatureSet::of(*self.graph(), reached))
     }
 

@@ -24,7 +24,7 @@ use std::alloc::{AllocError, Global};
 use std::sync::ledger::Ledger;
 
 /// The edges of a query's graph, as they are offered in its direction.
-pub(crate) fn offers_of<'a>(query: &'a FeatureQuery<'_>) -> &'a OfferGraph
+fn offers_of<'a>(query: &'a FeatureQuery<'_>) -> &'a OfferGraph
     ensures { result.now ≡ offered (direction_of query.entry.now.direction) query.entry.now.graph }
 {
     query

@@ -16,7 +16,7 @@ use crate::root_order::in_root_order;
 use guppy_feature_nodes::{FeatureEdge, FeatureGraphData, FeatureId, LinkDeclarations};
 use guppy_feature_views::{ConditionalLink, FeatureMetadata};
 use guppy_package_graph::DependencyDirection;
-use numbered_graph::{NodeSet, links_inside, root_nodes};
+use numbered_graph::{links_inside, root_nodes};
 use std::alloc::{AllocError, Global};
 
 impl<'g> FeatureSet<'g> {
@@ -28,9 +28,8 @@ impl<'g> FeatureSet<'g> {
     ) -> Result<FeatureQuery<'g>, AllocError>
         ensures query { IfOk result (IsQueryOf self.now.graph direction (λ v. IsTrue (has self.now.included v))) }
     {
-        let graph = *self.graph();
-        let included = same_nodes(alloc, self.included())?;
-        FeatureQuery::of(alloc, FeatureSet::of(graph, included), direction)
+        let initials = self.copy(alloc)?;
+        FeatureQuery::of(alloc, initials, direction)
     }
 
     /// The features whose component no edge inside the set enters from another component, or in
@@ -79,16 +78,6 @@ impl<'g> FeatureSet<'g> {
         let numbers = inside(alloc, self)?;
         links_at(alloc, self.graph().built(), &numbers)
     }
-}
-
-// The same set once more.
-fn same_nodes(alloc: Global, set: &NodeSet) -> Result<NodeSet, AllocError>
-    ensures sized { IfOk result (λ s. length s ≡ length set.now) }
-    ensures same { IfOk result (λ s. (v : ℕ) → IsTrue (has s v) ↔ IsTrue (has set.now v)) }
-{
-    let members = set.members(alloc)?;
-    let same = NodeSet::of(alloc, set.node_count(), &members)?;
-    Ok(same)
 }
 
 // The numbers of the roots of a set, in the order of roots.

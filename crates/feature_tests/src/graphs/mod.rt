@@ -2,6 +2,7 @@
 
 mod filters;
 mod graphs;
+mod lent;
 mod lists;
 mod resolves;
 mod sets;

@@ -1,11 +1,8 @@
-use Rattle.std.proofs.Common.{◌≡◌, ◌∙◌, ◌||◌, Some, ap, slice_get, subst, sym}
-use Rattle.workspace_record.specs.Features.{Base, Named, Dep}
+use Rattle.std.proofs.Common.{◌≡◌, ◌∙◌, Some, ap, slice_get, subst, sym}
 use Rattle.guppy_package_table.specs.Tables.{TableValue}
 use Rattle.guppy_feature_nodes.specs.Graphs.{FeatureGraphValue}
 use Rattle.guppy_package_graph.specs.Finding.{IsAt}
 use Rattle.guppy_package_graph.specs.Views.{graph_of, place_of}
-use Rattle.guppy_feature_graph.specs.FeaturesFor.{has_label}
-use Rattle.guppy_feature_graph.proofs.ListFacts.{any_of_both}
 use Rattle.guppy_feature_graph.proofs.feature_set.FeatureSet.contains_package.Goals as goal
 
 pub returns-in-Ok : goal.returns-in-Ok
@@ -24,6 +21,6 @@ returns-in-Ok c =
         place = place_of m;
         row = r;
         is_row = record { is_at = at; is_row = row };
-        says = c.has_feature_of.ensures ∙ ap (λ b. has_label s r.id Base || b) (sym (any_of_both (has_label s r.id) (λ f. Named f.name) Dep r.features r.optional));
+        says = c.has_feature_of.ensures;
       };
     }

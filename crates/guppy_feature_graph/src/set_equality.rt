@@ -1,0 +1,66 @@
+//! Sets of features are equal where they have the same features.
+
+ghost use Rattle.std.specs.Prelude.{◌≡◌, ◌&&◌, map, nat_lt};
+ghost use Rattle.std.specs.List.{list_all};
+ghost use Rattle.numbered_graph.specs.Sets.{has};
+ghost use Rattle.guppy_feature_ids.specs.IdViews.{id_view};
+ghost use Rattle.guppy_feature_graph.specs.SetEquality.{agree_on, has_feature};
+
+use crate::feature_graph::name_of;
+use crate::feature_set::FeatureSet;
+use guppy_feature_nodes::FeatureId;
+use numbered_graph::NodeSet;
+
+impl FeatureSet<'_> {
+    /// Whether a feature is in the set; one that its graph does not have is not.
+    fn has_feature(&self, feature_id: FeatureId<'_>) -> bool
+        ensures { result ≡ has_feature self.now (id_view feature_id.entry) }
+    {
+        let built = self.graph().built();
+        let number = built.number_of(name_of(feature_id));
+        is_in(self.included(), built.feature_count(), number)
+    }
+}
+
+fn is_in(included: &NodeSet, count: usize, number: usize) -> bool
+    ensures { result ≡ (nat_lt number count && has included.now number) }
+{
+    number < count && included.contains(number)
+}
+
+/// Whether each of the features is in both sets or in neither.
+fn agree_on(a: &FeatureSet<'_>, b: &FeatureSet<'_>, ids: &[FeatureId<'_>]) -> bool
+    ensures { result ≡ list_all (λ f. agree_on a.now b.now (id_view f)) ids.now }
+{
+    ids.iter()
+        .all(|id| a.has_feature(*id) == b.has_feature(*id))
+}
+
+/// Whether each feature of the first set's graph is.
+fn agree_on_own(a: &FeatureSet<'_>, b: &FeatureSet<'_>, ids: &[FeatureId<'_>]) -> bool
+    ensures { result ≡ list_all (agree_on a.now b.now) (map id_view ids.now) }
+{
+    agree_on(a, b, ids)
+}
+
+/// Sets are equal that have the same features, be they of one graph or of two. Takes time in
+/// proportion to the features of both graphs.
+impl PartialEq for FeatureSet<'_> {
+    ghost use Rattle.std.specs.Cmp.{partial_equiv_from_equiv};
+    ghost use Rattle.guppy_feature_graph.specs.SetEquality.{have_same_features, sets_equivalence};
+
+    ghost eq = { have_same_features };
+
+    ghost laws = { partial_equiv_from_equiv sets_equivalence };
+
+    fn eq(&self, other: &Self) -> bool {
+        agree_on_own(self, other, self.graph().built().feature_ids())
+            && agree_on_own(self, other, other.graph().built().feature_ids())
+    }
+}
+
+impl Eq for FeatureSet<'_> {
+    ghost use Rattle.guppy_feature_graph.specs.SetEquality.{sets_equivalence};
+
+    ghost laws = { sets_equivalence };
+}
