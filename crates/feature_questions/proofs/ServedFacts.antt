@@ -1,24 +1,19 @@
 -- What a question is like whose record is served.
-use Rattle.std.proofs.Common.{◌≡◌, ◌↔◌, true, None, List, Result, Ok, Err, IfOk, All, Contains, get_or, subst}
+use Rattle.std.proofs.Common.{◌≡◌, ◌↔◌, true, None, List, Result, Ok, Err, IfOk, All, Contains, subst}
 use Rattle.std.specs.List.Sorted.{IsStrictlySortedBy}
-use Rattle.std.proofs.lemmas.Bool.{and_parts}
 use Rattle.workspace_record.specs.Records.{Workspace}
 use Rattle.workspace_record.specs.Choices.{Choice}
 use Rattle.workspace_record.specs.Features.{FeatureValue, feature_cmp}
 use Rattle.workspace_record.specs.declared.choice.PlatformTable.{PlatformTable}
 use Rattle.feature_account.specs.Closed.{IsOn}
 use Rattle.feature_account.specs.RuleList.{rule_list}
-use Rattle.feature_account.specs.Lines.{is_workspace_package}
-use Rattle.feature_resolving.specs.Known.{is_known_feature}
+use Rattle.feature_resolving.specs.Known.{is_known_extra}
 use Rattle.kept_records.proofs.KeptFacts.{each_passes}
-use Rattle.feature_questions.specs.Extras.{is_known_extra}
 use Rattle.feature_questions.specs.Switching.{AreOn, IsServed, unknown_extra}
 
--- where no extra is unknown, each names a feature that its package has
-pub extras_known : (w : Workspace) (choice : Choice) → unknown_extra w choice ≡ None → All (λ f. is_known_feature w f ≡ true) choice.extras
-extras_known w choice none k d lt =
-    let f = get_or choice.extras k d in
-    (and_parts (is_workspace_package w f.package_id) (is_known_feature w f) (each_passes (is_known_extra w) choice.extras none k d lt)).1
+-- where no extra is unknown, each names a feature that a workspace package has
+pub extras_known : (w : Workspace) (choice : Choice) → unknown_extra w choice ≡ None → All (λ f. is_known_extra w f ≡ true) choice.extras
+extras_known w choice = each_passes (is_known_extra w) choice.extras
 
 -- features are on, ascending, in a record that is served, where they are so in an equal one
 pub are_on : {E : Type 0} (w v : Workspace) (choice : Choice) (table : PlatformTable) (r : Result (List FeatureValue) E) → v ≡ w → IsServed w choice → IfOk r (λ on. (f : FeatureValue) → Contains on f ↔ IsOn (rule_list v choice table) f) → IfOk r (λ on. IsStrictlySortedBy feature_cmp on) → IfOk r (AreOn w choice table)

@@ -1,4 +1,3 @@
 pub mod Explaining
-pub mod Extras
 pub mod Orders
 pub mod Switching

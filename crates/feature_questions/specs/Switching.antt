@@ -10,7 +10,7 @@ use Rattle.feature_account.specs.Closed.{IsOn}
 use Rattle.feature_account.specs.RuleList.{rule_list}
 use Rattle.account_making.specs.Lowest.{IsLowestAccount, IsLooksOf}
 use Rattle.account_making.specs.declared.account.Account.{Account}
-use Rattle.feature_questions.specs.Extras.{is_known_extra}
+use Rattle.feature_resolving.specs.Known.{is_known_extra}
 use Rattle.record_checks.specs.Checks.{IsChecked}
 use Rattle.record_checks.specs.declared.record_error.RecordError.{RecordError}
 use Rattle.record_checks.specs.declared.record_error.RecordError.TheVariants as refused

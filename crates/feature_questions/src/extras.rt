@@ -2,8 +2,7 @@
 
 ghost use Rattle.std.specs.Prelude.{◌≡◌, not, position};
 ghost use Rattle.workspace_record.specs.LabelView.{label_view};
-ghost use Rattle.feature_resolving.specs.Known.{has_label, is_known_feature};
-ghost use Rattle.feature_questions.specs.Extras.{is_known_extra};
+ghost use Rattle.feature_resolving.specs.Known.{has_label, is_known_extra, is_known_feature};
 
 use record_index::{PackageIndex, RecordIndex};
 use workspace_record::{Feature, FeatureChoice, Label};

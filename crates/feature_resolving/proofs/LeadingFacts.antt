@@ -1,11 +1,9 @@
 -- What a least set of nodes includes is what its features lead to.
-use Rattle.std.proofs.Common.{◌≡◌, ◌↔◌, ℕ, ◌<◌, Bool, true, false, List, [], All, Any, Contains, IfOk, IsTrue, Result, Ok, Err, Vec, filter, length, get_or, map, nat_lt, refl, sym, subst, ap, ◌∙◌, arith, true≢false}
+use Rattle.std.proofs.Common.{◌≡◌, ◌↔◌, ℕ, ◌<◌, Bool, true, false, List, [], Contains, IfOk, IsTrue, Result, Ok, Err, Vec, filter, length, get_or, map, nat_lt, sym, subst, ap, ◌∙◌, arith}
 use Rattle.std.specs.Global.{Global}
 use Rattle.std.proofs.lemmas.Bool.Decides.{nat_tests}
 use Rattle.std.proofs.lemmas.List.{get_or-map}
-use Rattle.std.proofs.lemmas.List.Elements.{All-contains}
 use Rattle.list_facts.proofs.Membership.{Contains-none, Contains-filter, Contains-filter_cases, Contains-map, Contains-map_cases}
-use Rattle.list_facts.proofs.Quantifiers.{Any-from_Contains, Any_cases}
 use Rattle.numbered_graph.specs.declared.direction.Direction.TheVariants.{Forward}
 use Rattle.numbered_graph.specs.Links.{near_at, far_at}
 use Rattle.numbered_graph.specs.declared.link.Link as numbered
@@ -19,14 +17,13 @@ use Rattle.numbered_offers.specs.Least.{IsClosed as AreEdgesClosed, IsLeast}
 use Rattle.numbered_offers.proofs.LeastFacts.{offer_number}
 use Rattle.workspace_record.specs.Features.{FeatureValue}
 use Rattle.workspace_record.specs.declared.choice.PlatformTable.{PlatformTable}
-use Rattle.guppy_feature_demands.specs.Nodes.{base_of, is_node, nodes_of, number_of}
+use Rattle.guppy_feature_demands.specs.Nodes.{base_of, nodes_of, number_of}
 use Rattle.guppy_feature_nodes.specs.GraphEdges.{AreEdgesWithin}
 use Rattle.guppy_feature_nodes.specs.Graphs.{FeatureGraphValue, IsFeatureGraph, feature_at}
 use Rattle.guppy_feature_nodes.specs.Offering.{offers_of}
-use Rattle.guppy_feature_nodes.proofs.DistinctFacts.{at_number, node_known, nodes_differ, number_at}
+use Rattle.guppy_feature_nodes.proofs.DistinctFacts.{at_number, nodes_differ, number_at}
 use Rattle.guppy_feature_nodes.proofs.EdgeFacts.{edges_within}
 use Rattle.guppy_feature_nodes.proofs.OfferFacts.{offers_within}
-use Rattle.guppy_feature_graph.specs.Finding.{IsNamed, IsNumber, IsUnknown}
 use Rattle.guppy_feature_graph.specs.Queries.{IsQueryOf, QueryValue}
 use Rattle.guppy_feature_graph.specs.Sets.{SetValue, listed}
 use Rattle.guppy_package_graph.specs.Directions.{direction_of}
@@ -43,26 +40,24 @@ within_at nodes edges all e lt =
 below_test : (a b : ℕ) → a < b → nat_lt a b ≡ true
 below_test a b h = grind (arith, nat_tests, h)
 
-module _ (table : PlatformTable) (g : FeatureGraphValue) (built : IsFeatureGraph g) (features : List FeatureValue) (known : All (λ f. is_node g.nodes f ≡ true) features) where
-  module _ (initials : List ℕ) (named : (v : ℕ) → Contains initials v ↔ IsNamed g features v) (included : List Bool) (sized : length included ≡ length g.nodes) where
+module _ (table : PlatformTable) (g : FeatureGraphValue) (built : IsFeatureGraph g) (starts : ℕ → Type 0) (within : (v : ℕ) → starts v → v < length g.nodes) where
+  module _ (initials : List ℕ) (named : (v : ℕ) → Contains initials v ↔ starts v) (included : List Bool) (sized : length included ≡ length g.nodes) where
     module _ (accepts : Offer → Bool) (counting : PassesCounting table g accepts) (least : IsLeast Forward (offers_of Forward g) initials accepts (λ v. IsTrue (has included v))) where
       abbrev found : List ℕ
       found = listed (record { graph = g; included = included })
 
       -- the features of what is included are led to
-      led : (f : FeatureValue) → Contains (map (feature_at g) found) f → IsLedTo table g features f
+      led : (f : FeatureValue) → Contains (map (feature_at g) found) f → IsLedTo table g starts f
       led f h passes also s has_each closed =
           let (v, there, is) = Contains-map_cases (feature_at g) found f h in
           subst (λ x. s x ≡ true) is (least.within (λ u. s (feature_at g u)) by_initials v (Contains-filter_cases (has included) g.listing v there).1)
         where
-          begins : (v : ℕ) → Contains initials v → s (feature_at g v) ≡ true
-          begins v h =
-              let (c, listed_there, number) = Any_cases (λ x. IsNumber g x v) features ((named v).0 h) in
-              let at : feature_at g v ≡ c = ap (feature_at g) number.0 ∙ at_number g.nodes c (subst (λ n. n < length g.nodes) number.0 number.1) in
-              subst (λ x. s x ≡ true) (sym at) (has_each c listed_there)
-
           by_initials : AreEdgesClosed Forward (offers_of Forward g) initials accepts (λ u. s (feature_at g u) ≡ true)
-          by_initials = record { begins = begins; free = closed.free; offered = λ o offered yes. closed.offered o offered ((also o).1 ((counting o).0 yes)) }
+          by_initials = record {
+            begins = λ u h. has_each u ((named u).0 h);
+            free = closed.free;
+            offered = λ o offered yes. closed.offered o offered ((also o).1 ((counting o).0 yes));
+          }
 
       -- the features whose nodes are included
       abbrev is_included : FeatureValue → Bool
@@ -91,13 +86,11 @@ module _ (table : PlatformTable) (g : FeatureGraphValue) (built : IsFeatureGraph
             in_set _ ends.1 (least.closed.offered o offered yes (of_set _ ends.0 near) (λ w. of_set _ ends.2 (dep w)));
       }
 
-      own_starts : (c : FeatureValue) → Contains features c → is_included c ≡ true
-      own_starts c h =
-          let lt = node_known g.nodes c (All-contains (λ f. is_node g.nodes f ≡ true) features c known h) in
-          least.closed.begins (number_of g.nodes c) ((named (number_of g.nodes c)).1 (Any-from_Contains (λ f. IsNumber g f (number_of g.nodes c)) features c h (refl, lt)))
+      own_starts : (v : ℕ) → starts v → is_included (feature_at g v) ≡ true
+      own_starts v h = in_set v (within v h) (least.closed.begins v ((named v).1 h))
 
       -- what is led to is the feature of what is included
-      found_of : (f : FeatureValue) → IsLedTo table g features f → Contains (map (feature_at g) found) f
+      found_of : (f : FeatureValue) → IsLedTo table g starts f → Contains (map (feature_at g) found) f
       found_of f leads =
           let v = number_of g.nodes f in
           let inside : has included v ≡ true = leads accepts counting is_included own_starts own_closed in
@@ -105,11 +98,11 @@ module _ (table : PlatformTable) (g : FeatureGraphValue) (built : IsFeatureGraph
           let there = Contains-filter (has included) g.listing v ((built.listed.each v).1 (below_test v (length g.nodes) lt)) inside in
           subst (Contains (map (feature_at g) found)) (at_number g.nodes f lt) (Contains-map (feature_at g) found v there)
 
-      pub leads_to_found : LeadsTo table g features (map (feature_at g) found)
+      pub leads_to_found : LeadsTo table g starts (map (feature_at g) found)
       leads_to_found f = (led f, found_of f)
 
-  -- what a query leads to over the links behind which a line counts is what the features that it names lead to
-  pub reached_by : (q : QueryValue) (s : SetValue) → IsQueryOf g dependency.Forward (IsNamed g features) q → IsLeastBy table q s → LeadsTo table g features (map (feature_at s.graph) (listed s))
+  -- what a query leads to over the links behind which a line counts is what its starts lead to
+  pub reached_by : (q : QueryValue) (s : SetValue) → IsQueryOf g dependency.Forward starts q → IsLeastBy table q s → LeadsTo table g starts (map (feature_at s.graph) (listed s))
   reached_by q s query by =
       let whole : s.graph ≡ g = by.graph ∙ query.graph in
       let counting : PassesCounting table g by.accepts = subst (λ h. PassesCounting table h by.accepts) query.graph by.counting in
@@ -118,15 +111,9 @@ module _ (table : PlatformTable) (g : FeatureGraphValue) (built : IsFeatureGraph
       let least : IsLeast Forward (offers_of Forward g) q.initials by.accepts (λ v. IsTrue (has s.included v)) =
       subst (λ h. IsLeast Forward (offers_of Forward h) q.initials by.accepts (λ v. IsTrue (has s.included v))) query.graph forward in
       let sized : length s.included ≡ length g.nodes = by.sized ∙ ap (λ (h : FeatureGraphValue). length h.nodes) query.graph in
-      subst (λ (h : FeatureGraphValue). LeadsTo table g features (map (feature_at h) (filter (has s.included) h.listing))) (sym whole) (leads_to_found q.initials query.initials.each s.included sized by.accepts counting least)
+      subst (λ (h : FeatureGraphValue). LeadsTo table g starts (map (feature_at h) (filter (has s.included) h.listing))) (sym whole) (leads_to_found q.initials query.initials.each s.included sized by.accepts counting least)
 
 -- where a list that was made is the one that is led to
-pub where_found : {E : Type 0} (table : PlatformTable) (g : FeatureGraphValue) (features : List FeatureValue) (r : Result (Vec FeatureValue Global) E) (found : List FeatureValue) → IfOk r (λ v. v.items ≡ found) → LeadsTo table g features found → IfOk r (λ v. LeadsTo table g features v.items)
-where_found table g features (Ok v) found is leads = subst (LeadsTo table g features) (sym is) leads
-where_found table g features (Err e) found is leads = is
-
--- of features that are nodes none is unknown
-pub none_unknown : (g : FeatureGraphValue) (features named : List FeatureValue) → named ≡ features → All (λ f. is_node g.nodes f ≡ true) features → Any (IsUnknown g) named → ⊥
-none_unknown g features named are known some =
-    let (f, there, unknown) = Any_cases (IsUnknown g) features (subst (Any (IsUnknown g)) are some) in
-    true≢false (sym (All-contains (λ x. is_node g.nodes x ≡ true) features f known there) ∙ unknown)
+pub where_found : {E : Type 0} (table : PlatformTable) (g : FeatureGraphValue) (starts : ℕ → Type 0) (r : Result (Vec FeatureValue Global) E) (found : List FeatureValue) → IfOk r (λ v. v.items ≡ found) → LeadsTo table g starts found → IfOk r (λ v. LeadsTo table g starts v.items)
+where_found table g starts (Ok v) found is leads = subst (LeadsTo table g starts) (sym is) leads
+where_found table g starts (Err e) found is leads = is

@@ -1,4 +1,5 @@
-pub mod ChosenNodes
 pub mod LeadingFacts
 pub mod OnFacts
 pub mod VerdictFacts
+pub mod StartFacts
+pub mod TakenFacts

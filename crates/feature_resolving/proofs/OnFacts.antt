@@ -1,29 +1,25 @@
--- What is led to from what a choice switches on by itself is on.
-use Rattle.std.proofs.Common.{◌≡◌, ◌↔◌, ◌∙◌, true, None, List, All, Contains, IfOk, Result, Ok, Err, ap, subst, sym}
+-- What is led to from what a choice's filter takes is on.
+use Rattle.std.proofs.Common.{◌≡◌, ◌↔◌, ◌∙◌, true, None, List, All, Contains, IfOk, Result, Ok, Err, ap, subst}
 use Rattle.workspace_record.specs.Records.{Workspace}
 use Rattle.workspace_record.specs.Choices.{Choice}
 use Rattle.workspace_record.specs.Features.{FeatureValue}
 use Rattle.workspace_record.specs.declared.choice.PlatformTable.{PlatformTable}
 use Rattle.feature_account.specs.Closed.{IsOn}
-use Rattle.feature_account.specs.RuleList.{chosen_features, rule_list}
+use Rattle.feature_account.specs.RuleList.{rule_list}
 use Rattle.record_rules.specs.RecordRules.{fault_of}
 use Rattle.guppy_package_table.specs.Tables.{IsTableOf, TableValue}
-use Rattle.guppy_feature_demands.specs.Nodes.{is_node, nodes_of}
 use Rattle.guppy_feature_nodes.specs.Graphs.{FeatureGraphValue, IsFeatureGraph}
+use Rattle.numbered_offers.specs.declared.offer.Offer.{Offer}
 use Rattle.guppy_feature_graph.specs.Links.{link_of}
 use Rattle.kept_records.specs.Laws.{IsBuiltOf, KeptEdgesLeadToWhatIsOn}
 use Rattle.kept_records.proofs.KeptFacts.{rows_kept}
 use Rattle.line_verdicts.proofs.Counting.{counting_iff, some_counts}
-use Rattle.feature_resolving.specs.Known.{is_known_feature}
+use Rattle.feature_resolving.specs.Known.{is_known_extra}
 use Rattle.feature_resolving.specs.Leading.{IsLedTo}
-use Rattle.feature_resolving.proofs.ChosenNodes.{chosen_nodes}
+use Rattle.feature_resolving.specs.Starts.{IsStart}
+use Rattle.feature_resolving.proofs.StartFacts.{chosen_started, starts_in}
 
 module _ (w : Workspace) (kept : fault_of w ≡ None) (t : TableValue) (declared : IsTableOf w.packages w.links w.workspace t) where
-  -- what the choice switches on by itself is a node of the graph
-  pub nodes_chosen : (choice : Choice) → All (λ f. is_known_feature w f ≡ true) choice.extras → All (λ f. is_node (nodes_of t.packages) f ≡ true) (chosen_features w choice)
-  nodes_chosen choice known =
-      subst (λ packages. All (λ f. is_node (nodes_of packages) f ≡ true) (chosen_features w choice)) (sym declared.rows) (chosen_nodes w (rows_kept w kept).ids_apart choice known)
-
   module _ (g : FeatureGraphValue) (rows : g.rows ≡ t) (built : IsFeatureGraph g) where
     built_of : IsBuiltOf w g
     built_of = record {
@@ -34,11 +30,13 @@ module _ (w : Workspace) (kept : fault_of w ≡ None) (t : TableValue) (declared
     }
 
     -- what it leads to is on, and nothing else
-    pub led_iff_on : KeptEdgesLeadToWhatIsOn → (choice : Choice) (table : PlatformTable) (f : FeatureValue) → IsLedTo table g (chosen_features w choice) f ↔ IsOn (rule_list w choice table) f
-    led_iff_on law choice table f = (
-      λ led. (law w choice table g (λ o. some_counts table (link_of g o)) f kept built_of (λ o. counting_iff table (link_of g o))).1 (led (λ o. some_counts table (link_of g o)) (λ o. counting_iff table (link_of g o))),
-      λ on accepts passes. (law w choice table g accepts f kept built_of passes).0 on,
-    )
+    pub led_iff_on : KeptEdgesLeadToWhatIsOn → (choice : Choice) → All (λ f. is_known_extra w f ≡ true) choice.extras → (table : PlatformTable) (f : FeatureValue) → IsLedTo table g (IsStart g choice) f ↔ IsOn (rule_list w choice table) f
+    led_iff_on law choice known table f =
+        let apart = (rows_kept w kept).ids_apart in
+        let counts = λ (o : Offer). counting_iff table (link_of g o) in (
+          λ led. (law w choice table g (λ o. some_counts table (link_of g o)) f kept built_of counts).1 (λ s begins closed. led (λ o. some_counts table (link_of g o)) counts s (starts_in w apart g built_of choice (λ o. some_counts table (link_of g o)) s begins closed) closed),
+          λ on accepts passes s starts closed. (law w choice table g accepts f kept built_of passes).0 on s (λ c h. let (v, start, at) = chosen_started w apart g built_of choice known c h in subst (λ x. s x ≡ true) at (starts v start)) closed,
+        )
 
 both_ways : {P Q R : Type 0} → P ↔ Q → Q ↔ R → P ↔ R
 both_ways h k = (λ p. k.0 (h.0 p), λ r. h.1 (k.1 r))

@@ -1,5 +1,5 @@
 -- What a feature graph leads to over the links behind which a line counts.
-use Rattle.std.specs.Prelude.{◌≡◌, ◌↔◌, Bool, true, List, [], Contains, IsTrue, length}
+use Rattle.std.specs.Prelude.{◌≡◌, ◌↔◌, ℕ, Bool, true, List, [], Contains, IsTrue, length}
 use Rattle.numbered_graph.specs.declared.direction.Direction.TheVariants.{Forward}
 use Rattle.numbered_graph.specs.Sets.{has}
 use Rattle.numbered_offers.specs.declared.offer.Offer.{Offer}
@@ -19,20 +19,20 @@ use Rattle.line_verdicts.specs.Verdicts.{HasCountingLine}
 abbrev pub PassesCounting : PlatformTable → FeatureGraphValue → (Offer → Bool) → Type 0
 PassesCounting table g accepts = (o : Offer) → IsTrue (accepts o) ↔ HasCountingLine table (link_of g o)
 
--- the feature lies in each set that has these features and is closed under the edges that lead always and the offers behind
--- which a line counts
-abbrev pub IsLedTo : PlatformTable → FeatureGraphValue → List FeatureValue → FeatureValue → Type 0
-IsLedTo table g features f =
+-- the feature lies in each set that has the features of the nodes at which it begins and is closed under the edges that lead
+-- always and the offers behind which a line counts
+abbrev pub IsLedTo : PlatformTable → FeatureGraphValue → (ℕ → Type 0) → FeatureValue → Type 0
+IsLedTo table g begins f =
     (accepts : Offer → Bool)
     → PassesCounting table g accepts
     → (s : FeatureSet)
-    → ((c : FeatureValue) → Contains features c → s c ≡ true)
+    → ((v : ℕ) → begins v → s (feature_at g v) ≡ true)
     → AreEdgesClosed Forward (offers_of Forward g) [] accepts (λ v. s (feature_at g v) ≡ true)
     → s f ≡ true
 
--- the features lead to those found, and to no other
-abbrev pub LeadsTo : PlatformTable → FeatureGraphValue → List FeatureValue → List FeatureValue → Type 0
-LeadsTo table g features found = (f : FeatureValue) → Contains found f ↔ IsLedTo table g features f
+-- these nodes lead to the features that were found, and to no other
+abbrev pub LeadsTo : PlatformTable → FeatureGraphValue → (ℕ → Type 0) → List FeatureValue → Type 0
+LeadsTo table g begins found = (f : FeatureValue) → Contains found f ↔ IsLedTo table g begins f
 
 -- the set is of the query's graph, and the least that has its initials and is closed under the edges that lead always and the
 -- offers behind which a line counts

@@ -1,2 +1,3 @@
 pub mod Known
+pub mod Starts
 pub mod Leading
