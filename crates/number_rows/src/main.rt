@@ -2,6 +2,7 @@
 #![tactic(auto)]
 
 mod graphs;
+mod lists;
 mod offers;
 
 use crate::graphs::GraphRows;

@@ -1,12 +1,16 @@
 use crate::fault::RowFault;
 use serde_json::Value;
 use std::alloc::{AllocError, Global};
+use std::fmt::Display;
 
 /// What came of a row, each text under the key by which rows say what they want of it. Where a key has
-/// several texts, each is to be the wanted one.
+/// several texts, each is to be the wanted one. A row for one of whose texts there was no memory was not
+/// run: `refused` says so, and those who keep a text need not ask.
 #[derive(Drop)]
 pub struct Answers {
+    alloc: Global,
     pub(crate) items: Vec<Answer>,
+    pub(crate) refused: bool,
 }
 
 #[derive(Drop)]
@@ -17,16 +21,65 @@ pub(crate) struct Answer {
 
 impl Answers {
     pub(crate) fn new(alloc: Global) -> Answers {
-        let items = Vec::new(alloc);
-        Answers { items }
+        Answers {
+            alloc,
+            items: Vec::new(alloc),
+            refused: false,
+        }
     }
 
+    /// Keeps a text, for which there may have been no memory.
+    pub fn keep(&mut self, key: &'static str, text: Result<String, AllocError>) {
+        match text {
+            Ok(text) => self.refused |= self.items.push(Answer { key, text }).is_err(),
+            Err(_) => self.refused = true,
+        }
+    }
+
+    /// Keeps what a value prints.
+    pub fn show<T: Display>(&mut self, key: &'static str, value: &T) {
+        self.keep(key, format!(in self.alloc; "{value}"));
+    }
+
+    /// Keeps what the items print, parted by spaces.
+    pub fn list<T: Display + Drop>(
+        &mut self,
+        key: &'static str,
+        items: Result<Vec<T>, AllocError>,
+    ) {
+        match items {
+            Ok(items) => self.words(key, &items),
+            Err(_) => self.refused = true,
+        }
+    }
+
+    fn words<T: Display>(&mut self, key: &'static str, items: &[T]) {
+        self.begin(key);
+        for item in items {
+            self.part(" ", item);
+        }
+    }
+
+    /// Begins a text, to which parts are added.
+    pub fn begin(&mut self, key: &'static str) {
+        self.keep(key, Ok(String::new(self.alloc)));
+    }
+
+    /// Adds what a value prints to the text that was kept last, behind `between` where it is not empty.
+    pub fn part<T: Display>(&mut self, between: &str, value: &T) {
+        if let Some(answer) = self.items.last_mut() {
+            let between = if answer.text.is_empty() { "" } else { between };
+            self.refused |= write!(answer.text, "{between}{value}").is_err();
+        }
+    }
+
+    /// As `keep`, of a text that there is.
     pub fn push(&mut self, key: &'static str, text: String) -> Result<(), RowFault> {
         self.items.push(Answer { key, text })?;
         Ok(())
     }
 
-    /// As `push`, of a text for which there may have been no memory.
+    /// As `keep`, and ends the row where there is no memory.
     pub fn tell(
         &mut self,
         key: &'static str,

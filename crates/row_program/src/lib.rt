@@ -7,6 +7,7 @@
 
 mod answer;
 mod fault;
+mod report;
 mod row;
 mod running;
 

@@ -1,5 +1,6 @@
 use crate::answer::{Answer, Answers};
 use crate::fault::RowFault;
+use crate::report::Report;
 use crate::row::Row;
 use serde_json::Value;
 use std::alloc::Global;
@@ -98,41 +99,38 @@ fn run_one<R: RowRunner, W: Write>(
 ) -> io::Result<bool> {
     let mut answers = Answers::new(alloc);
     let ran = runner.run_row(alloc, row, &mut answers);
-    tell_one(alloc, row, runner.inputs(), ran, &answers.items, out)
+    let mut report = Report::of(alloc, row);
+    let same = tell_one(alloc, row, runner.inputs(), ran, &answers, &mut report);
+    write!(out, "{}", report.text())?;
+    Ok(same)
 }
 
 /// Tells what differs of a row that was run, or why it was not.
-fn tell_one<W: Write>(
+fn tell_one(
     alloc: Global,
     row: Row<'_>,
     inputs: &[&str],
     ran: Result<(), RowFault>,
-    answers: &[Answer],
-    out: &mut W,
-) -> io::Result<bool> {
-    let name = row
-        .get("name")
-        .and_then(Value::as_str)
-        .unwrap_or("a row without a name");
+    answers: &Answers,
+    report: &mut Report<'_>,
+) -> bool {
     match ran {
-        Ok(()) => told(alloc, name, row, inputs, answers, out),
-        Err(fault) => {
-            writeln!(out, "{name}: {fault}")?;
-            Ok(false)
-        }
+        Ok(()) if answers.refused => report.line(&RowFault::Memory),
+        Ok(()) => return told(alloc, row, inputs, &answers.items, report),
+        Err(fault) => report.line(&fault),
     }
+    false
 }
 
-/// Writes each difference between what came and what the row wants.
-fn told<W: Write>(
+/// Tells each difference between what came and what the row wants.
+fn told(
     alloc: Global,
-    name: &str,
     row: Row<'_>,
     inputs: &[&str],
     answers: &[Answer],
-    out: &mut W,
-) -> io::Result<bool> {
-    let mut same = keys_are_known(name, row, inputs, answers, out)?;
+    report: &mut Report<'_>,
+) -> bool {
+    let mut same = keys_are_known(row, inputs, answers, report);
     let mut wants = false;
     for answer in answers {
         let Some(wanted) = row.get(answer.key) else {
@@ -141,38 +139,41 @@ fn told<W: Write>(
         wants |= !wanted.is_null();
         if !answer.is_wanted(alloc, wanted).unwrap_or(false) {
             same = false;
-            writeln!(out, "{name}: {}", answer.key)?;
-            writeln!(out, "  wanted {wanted}")?;
-            writeln!(out, "  came   {:?}", answer.text)?;
+            report.differs(answer, wanted);
         }
     }
     if !wants {
-        writeln!(out, "{name}: nothing is wanted")?;
+        report.line(&"nothing is wanted");
     }
-    Ok(same && wants)
+    same && wants
 }
 
-/// Writes each key of the row and its group that nobody reads.
-fn keys_are_known<W: Write>(
-    name: &str,
+/// Tells each key of the row and its group that nobody reads.
+fn keys_are_known(
     row: Row<'_>,
     inputs: &[&str],
     answers: &[Answer],
-    out: &mut W,
-) -> io::Result<bool> {
+    report: &mut Report<'_>,
+) -> bool {
+    let own = are_known(row.own(), inputs, answers, report);
+    match row.group() {
+        Some(group) => are_known(group, inputs, answers, report) && own,
+        None => own,
+    }
+}
+
+fn are_known(value: &Value, inputs: &[&str], answers: &[Answer], report: &mut Report<'_>) -> bool {
+    let Some(members) = value.as_object() else {
+        return true;
+    };
     let mut known = true;
-    for value in [Some(row.own()), row.group()].iter().flatten() {
-        let Some(members) = value.as_object() else {
-            continue;
-        };
-        for key in members.keys() {
-            if !is_known(key.as_str(), inputs, answers) {
-                known = false;
-                writeln!(out, "{name}: nobody reads `{key}`")?;
-            }
+    for key in members.keys() {
+        if !is_known(key.as_str(), inputs, answers) {
+            known = false;
+            report.line(&format_args!("nobody reads `{key}`"));
         }
     }
-    Ok(known)
+    known
 }
 
 fn is_known(key: &str, inputs: &[&str], answers: &[Answer]) -> bool {

@@ -2,7 +2,6 @@
 //! row of `graphs.json` is run through the public calls.
 
 mod graph_rows;
-mod node_lists;
 mod walked;
 
 pub(crate) use crate::graphs::graph_rows::GraphRows;

@@ -1,10 +1,11 @@
 ghost use Rattle.std.specs.Prelude.{◌≡◌, ◌<◌, All};
 
+use crate::lists::{direction_in, flags_in, nodes_in};
+use crate::offers::edge_lists::graph_in;
 use crate::offers::manner::{Manner, manner_in};
-use crate::offers::offer_lists::{direction_in, flags_in, graph_in, starts_in};
-use crate::offers::walked::{Walked, walk_in};
-use numbered_graph::NodeSet;
-use numbered_offers::{Offer, OfferGraph, OfferKind};
+use crate::offers::walked::walk_in;
+use numbered_graph::{Direction, NodeSet};
+use numbered_offers::OfferGraph;
 use row_program::{Answers, Row, RowFault, RowRunner};
 use std::alloc::{AllocError, Global};
 
@@ -44,77 +45,48 @@ fn tell_graph(
     graph: &OfferGraph,
     answers: &mut Answers,
 ) -> Result<(), RowFault> {
-    let starts = starts_in(alloc, row, graph)?;
-    tell_runs(alloc, row, graph, &starts, answers)
-}
-
-fn tell_runs(
-    alloc: Global,
-    row: Row<'_>,
-    graph: &OfferGraph,
-    starts: &[usize],
-    answers: &mut Answers,
-) -> Result<(), RowFault>
-    requires starts { All (λ v. v < graph.now.nodes) starts.now }
-{
+    let starts = nodes_in(alloc, row, graph.node_count(), "starts")?;
     let direction = direction_in(row);
-    let walked = walk_in(alloc, graph, starts, direction, manner_in(row))?;
-    tell_walked(alloc, &walked, answers)?;
-    let others = flags_in(alloc, row, graph, "refused")?;
-    tell_least(alloc, row, graph, starts, &others, answers)
-}
-
-fn tell_walked(alloc: Global, walked: &Walked, answers: &mut Answers) -> Result<(), RowFault> {
-    answers.tell("run", run_text(alloc, &walked.run))?;
-    answers.tell("included", set_text(alloc, &walked.included))
-}
-
-/// Tells what a table of verdicts leads to.
-fn tell_least(
-    alloc: Global,
-    row: Row<'_>,
-    graph: &OfferGraph,
-    starts: &[usize],
-    others: &[bool],
-    answers: &mut Answers,
-) -> Result<(), RowFault>
-    requires starts { All (λ v. v < graph.now.nodes) starts.now }
-{
-    let halves = flags_in(alloc, row, graph, "refused_halves")?;
+    let manner = manner_in(row);
+    tell_walk(alloc, graph, &starts, direction, manner, ("run", "included"), answers);
+    let others = flags_in(alloc, row, graph.edges().len(), "refused")?;
+    let halves = flags_in(alloc, row, graph.edges().len(), "refused_halves")?;
     let table = Manner::Table {
-        others,
+        others: &others,
         halves: &halves,
     };
-    let walked = walk_in(alloc, graph, starts, direction_in(row), table)?;
-    answers.tell("least", set_text(alloc, &walked.included))
+    tell_walk(alloc, graph, &starts, direction, table, ("table_run", "least"), answers);
+    Ok(())
 }
 
-// The offers in order, each with a sign for its answer.
-fn run_text(alloc: Global, run: &[(Offer, bool)]) -> Result<String, AllocError> {
-    let mut text = String::new(alloc);
-    for (offer, answer) in run {
-        let kind = match offer.kind {
-            OfferKind::Unsplit => "",
-            OfferKind::Required => "r",
-            OfferKind::Optional => "o",
-        };
-        let sign = if *answer { "+" } else { "-" };
-        let blank = if text.is_empty() { "" } else { " " };
-        let number = offer.edge;
-        let part = format!(in alloc; "{blank}{number}{kind}{sign}")?;
-        text.push_str(part.as_str())?;
-    }
-    Ok(text)
+/// Tells the offers of a walk with their answers, and what it reached, each under its key.
+fn tell_walk(
+    alloc: Global,
+    graph: &OfferGraph,
+    starts: &[usize],
+    direction: Direction,
+    manner: Manner<'_>,
+    keys: (&'static str, &'static str),
+    answers: &mut Answers,
+)
+    requires starts { All (λ v. v < graph.now.nodes) starts.now }
+{
+    answers.begin(keys.0);
+    let included = walk_in(alloc, graph, starts, direction, manner, answers);
+    tell_set(keys.1, included, answers);
 }
 
-fn set_text(alloc: Global, set: &NodeSet) -> Result<String, AllocError> {
-    let mut text = String::new(alloc);
-    for node in 0..set.node_count() {
-        if set.contains(node) {
-            let blank = if text.is_empty() { "" } else { " " };
-            let part = format!(in alloc; "{blank}{node}")?;
-            text.push_str(part.as_str())?;
+/// The members of a set that was made, ascending.
+fn tell_set(key: &'static str, set: Result<NodeSet, AllocError>, answers: &mut Answers) {
+    match set {
+        Ok(set) => {
+            answers.begin(key);
+            for node in 0..set.node_count() {
+                if set.contains(node) {
+                    answers.part(" ", &node);
+                }
+            }
         }
+        Err(refused) => answers.keep(key, Err(refused)),
     }
-    Ok(text)
 }

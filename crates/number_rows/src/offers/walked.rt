@@ -5,29 +5,32 @@ ghost use Rattle.std.specs.Prelude.{◌≡◌, ◌<◌, All};
 use crate::offers::manner::{Manner, answer_to};
 use numbered_graph::{Direction, Looks, NodeSet};
 use numbered_offers::{Due, Offer, OfferGraph, OfferKind, OfferWalk};
-use row_program::RowFault;
+use row_program::Answers;
 use std::alloc::{AllocError, Global};
 use std::marker::Brand;
 use std::sync::ledger::{Blank, Ledger};
 
-/// The offers of a walk with their answers, and what was included.
-#[derive(Drop)]
-pub(crate) struct Walked {
-    pub(crate) run: Vec<(Offer, bool)>,
-    pub(crate) included: NodeSet,
-}
-
-/// Walks from the starts.
+/// Walks from the starts. Tells the offers in order, each with a sign for its answer, and answers what was
+/// included.
 pub(crate) fn walk_in(
     alloc: Global,
     graph: &OfferGraph,
     starts: &[usize],
     direction: Direction,
     manner: Manner<'_>,
-) -> Result<Walked, RowFault>
+    answers: &mut Answers,
+) -> Result<NodeSet, AllocError>
     requires starts { All (λ v. v < graph.now.nodes) starts.now }
 {
-    walk_with_blank::<Brand>(alloc, graph, starts, direction, manner, Blank::new(1))
+    walk_with_blank::<Brand>(
+        alloc,
+        graph,
+        starts,
+        direction,
+        manner,
+        answers,
+        Blank::new(1),
+    )
 }
 
 fn walk_with_blank<L: Ledger>(
@@ -36,8 +39,9 @@ fn walk_with_blank<L: Ledger>(
     starts: &[usize],
     direction: Direction,
     manner: Manner<'_>,
+    answers: &mut Answers,
     blank: Blank,
-) -> Result<Walked, RowFault>
+) -> Result<NodeSet, AllocError>
     requires starts { All (λ v. v < graph.now.nodes) starts.now }
     requires name { blank.name ≡ L.name }
     requires parts { blank.parts ≡ L.parts }
@@ -45,43 +49,52 @@ fn walk_with_blank<L: Ledger>(
 {
     let mut looks = Looks::<L>::new(blank);
     let mut walk = OfferWalk::new(alloc, graph, starts, direction)?;
-    let mut run = Vec::new(alloc);
+    let mut before = 0;
     while let Some(due) = walk.take(&mut looks) {
-        let (first, second) = answers_to(manner, due, &mut run)?;
+        let (first, second) = answers_to(manner, due, &mut before, answers);
         walk.answer(due, first, second);
     }
-    let included = walk.into_included();
-    Ok(Walked { run, included })
+    Ok(walk.into_included())
 }
 
-fn answers_to(
-    manner: Manner<'_>,
-    due: Due,
-    run: &mut Vec<(Offer, bool)>,
-) -> Result<(bool, bool), AllocError> {
+fn answers_to(manner: Manner<'_>, due: Due, before: &mut usize, answers: &mut Answers) -> (bool, bool) {
     match due {
-        Due::One(offer) => {
-            let first = ask(manner, offer, run)?;
-            Ok((first, false))
-        }
+        Due::One(offer) => (ask(manner, offer, before, answers), false),
         Due::Halves(edge) => {
-            let required = Offer {
-                edge,
-                kind: OfferKind::Required,
-            };
-            let optional = Offer {
-                edge,
-                kind: OfferKind::Optional,
-            };
-            let first = ask(manner, required, run)?;
-            let second = ask(manner, optional, run)?;
-            Ok((first, second))
+            let (required, optional) = (OfferKind::Required, OfferKind::Optional);
+            let first = ask(
+                manner,
+                Offer {
+                    edge,
+                    kind: required,
+                },
+                before,
+                answers,
+            );
+            let second = ask(
+                manner,
+                Offer {
+                    edge,
+                    kind: optional,
+                },
+                before,
+                answers,
+            );
+            (first, second)
         }
     }
 }
 
-fn ask(manner: Manner<'_>, offer: Offer, run: &mut Vec<(Offer, bool)>) -> Result<bool, AllocError> {
-    let answer = answer_to(manner, offer, run.len());
-    run.push((offer, answer))?;
-    Ok(answer)
+/// Answers an offer after so many others, and tells it.
+fn ask(manner: Manner<'_>, offer: Offer, before: &mut usize, answers: &mut Answers) -> bool {
+    let answer = answer_to(manner, offer, *before);
+    *before = before.saturating_add(1);
+    let kind = match offer.kind {
+        OfferKind::Unsplit => "",
+        OfferKind::Required => "r",
+        OfferKind::Optional => "o",
+    };
+    answers.part(" ", &offer.edge);
+    answers.part(kind, if answer { &"+" } else { &"-" });
+    answer
 }
