@@ -25,11 +25,11 @@ impl RowRunner for FileRows {
         let kind = row.text("kind")?;
         let bytes = bytes_of(alloc, row)?;
         if row.get("beginnings").is_some() {
-            answers.push("beginnings", beginnings_text(alloc, kind, &bytes)?)?;
+            for end in 0..bytes.len() {
+                tell_read(alloc, kind, &bytes[..end], false, answers)?;
+            }
         }
-        let read = read_as(alloc, kind, &bytes)?;
-        answers.push("value", read.value)?;
-        answers.push("refused", read.refused)
+        tell_read(alloc, kind, &bytes, true, answers)
     }
 }
 
@@ -47,33 +47,43 @@ fn bytes_of(alloc: Global, row: Row<'_>) -> Result<Vec<u8>, RowFault> {
     Ok(bytes)
 }
 
-/// What a file is read as, and the error: one of them is empty.
-#[derive(Drop)]
-struct ReadTexts {
-    value: String,
-    refused: String,
-}
-
-fn read_as(alloc: Global, kind: &str, bytes: &[u8]) -> Result<ReadTexts, RowFault> {
+/// Tells what the bytes are read as: a whole file, or a beginning of one.
+fn tell_read(
+    alloc: Global,
+    kind: &str,
+    bytes: &[u8],
+    whole: bool,
+    answers: &mut Answers,
+) -> Result<(), RowFault> {
     match kind {
-        "record" => texts_of(alloc, read_record(alloc, bytes)),
-        "choice" => texts_of(alloc, read_choice(alloc, bytes)),
-        "table" => texts_of(alloc, read_table(alloc, bytes)),
-        "account" => texts_of(alloc, read_account(alloc, bytes)),
-        "listings" => texts_of(alloc, read_listings(alloc, bytes)),
-        _ => Err(RowFault::Key("kind")),
+        "record" => tell(alloc, read_record(alloc, bytes), whole, answers),
+        "choice" => tell(alloc, read_choice(alloc, bytes), whole, answers),
+        "table" => tell(alloc, read_table(alloc, bytes), whole, answers),
+        "account" => tell(alloc, read_account(alloc, bytes), whole, answers),
+        "listings" => tell(alloc, read_listings(alloc, bytes), whole, answers),
+        _ => return Err(RowFault::Key("kind")),
     }
+    Ok(())
 }
 
-fn texts_of<T: Debug + Copied + Drop>(
+fn tell<T: Debug + Copied + Drop>(
     alloc: Global,
     read: Result<T, ReadError>,
-) -> Result<ReadTexts, RowFault> {
-    let (value, refused) = match read {
-        Ok(value) => (value_text(alloc, &value)?, String::new(alloc)),
-        Err(error) => (String::new(alloc), format!(in alloc; "{error}")?),
-    };
-    Ok(ReadTexts { value, refused })
+    whole: bool,
+    answers: &mut Answers,
+) {
+    match read {
+        Ok(value) if whole => {
+            answers.keep("value", value_text(alloc, &value));
+            answers.show("refused", &"");
+        }
+        Err(error) if whole => {
+            answers.show("value", &"");
+            answers.show("refused", &error);
+        }
+        Ok(_) => answers.show("beginnings", &"read"),
+        Err(error) => answers.show("beginnings", &error),
+    }
 }
 
 fn value_text<T: Debug + Copied>(alloc: Global, value: &T) -> Result<String, AllocError> {
@@ -81,19 +91,4 @@ fn value_text<T: Debug + Copied>(alloc: Global, value: &T) -> Result<String, All
         return String::from_str(alloc, "its copy differs");
     }
     format!(in alloc; "{value:?}")
-}
-
-/// The error of each beginning, once where all have the same.
-fn beginnings_text(alloc: Global, kind: &str, bytes: &[u8]) -> Result<String, RowFault> {
-    let mut all = String::new(alloc);
-    for end in 0..bytes.len() {
-        let read = read_as(alloc, kind, &bytes[..end])?;
-        if read.refused != all {
-            if end > 0 {
-                all.push_str(", then ")?;
-            }
-            all.push_str(read.refused.as_str())?;
-        }
-    }
-    Ok(all)
 }

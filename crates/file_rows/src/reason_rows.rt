@@ -6,7 +6,7 @@ use question_files::{FeatureQuestion, verdict_line, verdict_on};
 use record_files::label_of;
 use row_program::{Answers, Row, RowFault, RowRunner};
 use row_records::{account_in, choice_in, record_in, table_in};
-use std::alloc::{AllocError, Global};
+use std::alloc::Global;
 use workspace_record::Feature;
 
 /// Rows of what is on, by which rules and why, as lines. A row's `files` are `record.json`, and where it
@@ -28,9 +28,9 @@ impl RowRunner for ReasonRows {
         row: Row<'_>,
         answers: &mut Answers,
     ) -> Result<(), RowFault> {
-        let record = record_in(alloc, row, "record.json")?;
         let choice = choice_in(alloc, row)?;
         let table = table_in(alloc, row)?;
+        let record = record_in(alloc, row, "record.json")?;
         let question = FeatureQuestion {
             record,
             choice,
@@ -46,18 +46,14 @@ fn tell_question(
     question: &FeatureQuestion,
     answers: &mut Answers,
 ) -> Result<(), RowFault> {
-    answers.tell("features", features_text(alloc, question))?;
-    tell_rules(alloc, row, question, answers)?;
     let judged = account_in(alloc, row)?;
     let verdict = verdict_on(alloc, question, &judged)?;
-    answers.tell("verdict", verdict_line(alloc, verdict))
-}
-
-fn features_text(alloc: Global, question: &FeatureQuestion) -> Result<String, AllocError> {
+    answers.keep("verdict", verdict_line(alloc, verdict));
     let on = on_features(alloc, &question.record, &question.choice, &question.table)?;
     let mut bytes = Vec::new(alloc);
-    let written = write_features(alloc, on.as_slice(), &mut bytes);
-    text_of(alloc, bytes, written.is_ok())
+    let is_written = write_features(alloc, on.as_slice(), &mut bytes).is_ok();
+    answers.written("features", bytes, is_written);
+    tell_rules(alloc, row, question, answers)
 }
 
 fn tell_rules(
@@ -66,42 +62,36 @@ fn tell_rules(
     question: &FeatureQuestion,
     answers: &mut Answers,
 ) -> Result<(), RowFault> {
-    let rules = sourced_rules(alloc, &question.record, &question.choice, &question.table)?;
-    let entries = account(alloc, &question.record, &question.choice, &question.table)?;
-    answers.tell("rules", rules_text(alloc, &rules))?;
-    answers.tell("entries", entries_text(alloc, &rules, &entries))?;
+    let FeatureQuestion {
+        record,
+        choice,
+        table,
+    } = question;
     let asked = asked_feature(alloc, row)?;
-    answers.tell("explained", explained_text(alloc, question, &rules, &asked))
-}
-
-fn rules_text(alloc: Global, rules: &[SourcedRule<'_>]) -> Result<String, AllocError> {
+    let entries = account(alloc, record, choice, table)?;
+    let explained = explanation(alloc, record, choice, table, &asked)?;
+    let rules = sourced_rules(alloc, record, choice, table)?;
     let mut bytes = Vec::new(alloc);
-    let written = write_rules(alloc, rules, &mut bytes);
-    text_of(alloc, bytes, written.is_ok())
+    let is_written = write_rules(alloc, &rules, &mut bytes).is_ok();
+    answers.written("rules", bytes, is_written);
+    tell_entries(alloc, "entries", &rules, &entries, answers);
+    match explained {
+        Some(entries) => tell_entries(alloc, "explained", &rules, &entries, answers),
+        None => answers.show("explained", &"not on"),
+    }
+    Ok(())
 }
 
-fn entries_text(
+fn tell_entries(
     alloc: Global,
+    key: &'static str,
     rules: &[SourcedRule<'_>],
     entries: &[usize],
-) -> Result<String, AllocError> {
+    answers: &mut Answers,
+) {
     let mut bytes = Vec::new(alloc);
-    let written = write_entries(alloc, rules, entries, &mut bytes);
-    text_of(alloc, bytes, written.is_ok())
-}
-
-/// The lines of why the feature is on; `not on` where it is not.
-fn explained_text(
-    alloc: Global,
-    question: &FeatureQuestion,
-    rules: &[SourcedRule<'_>],
-    asked: &Feature,
-) -> Result<String, AllocError> {
-    let (record, choice) = (&question.record, &question.choice);
-    match explanation(alloc, record, choice, &question.table, asked)? {
-        Some(entries) => entries_text(alloc, rules, &entries),
-        None => String::from_str(alloc, "not on"),
-    }
+    let is_written = write_entries(alloc, rules, entries, &mut bytes).is_ok();
+    answers.written(key, bytes, is_written);
 }
 
 /// The feature that the row asks about: its package, and its text in a choice.
@@ -114,11 +104,4 @@ fn asked_feature(alloc: Global, row: Row<'_>) -> Result<Feature, RowFault> {
     let package = String::from_str(alloc, package)?;
     let label = label_of(alloc, text)?;
     Ok(Feature { package, label })
-}
-
-fn text_of(alloc: Global, bytes: Vec<u8>, written: bool) -> Result<String, AllocError> {
-    match String::from_utf8(bytes) {
-        Ok(text) if written => Ok(text),
-        _ => String::from_str(alloc, "not written"),
-    }
 }

@@ -60,6 +60,15 @@ impl Answers {
         }
     }
 
+    /// Keeps the text that was written, if it was.
+    pub fn written(&mut self, key: &'static str, bytes: Vec<u8>, is_written: bool) {
+        match String::from_utf8(bytes) {
+            Ok(text) if is_written => self.keep(key, Ok(text)),
+            Ok(_) => self.show(key, &"not written"),
+            Err(_) => self.show(key, &"not UTF-8"),
+        }
+    }
+
     /// Begins a text, to which parts are added.
     pub fn begin(&mut self, key: &'static str) {
         self.keep(key, Ok(String::new(self.alloc)));
@@ -70,6 +79,13 @@ impl Answers {
         if let Some(answer) = self.items.last_mut() {
             let between = if answer.text.is_empty() { "" } else { between };
             self.refused |= write!(answer.text, "{between}{value}").is_err();
+        }
+    }
+
+    /// Adds what a value prints.
+    pub fn add<T: Display>(&mut self, value: &T) {
+        if let Some(answer) = self.items.last_mut() {
+            self.refused |= write!(answer.text, "{value}").is_err();
         }
     }
 
