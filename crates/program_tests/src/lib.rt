@@ -1,7 +1,11 @@
-//! Tests of selections over listers and writers that fail, of what errors print, and of runs of the
-//! program whose streams fail: what no row can say.
+//! Tests of what no row can say: selections over listers and writers that fail, what errors print, runs of
+//! the program whose streams fail, and calls whose requests for memory are refused.
 #![tactic(auto)]
 
+#[cfg(test)]
+mod files;
+#[cfg(test)]
+mod refusals;
 #[cfg(test)]
 mod runs;
 #[cfg(test)]

@@ -1,5 +1,14 @@
 //! Two members with a library and a test each, all of which are available under the choice.
 
+use question_files::FeatureQuestion;
+use std::alloc::{AllocError, Global};
+use std::test::Fail;
+use test_select::{
+    Feature, Label, LinkScope, SelectError, Selection, TestLister, read_choice, read_record,
+    read_table, select, select_plain,
+};
+
+/// The feature `full` of app switches util on, and `fast` its feature `simd`.
 pub(crate) const RECORD: &[u8] = br#"{
     "packages": [
         {
@@ -27,7 +36,8 @@ pub(crate) const RECORD: &[u8] = br#"{
     }],
     "workspace": {"members": [
         {"package": "app", "path": "app"}, {"package": "util", "path": "util"}
-    ]}
+    ]},
+    "groups": [{"name": "slow", "filter": "test(/^t/)"}]
 }"#;
 
 pub(crate) const CHOICE: &[u8] = br#"{
@@ -35,6 +45,52 @@ pub(crate) const CHOICE: &[u8] = br#"{
     "extras": [{"package": "app", "feature": "fast"}, {"package": "app", "feature": "full"}]
 }"#;
 
+pub(crate) const TABLE: &[u8] = br#"{"answers": {"cfg(unix)": true}}"#;
+
 pub(crate) const LISTINGS: &[u8] = br#"{
     "app": ["one"], "app::net": ["get"], "util": ["two"], "util::wide": ["lanes"]
 }"#;
+
+pub(crate) const ACCOUNT: &[u8] = b"{\"rules\":[0,1,2,3,8,9]}";
+
+/// The ids of the test binaries, in the order in which they are asked.
+pub(crate) const IDS: [&str; 4] = ["app", "app::net", "util", "util::wide"];
+
+/// A record under a choice.
+pub(crate) fn question(
+    alloc: Global,
+    record: &[u8],
+    choice: &[u8],
+) -> Result<FeatureQuestion, Fail> {
+    let choice = read_choice(alloc, choice)?;
+    let table = read_table(alloc, TABLE)?;
+    let record = read_record(alloc, record)?;
+    Ok(FeatureQuestion {
+        record,
+        choice,
+        table,
+    })
+}
+
+/// Selects over the links that are on, by the call that asks for each available binary where `plain`.
+pub(crate) fn selected(
+    alloc: Global,
+    question: &FeatureQuestion,
+    plain: bool,
+    texts: &[&str],
+    lister: &mut dyn TestLister,
+) -> Result<Selection, SelectError> {
+    let (record, choice, table) = (&question.record, &question.choice, &question.table);
+    let scope = LinkScope::SwitchedOn;
+    if plain {
+        return select_plain(alloc, record, choice, table, scope, texts, lister);
+    }
+    select(alloc, record, choice, table, scope, texts, lister)
+}
+
+/// The feature `simd` of util.
+pub(crate) fn simd(alloc: Global) -> Result<Feature, AllocError> {
+    let package = String::from_str(alloc, "util")?;
+    let label = Label::Named(String::from_str(alloc, "simd")?);
+    Ok(Feature { package, label })
+}

@@ -1,77 +1,11 @@
 //! Runs whose streams fail.
 
-use crate::runs::files::Files;
+use crate::files::Files;
 use crate::runs::streams::{FailingStream, UnflushedStream};
+use crate::runs::words::{RUNS, TESTS};
 use std::alloc::Global;
 use std::process::Abort;
 use test_select::run;
-
-const TESTS: [&str; 8] = [
-    "test_select",
-    "tests",
-    "--record",
-    "record.json",
-    "--choice",
-    "choice.json",
-    "--listings",
-    "listings.json",
-];
-
-/// Each subcommand with its words, and what it prints.
-const RUNS: [(&[&str], &[u8]); 5] = [
-    (
-        &TESTS,
-        b"app one\napp::net get\nutil two\nutil::wide lanes\n",
-    ),
-    (
-        &[
-            "test_select",
-            "account",
-            "--record",
-            "record.json",
-            "--choice",
-            "choice.json",
-        ],
-        b"{\"rules\":[0,1,2,3,8,9]}\n",
-    ),
-    (
-        &[
-            "test_select",
-            "check",
-            "--record",
-            "record.json",
-            "--choice",
-            "choice.json",
-            "--account",
-            "account.json",
-        ],
-        b"accepted\n",
-    ),
-    (
-        &[
-            "test_select",
-            "explain",
-            "--record",
-            "record.json",
-            "--choice",
-            "choice.json",
-            "util",
-            "simd",
-        ],
-        b"{\"goal\":{\"package\":\"util\",\"feature\":\"simd\"},\"rules\":[2,3,8,9]}\n",
-    ),
-    (
-        &[
-            "test_select",
-            "order",
-            "--record",
-            "record.json",
-            "--choice",
-            "choice.json",
-        ],
-        b"util\napp\n",
-    ),
-];
 
 /// How many writes an output takes at most before a run here is whole.
 const WRITES: usize = 100;
@@ -98,7 +32,7 @@ fn expect_each_cut(rt: &impl Abort, alloc: Global, words: &[&str], whole: &[u8])
 #[test]
 fn an_output_that_fails_at_each_write(rt: HostRuntime) {
     for (words, whole) in RUNS {
-        expect_each_cut(&rt, rt.alloc(), words, whole);
+        expect_each_cut(&rt, rt.alloc(), words, whole.as_bytes());
     }
 }
 

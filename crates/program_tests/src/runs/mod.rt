@@ -1,5 +1,7 @@
 //! Tests of runs of the program whose streams fail.
 
 mod failing;
-mod files;
 mod streams;
+mod words;
+
+pub(crate) use crate::runs::words::RUNS;

@@ -1,11 +1,12 @@
 //! Accounts, explanations and features into writers that fail at each byte.
 
 use crate::selections::writers::{Written, expect_each_cut};
+use crate::workspace::simd;
 use feature_reasons::write_features;
-use std::alloc::{AllocError, Global};
+use std::alloc::Global;
 use std::io::{ErrorKind, Write};
 use std::test::Fail;
-use test_select::{Feature, Label, WriteAccountError, write_account, write_explanation};
+use test_select::{Feature, WriteAccountError, write_account, write_explanation};
 
 fn kind_of(answer: Result<(), WriteAccountError>) -> Option<ErrorKind> {
     match answer {
@@ -13,14 +14,6 @@ fn kind_of(answer: Result<(), WriteAccountError>) -> Option<ErrorKind> {
         Err(WriteAccountError::Memory) => Some(ErrorKind::OutOfMemory),
         Err(WriteAccountError::Write(error)) => Some(error.kind()),
     }
-}
-
-/// The feature `simd` of util.
-fn simd(alloc: Global) -> Result<Feature, AllocError> {
-    Ok(Feature {
-        package: String::from_str(alloc, "util")?,
-        label: Label::Named(String::from_str(alloc, "simd")?),
-    })
 }
 
 #[derive(Drop)]

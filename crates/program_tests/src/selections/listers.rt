@@ -4,8 +4,8 @@ ghost use Rattle.std.specs.Prelude.{◌≡◌, ◌<◌, ◌++◌, ◌∷◌, [],
 ghost use Rattle.list_facts.specs.Texts.{texts};
 ghost use Rattle.test_lister.specs.Listers.{largest};
 
-use crate::selections::questions::select_all;
-use crate::workspace::{CHOICE, RECORD};
+use crate::workspace::{CHOICE, IDS, RECORD, question, selected};
+use question_files::FeatureQuestion;
 use std::alloc::{AllocError, Global};
 use std::process::Abort;
 use std::test::Fail;
@@ -87,17 +87,13 @@ fn failing(alloc: Global, failures: u64, fails_at: usize) -> FailingLister {
 /// many, and with which count.
 fn expect_end(
     rt: &impl Abort,
-    mut lister: FailingLister,
+    question: &FeatureQuestion,
+    lister: &mut FailingLister,
     plain: bool,
-    end: &str,
-    asked: usize,
-    failures: u64,
+    (end, asked, failures): (&str, usize, u64),
 ) -> Result<(), Fail> {
     let alloc = lister.alloc;
-    let came = end_text(
-        alloc,
-        select_all(alloc, RECORD, CHOICE, plain, &mut lister)?,
-    )?;
+    let came = end_text(alloc, selected(alloc, question, plain, &[], lister))?;
     assert_eq!(rt; came.as_str(), end);
     assert_eq!(rt; lister.asked.len(), asked);
     for (id, wanted) in lister.asked.iter().zip(IDS) {
@@ -113,8 +109,6 @@ fn end_text(alloc: Global, answer: Result<Selection, SelectError>) -> Result<Str
         Err(error) => format!(in alloc; "{error}"),
     }
 }
-
-const IDS: [&str; 4] = ["app", "app::net", "util", "util::wide"];
 
 /// At which call the lister fails, its count before, how the selection ends, how many ids were asked,
 /// and the count after.
@@ -132,10 +126,11 @@ const ENDS: [(usize, u64, &str, usize, u64); 9] = [
 
 #[test]
 fn a_lister_that_fails(rt: HostRuntime) -> Result<(), Fail> {
+    let question = question(rt.alloc(), RECORD, CHOICE)?;
     for (fails_at, before, end, asked, after) in ENDS {
         for plain in [false, true] {
-            let lister = failing(rt.alloc(), before, fails_at);
-            expect_end(&rt, lister, plain, end, asked, after)?;
+            let mut lister = failing(rt.alloc(), before, fails_at);
+            expect_end(&rt, &question, &mut lister, plain, (end, asked, after))?;
         }
     }
     Ok(())
@@ -164,9 +159,10 @@ fn what_a_lister_is_told(rt: HostRuntime) -> Result<(), Fail> {
         p-q::bin/c, p 1.0.0, c, Bin, target\n\
         p-q::example/e, p 1.0.0, e, Example, target\n\
         p-q::t, p 1.0.0, t, Test, target\n";
+    let question = question(rt.alloc(), KINDS, b"{}")?;
     for plain in [false, true] {
         let mut lister = failing(rt.alloc(), 0, 5);
-        let answer = select_all(rt.alloc(), KINDS, b"{}", plain, &mut lister)?;
+        let answer = selected(rt.alloc(), &question, plain, &[], &mut lister);
         assert!(rt; answer.is_ok());
         assert_eq!(rt; lister.told.as_str(), told);
     }
@@ -193,10 +189,11 @@ impl TestLister for FullLister {
 #[test]
 fn a_lister_without_room(rt: HostRuntime) -> Result<(), Fail> {
     let alloc = rt.alloc();
+    let question = question(alloc, RECORD, CHOICE)?;
     for (before, after) in [(0, 1), (u64::MAX - 1, u64::MAX), (u64::MAX, u64::MAX)] {
         for plain in [false, true] {
             let mut lister = FullLister { failures: before };
-            let answer = select_all(alloc, RECORD, CHOICE, plain, &mut lister)?;
+            let answer = selected(alloc, &question, plain, &[], &mut lister);
             assert_eq!(rt; end_text(alloc, answer)?.as_str(), "lister: app");
             assert_eq!(rt; lister.failures, after);
         }

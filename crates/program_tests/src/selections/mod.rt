@@ -5,7 +5,6 @@ mod accounts;
 mod error_texts;
 mod listers;
 mod orders;
-mod questions;
 mod reports;
 mod sorts;
 mod writers;

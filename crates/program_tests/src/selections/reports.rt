@@ -1,7 +1,7 @@
 //! Reports into writers that take little or fail.
 
-use crate::selections::questions::select_all;
 use crate::selections::writers::{SlowWriter, Written, expect_each_cut};
+use crate::workspace::{question, selected};
 use std::alloc::Global;
 use std::io::{ErrorKind, Write};
 use std::process::Abort;
@@ -23,9 +23,10 @@ const LISTINGS: &[u8] = br#"{"a": ["x y", "", "\u00fc"], "b-b": ["m::one"], "c":
 // The letter ü is C3 BC.
 const REPORT: &[u8] = b"a \na x y\na \xc3\xbc\nb-b m::one\n";
 
-fn chosen(alloc: Global) -> Result<Selection, Fail> {
-    let mut lister = FileLister::new(alloc, read_listings(alloc, LISTINGS)?);
-    Ok(select_all(alloc, RECORD, b"{}", false, &mut lister)??)
+fn chosen(alloc: Global, listings: &[u8]) -> Result<Selection, Fail> {
+    let mut lister = FileLister::new(alloc, read_listings(alloc, listings)?);
+    let question = question(alloc, RECORD, b"{}")?;
+    Ok(selected(alloc, &question, false, &[], &mut lister)?)
 }
 
 /// Asserts with which error a report ends, and how many of its bytes were taken.
@@ -57,7 +58,7 @@ const ENDS: [(usize, usize, Option<ErrorKind>, usize); 9] = [
 
 #[test]
 fn a_writer_that_takes_little_or_fails(rt: HostRuntime) -> Result<(), Fail> {
-    let selection = chosen(rt.alloc())?;
+    let selection = chosen(rt.alloc(), LISTINGS)?;
     for (most, left, error, taken) in ENDS {
         let writer = SlowWriter::new(rt.alloc(), most, left, ErrorKind::BrokenPipe);
         expect_end(&rt, &selection, writer, error, taken);
@@ -68,7 +69,7 @@ fn a_writer_that_takes_little_or_fails(rt: HostRuntime) -> Result<(), Fail> {
 /// Also those after which others would write again.
 #[test]
 fn any_fault_ends_a_report(rt: HostRuntime) -> Result<(), Fail> {
-    let selection = chosen(rt.alloc())?;
+    let selection = chosen(rt.alloc(), LISTINGS)?;
     for fault in [
         ErrorKind::Interrupted,
         ErrorKind::WouldBlock,
@@ -83,11 +84,8 @@ fn any_fault_ends_a_report(rt: HostRuntime) -> Result<(), Fail> {
 /// Nothing is written of it, so that nothing fails.
 #[test]
 fn an_empty_report(rt: HostRuntime) -> Result<(), Fail> {
-    let alloc = rt.alloc();
-    let listings = read_listings(alloc, br#"{"a": [], "b-b": [], "c": []}"#)?;
-    let mut lister = FileLister::new(alloc, listings);
-    let selection = select_all(alloc, RECORD, b"{}", false, &mut lister)??;
-    let writer = SlowWriter::new(alloc, 0, 0, ErrorKind::BrokenPipe);
+    let selection = chosen(rt.alloc(), br#"{"a": [], "b-b": [], "c": []}"#)?;
+    let writer = SlowWriter::new(rt.alloc(), 0, 0, ErrorKind::BrokenPipe);
     expect_end(&rt, &selection, writer, None, 0);
     Ok(())
 }
@@ -107,7 +105,7 @@ impl Written for Report {
 
 #[test]
 fn whole_reports(rt: HostRuntime) -> Result<(), Fail> {
-    let selection = chosen(rt.alloc())?;
+    let selection = chosen(rt.alloc(), LISTINGS)?;
     expect_each_cut(&rt, rt.alloc(), &Report { selection }, REPORT);
     Ok(())
 }

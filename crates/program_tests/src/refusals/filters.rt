@@ -1,7 +1,7 @@
 //! Filters that are parsed, compiled and asked.
 
-use crate::turns::{Refusal, Wanting, refuse_in_turn};
-use crate::workspace::{id_of, packages};
+use crate::refusals::packages::{id_of, packages};
+use crate::refusals::turns::{Refusal, Wanting, printed, refuse_in_turn};
 use guppy_package_graph::{PackageGraph, PackageId};
 use nextest_filtering::errors::{FiltersetError, ParseExprError};
 use nextest_filtering::{
@@ -20,26 +20,8 @@ struct Parses;
 
 impl Wanting for Parses {
     fn answer(&mut self, alloc: Global) -> Result<String, Refusal> {
-        let parsed = parse_filter(alloc)?;
-        Ok(format!(in alloc; "{}", parsed.expr)?)
-    }
-}
-
-struct Parsed {
-    expr: ParsedExpr,
-}
-
-// Written out, so that a function that lets one go takes one step.
-impl Drop for Parsed {
-    fn drop(self) {
-        let Parsed { expr: _ } = self;
-    }
-}
-
-fn parse_filter(alloc: Global) -> Result<Parsed, ParseExprError> {
-    match ParsedExpr::parse(alloc, FILTER) {
-        Ok(expr) => Ok(Parsed { expr }),
-        Err(error) => Err(error),
+        let parsed = ParsedExpr::parse(alloc, FILTER);
+        printed(alloc, parsed, ParseExprError::Memory)
     }
 }
 
@@ -93,12 +75,13 @@ impl Drop for Compiled {
     }
 }
 
-fn compile_filter(alloc: Global, cx: &ParseContext<'_>) -> Result<Compiled, FiltersetError> {
+fn compile_filter(alloc: Global, cx: &ParseContext<'_>) -> Result<Compiled, Refusal> {
     let input = String::from_str(alloc, FILTER)?;
     let (kind, groups) = (FiltersetKind::OverrideFilter, KnownGroups::Unavailable);
     match Filterset::parse(alloc, input, cx, kind, &groups) {
         Ok(filter) => Ok(Compiled { filter }),
-        Err(error) => Err(error),
+        Err(FiltersetError::Memory) => Err(Refusal::Memory),
+        Err(_) => Err(Refusal::Other),
     }
 }
 

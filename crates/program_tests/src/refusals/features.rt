@@ -1,12 +1,12 @@
 //! Feature graphs, their resolves and their filters.
 
-use crate::turns::{Refusal, Wanting, refuse_in_turn};
-use crate::workspace::{id_of, packages};
+use crate::refusals::packages::{id_of, packages};
+use crate::refusals::turns::{Refusal, Wanting, answered, refuse_in_turn};
 use guppy_feature_graph::{
     ConditionalLink, FeatureGraph, FeatureGraphData, FeatureId, FeatureLinkContext,
     FeatureLinkVisitor, FeatureMetadata, FeatureSet,
 };
-use guppy_package_graph::{DependencyDirection, PackageGraph, PackageId};
+use guppy_package_graph::{DependencyDirection, Error, PackageGraph, PackageId};
 use std::alloc::{AllocError, Global};
 use std::process::Abort;
 use std::test::Fail;
@@ -73,9 +73,11 @@ impl Wanting for Resolves<'_, '_> {
             FeatureId::named(self.app, "full"),
         ];
         let mut visitor = Counts { shown: 0 };
-        let query = self
-            .graph
-            .query_directed(alloc, &starts, DependencyDirection::Forward)?;
+        let forward = DependencyDirection::Forward;
+        let query = answered(
+            self.graph.query_directed(alloc, &starts, forward),
+            Error::Memory,
+        )?;
         match query.resolve_with(alloc, &mut visitor) {
             Ok(set) => Ok(ids_text(alloc, &set)?),
             Err(_) if visitor.shown == 0 => Err(Refusal::Memory),

@@ -3,23 +3,38 @@
 ghost use Rattle.std.specs.Prelude.{◌≡◌};
 ghost use Rattle.guppy_package_table.specs.Tables.{ids_of};
 
-use crate::turns::{Refusal, Wanting, refuse_in_turn};
-use crate::workspace::{Workspace, id_of, packages, record_text};
+use crate::refusals::turns::{Refusal, Wanting, answered, refuse_in_turn};
+use crate::workspace::RECORD;
 use guppy_package_graph::{
-    DependencyDirection, PackageGraph, PackageId, PackageLink, PackageLinkContext,
-    PackageLinkVisitor, PackageMetadata, PackageSet,
+    DependencyDirection, Error, PackageGraph, PackageGraphError, PackageId, PackageLink,
+    PackageLinkContext, PackageLinkVisitor, PackageMetadata, PackageSet,
 };
 use std::alloc::{AllocError, Global};
 use std::process::Abort;
 use std::test::Fail;
-use test_select::WorkspaceRecord;
+use test_select::{WorkspaceRecord, read_record};
+
+/// The graph of the packages.
+pub(crate) fn packages(alloc: Global) -> Result<PackageGraph, Fail> {
+    let record = read_record(alloc, RECORD)?;
+    Ok(graph_of(alloc, record)?)
+}
+
+/// The graph of a record's rows.
+fn graph_of(alloc: Global, record: WorkspaceRecord) -> Result<PackageGraph, PackageGraphError> {
+    let (packages, links, workspace) = (record.packages, record.links, record.workspace);
+    PackageGraph::from_records(alloc, packages, links, workspace)
+}
+
+pub(crate) fn id_of(alloc: Global, text: &str) -> Result<PackageId, AllocError> {
+    Ok(PackageId::new(String::from_str(alloc, text)?))
+}
 
 /// The ids of a set, dependents first, with a space after each.
 fn ids_text(alloc: Global, set: &PackageSet<'_>) -> Result<String, AllocError> {
     let mut text = String::new(alloc);
     for id in set.package_ids(DependencyDirection::Forward) {
-        text.push_str(id.repr())?;
-        text.push(' ')?;
+        write!(text, "{} ", id.repr())?;
     }
     Ok(text)
 }
@@ -33,32 +48,23 @@ struct Builds<'r> {
 impl Wanting for Builds<'_> {
     fn answer(&mut self, alloc: Global) -> Result<String, Refusal> {
         let copy = self.record.copy(alloc)?;
-        let (packages, links, workspace) = (copy.packages, copy.links, copy.workspace);
-        let graph = PackageGraph::from_records(alloc, packages, links, workspace)?;
-        all_text(alloc, &graph)
+        let graph = answered(graph_of(alloc, copy), PackageGraphError::Memory)?;
+        Ok(set_told(alloc, graph.resolve_all(alloc))?)
     }
 }
 
-fn all_text(alloc: Global, graph: &PackageGraph) -> Result<String, Refusal> {
-    let all = graph.resolve_all(alloc)?;
-    Ok(ids_text(alloc, &all)?)
-}
-
-fn expect_graph(rt: &impl Abort, alloc: Global, record: &WorkspaceRecord) -> Result<(), Fail> {
-    let before = record_text(alloc, record)?;
-    refuse_in_turn(rt, alloc, &mut Builds { record }, "app util ")?;
-    let after = record_text(alloc, record)?;
+/// The record is afterwards what it was before.
+#[test]
+fn from_records(rt: HostRuntime) -> Result<(), Fail> {
+    let record = &read_record(rt.alloc(), RECORD)?;
+    let before = format!(in rt.alloc(); "{record:?}")?;
+    refuse_in_turn(&rt, rt.alloc(), &mut Builds { record }, "app util ")?;
+    let after = format!(in rt.alloc(); "{record:?}")?;
     assert_eq!(rt; after, before);
     Ok(())
 }
 
-#[test]
-fn from_records(rt: HostRuntime) -> Result<(), Fail> {
-    let workspace = Workspace::read(rt.alloc())?;
-    expect_graph(&rt, rt.alloc(), &workspace.record)
-}
-
-/// What two sets are made into.
+/// What is made of two sets, one of all packages and one of util. The sets themselves are told last.
 #[derive(Clone, Copy)]
 enum Made {
     Union,
@@ -68,9 +74,10 @@ enum Made {
     Filter,
     Links,
     Roots,
+    First,
+    Second,
 }
 
-/// Makes a set, or something of a set, of two sets.
 #[derive(Drop)]
 struct Makes<'g, 'h, 's, 't> {
     made: Made,
@@ -83,29 +90,28 @@ impl Wanting for Makes<'_, '_, '_, '_> {
         if !self.all.same_packages(self.one) {
             return Err(Refusal::Other);
         }
-        match made_set(alloc, self.made, self.all, self.one)? {
-            Some(set) => Ok(ids_text(alloc, &set)?),
-            None => Ok(told_of(alloc, self.made, self.all)?),
-        }
+        Ok(made_text(alloc, self.made, self.all, self.one)?)
     }
 }
 
-/// The set that is made of both, and none where something is told of the one.
-fn made_set<'g>(
+fn made_text(
     alloc: Global,
     made: Made,
-    all: &PackageSet<'g>,
+    all: &PackageSet<'_>,
     one: &PackageSet<'_>,
-) -> Result<Option<PackageSet<'g>>, AllocError>
+) -> Result<String, AllocError>
     requires same { ids_of all.now.graph.packages ≡ ids_of one.now.graph.packages }
 {
     match made {
-        Made::Union => Ok(Some(all.union(alloc, one)?)),
-        Made::Intersection => Ok(Some(all.intersection(alloc, one)?)),
-        Made::Difference => Ok(Some(all.difference(alloc, one)?)),
-        Made::SymmetricDifference => Ok(Some(all.symmetric_difference(alloc, one)?)),
-        Made::Filter => Ok(Some(filtered(alloc, all)?)),
-        Made::Links | Made::Roots => Ok(None),
+        Made::Union => set_told(alloc, all.union(alloc, one)),
+        Made::Intersection => set_told(alloc, all.intersection(alloc, one)),
+        Made::Difference => set_told(alloc, all.difference(alloc, one)),
+        Made::SymmetricDifference => set_told(alloc, all.symmetric_difference(alloc, one)),
+        Made::Filter => set_told(alloc, filtered(alloc, all)),
+        Made::Links => length_told(alloc, all.links(alloc)),
+        Made::Roots => length_told(alloc, all.root_ids(alloc, DependencyDirection::Forward)),
+        Made::First => ids_text(alloc, all),
+        Made::Second => ids_text(alloc, one),
     }
 }
 
@@ -117,16 +123,19 @@ fn filtered<'g>(alloc: Global, all: &PackageSet<'g>) -> Result<PackageSet<'g>, A
     )
 }
 
-/// How many links stand inside the set, or how many roots it has.
-fn told_of(alloc: Global, made: Made, all: &PackageSet<'_>) -> Result<String, AllocError> {
-    let count = match made {
-        Made::Links => all.links(alloc)?.len(),
-        _ => all.root_ids(alloc, DependencyDirection::Forward)?.len(),
-    };
-    format!(in alloc; "{count}")
+fn set_told(alloc: Global, set: Result<PackageSet<'_>, AllocError>) -> Result<String, AllocError> {
+    ids_text(alloc, &set?)
 }
 
-const SETS: [(Made, &str); 7] = [
+fn length_told<T: Drop>(
+    alloc: Global,
+    list: Result<Vec<T>, AllocError>,
+) -> Result<String, AllocError> {
+    let list = list?;
+    format!(in alloc; "{}", list.len())
+}
+
+const SETS: [(Made, &str); 9] = [
     (Made::Union, "app util "),
     (Made::Intersection, "util "),
     (Made::Difference, "app "),
@@ -134,6 +143,8 @@ const SETS: [(Made, &str); 7] = [
     (Made::Filter, "app "),
     (Made::Links, "1"),
     (Made::Roots, "1"),
+    (Made::First, "app util "),
+    (Made::Second, "util "),
 ];
 
 fn expect_made(
@@ -148,27 +159,13 @@ fn expect_made(
     Ok(())
 }
 
-/// Asserts that the set has just these.
-fn expect_ids(
-    rt: &impl Abort,
-    alloc: Global,
-    set: &PackageSet<'_>,
-    wanted: &str,
-) -> Result<(), Fail> {
-    let ids = ids_text(alloc, set)?;
-    assert_eq!(rt; ids.as_str(), wanted);
-    Ok(())
-}
-
 #[test]
 fn sets(rt: HostRuntime) -> Result<(), Fail> {
     let graph = packages(rt.alloc())?;
     let util = id_of(rt.alloc(), "util")?;
     let all = graph.resolve_all(rt.alloc())?;
     let one = graph.resolve_ids(rt.alloc(), &[&util])?;
-    expect_made(&rt, rt.alloc(), &all, &one)?;
-    expect_ids(&rt, rt.alloc(), &all, "app util ")?;
-    expect_ids(&rt, rt.alloc(), &one, "util ")
+    expect_made(&rt, rt.alloc(), &all, &one)
 }
 
 /// Counts the links that it is shown.
@@ -200,7 +197,10 @@ struct Resolves<'g> {
 impl Wanting for Resolves<'_> {
     fn answer(&mut self, alloc: Global) -> Result<String, Refusal> {
         let mut visitor = Counts { shown: 0 };
-        let query = self.graph.query_forward(alloc, &[self.start])?;
+        let query = answered(
+            self.graph.query_forward(alloc, &[self.start]),
+            Error::Memory,
+        )?;
         match query.resolve_with(alloc, &mut visitor) {
             Ok(set) => Ok(ids_text(alloc, &set)?),
             Err(_) if visitor.shown == 0 => Err(Refusal::Memory),

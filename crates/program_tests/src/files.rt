@@ -1,10 +1,10 @@
 //! The files of the runs.
 
-use crate::workspace::{CHOICE, LISTINGS, RECORD};
+use crate::workspace::{ACCOUNT, CHOICE, LISTINGS, RECORD, TABLE};
 use std::alloc::Global;
 use test_select::{FileFault, FileSource};
 
-/// A record, a choice, listings and an account, each under its name.
+/// A record, a choice, a table, listings and an account, each under its name.
 #[derive(Drop)]
 pub(crate) struct Files;
 
@@ -13,8 +13,9 @@ impl FileSource for Files {
         let bytes = match name {
             "record.json" => RECORD,
             "choice.json" => CHOICE,
+            "table.json" => TABLE,
             "listings.json" => LISTINGS,
-            "account.json" => b"{\"rules\":[0,1,2,3,8,9]}",
+            "account.json" => ACCOUNT,
             _ => return Err(FileFault::CannotRead),
         };
         bytes.to_vec(alloc).map_err(|_| FileFault::Memory)

@@ -1,0 +1,52 @@
+//! Runs of the program with each of its subcommands.
+
+use crate::files::Files;
+use crate::refusals::turns::{Refusal, Wanting, refuse_in_turn};
+use crate::runs::RUNS;
+use std::alloc::Global;
+use std::test::Fail;
+use test_select::run;
+
+#[derive(Drop)]
+struct Runs<'a, 'b> {
+    words: &'a [&'b str],
+    out: Vec<u8>,
+    err: Vec<u8>,
+}
+
+impl Wanting for Runs<'_, '_> {
+    fn answer(&mut self, alloc: Global) -> Result<String, Refusal> {
+        self.out.clear();
+        self.err.clear();
+        let status = run(alloc, self.words, &mut Files, &mut self.out, &mut self.err);
+        if status == 0 {
+            return Ok(text_of(alloc, &self.out)?);
+        }
+        if status == 1 && self.out.is_empty() && is_want_of_memory(&self.err) {
+            return Err(Refusal::Memory);
+        }
+        Err(Refusal::Other)
+    }
+}
+
+/// Whether a refused run says so, or that the lister had no room.
+fn is_want_of_memory(err: &[u8]) -> bool {
+    err == b"out of memory\n".as_slice() || err.starts_with(b"lister: ")
+}
+
+fn text_of(alloc: Global, bytes: &[u8]) -> Result<String, Refusal> {
+    match String::from_utf8(bytes.to_vec(alloc)?) {
+        Ok(text) => Ok(text),
+        Err(_) => Err(Refusal::Other),
+    }
+}
+
+#[test]
+fn subcommands(rt: HostRuntime) -> Result<(), Fail> {
+    for (words, wanted) in RUNS {
+        let out = Vec::with_capacity(rt.alloc(), 1024)?;
+        let err = Vec::with_capacity(rt.alloc(), 1024)?;
+        refuse_in_turn(&rt, rt.alloc(), &mut Runs { words, out, err }, wanted)?;
+    }
+    Ok(())
+}

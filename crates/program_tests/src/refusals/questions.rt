@@ -1,0 +1,119 @@
+//! Rules, what is on, accounts, explanations and orders, and the checks of records and accounts.
+
+use crate::refusals::turns::{Refusal, Wanting, answered, refuse_in_turn, told};
+use crate::workspace::{CHOICE, RECORD, question, simd};
+use question_files::FeatureQuestion;
+use std::alloc::{AllocError, Global};
+use std::process::Abort;
+use std::test::Fail;
+use test_select::{
+    Feature, RecordError, SelectError, account, check_account, check_explanation, check_record,
+    explain, features_on, package_order, rules,
+};
+
+/// What is asked.
+#[derive(Clone, Copy)]
+enum Asked {
+    /// How many rules there are.
+    Rules,
+    Checked,
+    /// How many features are on.
+    On,
+    Account,
+    Explanation,
+    Order,
+    CheckedAccount(&'static [usize]),
+    CheckedExplanation(&'static [usize]),
+}
+
+#[derive(Drop)]
+struct Asks<'q, 'f> {
+    asked: Asked,
+    question: &'q FeatureQuestion,
+    goal: &'f Feature,
+}
+
+impl Wanting for Asks<'_, '_> {
+    fn answer(&mut self, alloc: Global) -> Result<String, Refusal> {
+        let FeatureQuestion {
+            record,
+            choice,
+            table,
+        } = self.question;
+        match self.asked {
+            Asked::Rules => {
+                let rules = rules(alloc, record, choice, table)?;
+                Ok(format!(in alloc; "{}", rules.len())?)
+            }
+            Asked::Checked => told(alloc, check_record(alloc, record), RecordError::Memory),
+            Asked::On => {
+                let on = answered(
+                    features_on(alloc, record, choice, table),
+                    SelectError::Memory,
+                )?;
+                Ok(format!(in alloc; "{}", on.as_slice().len())?)
+            }
+            Asked::Account => {
+                let account = answered(account(alloc, record, choice, table), SelectError::Memory)?;
+                Ok(format!(in alloc; "{:?}", account.rules)?)
+            }
+            Asked::Explanation => {
+                let entries = explain(alloc, record, choice, table, self.goal);
+                told(alloc, entries, SelectError::Memory)
+            }
+            Asked::Order => {
+                let ids = package_order(alloc, record, choice, table);
+                told(alloc, ids, SelectError::Memory)
+            }
+            Asked::CheckedAccount(entries) => {
+                let verdict = check_account(alloc, record, choice, table, entries);
+                told(alloc, verdict, AllocError)
+            }
+            Asked::CheckedExplanation(entries) => {
+                let verdict = check_explanation(alloc, record, choice, table, self.goal, entries);
+                told(alloc, verdict, AllocError)
+            }
+        }
+    }
+}
+
+const ANSWERS: [(Asked, &str); 9] = [
+    (Asked::Rules, "11"),
+    (Asked::Checked, "()"),
+    (Asked::On, "6"),
+    (Asked::Account, "[0, 1, 2, 3, 8, 9]"),
+    (Asked::Explanation, "Some([2, 3, 8, 9])"),
+    (Asked::Order, r#"["util", "app"]"#),
+    (Asked::CheckedAccount(&[0, 1, 2, 3, 8, 9]), "Accepted"),
+    (Asked::CheckedAccount(&[0, 1, 3]), "NotClosed(2)"),
+    (Asked::CheckedExplanation(&[3, 8, 2, 9]), "Accepted"),
+];
+
+fn expect_answers(
+    rt: &impl Abort,
+    alloc: Global,
+    question: &FeatureQuestion,
+    goal: &Feature,
+) -> Result<(), Fail> {
+    for (asked, wanted) in ANSWERS {
+        let mut run = Asks {
+            asked,
+            question,
+            goal,
+        };
+        refuse_in_turn(rt, alloc, &mut run, wanted)?;
+    }
+    Ok(())
+}
+
+/// The record is afterwards what it was before.
+#[test]
+fn questions(rt: HostRuntime) -> Result<(), Fail> {
+    let goal = simd(rt.alloc())?;
+    let question = question(rt.alloc(), RECORD, CHOICE)?;
+    let before = format!(in rt.alloc(); "{:?}", question.record)?;
+    expect_answers(&rt, rt.alloc(), &question, &goal)?;
+    let after = format!(in rt.alloc(); "{:?}", question.record)?;
+    assert_eq!(rt; after, before);
+    Ok(())
+}
