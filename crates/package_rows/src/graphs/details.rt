@@ -1,10 +1,10 @@
 //! What the package under `package` says of itself.
 
-use crate::graphs::ids::{id_in, push_word};
+use crate::graphs::ids::id_in;
 use guppy_package_graph::{Error, PackageGraph, PackageLink, PackageMetadata};
-use guppy_package_parts::{BuildTarget, BuildTargetId, PackageId, PackageSource};
+use guppy_package_parts::{BuildTarget, BuildTargetId, PackageSource};
 use row_program::{Answers, Row, RowFault};
-use std::alloc::{AllocError, Global};
+use std::alloc::Global;
 
 pub(crate) fn tell_package(
     alloc: Global,
@@ -12,12 +12,19 @@ pub(crate) fn tell_package(
     graph: &PackageGraph,
     answers: &mut Answers,
 ) -> Result<(), RowFault> {
-    match id_in(alloc, row, "package")? {
-        Some(id) => {
-            tell_found(alloc, graph, &id, answers)?;
-            tell_links(alloc, row, graph, &id, answers)
+    let Some(id) = id_in(alloc, row, "package")? else {
+        return Ok(());
+    };
+    match graph.metadata(&id) {
+        Ok(package) => {
+            tell_found(alloc, package, answers);
+            tell_links(alloc, row, package, answers)
         }
-        None => Ok(()),
+        Err(error) => {
+            answers.show("found", &error);
+            answers.show("link_to", &error);
+            Ok(())
+        }
     }
 }
 
@@ -25,161 +32,136 @@ pub(crate) fn tell_package(
 fn tell_links(
     alloc: Global,
     row: Row<'_>,
-    graph: &PackageGraph,
-    id: &PackageId,
+    package: PackageMetadata<'_>,
     answers: &mut Answers,
 ) -> Result<(), RowFault> {
-    let Some(target) = id_in(alloc, row, "target")? else {
-        return Ok(());
-    };
-    match graph.metadata(id) {
-        Err(error) => answers.tell("link_to", format!(in alloc; "{error}")),
-        Ok(package) => {
-            answers.tell("link_to", first_link_text(alloc, package.link_to(&target)))?;
-            answers.tell(
-                "link_from",
-                first_link_text(alloc, package.link_from(&target)),
-            )
-        }
+    if let Some(target) = id_in(alloc, row, "target")? {
+        tell_link(alloc, "link_to", package.link_to(&target), answers);
+        tell_link(alloc, "link_from", package.link_from(&target), answers);
     }
+    Ok(())
 }
 
-fn first_link_text(
+fn tell_link(
     alloc: Global,
+    key: &'static str,
     found: Result<Option<PackageLink<'_>>, Error>,
-) -> Result<String, AllocError> {
+    answers: &mut Answers,
+) {
     match found {
         Ok(Some(link)) => {
             let (from, to) = link.endpoints();
             let (from, to, name) = (from.id(), to.id(), link.dep_name());
-            format!(in alloc; "{from} to {to} as {name}")
+            answers.keep(key, format!(in alloc; "{from} to {to} as {name}"));
         }
-        Ok(None) => String::from_str(alloc, "none"),
-        Err(error) => format!(in alloc; "{error}"),
+        Ok(None) => answers.show(key, &"none"),
+        Err(error) => answers.show(key, &error),
     }
 }
 
-fn tell_found(
-    alloc: Global,
-    graph: &PackageGraph,
-    id: &PackageId,
-    answers: &mut Answers,
-) -> Result<(), RowFault> {
-    match graph.metadata(id) {
-        Err(error) => answers.tell("found", format!(in alloc; "{error}")),
-        Ok(package) => {
-            answers.tell("found", found_text(alloc, package))?;
-            answers.tell("source", source_text(alloc, package.source()))?;
-            answers.tell("texts", texts_text(alloc, package))?;
-            answers.tell("lists", lists_text(alloc, package))?;
-            tell_parts(alloc, package, answers)
-        }
-    }
-}
-
-fn found_text(alloc: Global, package: PackageMetadata<'_>) -> Result<String, AllocError> {
+fn tell_found(alloc: Global, package: PackageMetadata<'_>, answers: &mut Answers) {
     let (id, name, version) = (package.id(), package.name(), package.version());
     let source = package.source();
     let is_member = package.in_workspace();
-    format!(in alloc; "{id}, {name} {version}, from {source}, member {is_member}")
+    answers.keep(
+        "found",
+        format!(in alloc; "{id}, {name} {version}, from {source}, member {is_member}"),
+    );
+    tell_source(alloc, source, answers);
+    tell_texts(package, answers);
+    tell_kinds(alloc, package, answers);
+    tell_targets(alloc, package, answers);
 }
 
-fn source_text(alloc: Global, source: PackageSource<'_>) -> Result<String, AllocError> {
+fn tell_source(alloc: Global, source: PackageSource<'_>, answers: &mut Answers) {
     let (is_workspace, is_path) = (source.is_workspace(), source.is_path());
     let in_workspace = source.workspace_path().unwrap_or("-");
     let local = source.local_path().unwrap_or("-");
-    format!(in alloc; "workspace {is_workspace} {in_workspace}, path {is_path}, local {local}")
+    answers.keep(
+        "source",
+        format!(in alloc; "workspace {is_workspace} {in_workspace}, path {is_path}, local {local}"),
+    );
 }
 
-/// The texts that a manifest may leave out, in the order in which `cargo metadata` gives them.
-fn texts_text(alloc: Global, package: PackageMetadata<'_>) -> Result<String, AllocError> {
-    let mut text = String::new(alloc);
-    for part in [
-        package.description(),
-        package.license(),
-        package.license_file(),
-        package.readme(),
-        package.repository(),
-        package.homepage(),
-        package.documentation(),
-        package.links(),
-        package.default_run(),
-        package.rust_version(),
-        package.metadata_table(),
-        Some(package.manifest_path()),
-        Some(package.edition()),
-    ] {
-        push_word(&mut text, part.unwrap_or("-"))?;
+/// The texts that a manifest may leave out, in the order in which `cargo metadata` gives them, and the lists.
+fn tell_texts(package: PackageMetadata<'_>, answers: &mut Answers) {
+    answers.begin("texts");
+    add_text(package.description(), answers);
+    add_text(package.license(), answers);
+    add_text(package.license_file(), answers);
+    add_text(package.readme(), answers);
+    add_text(package.repository(), answers);
+    add_text(package.homepage(), answers);
+    add_text(package.documentation(), answers);
+    add_text(package.links(), answers);
+    add_text(package.default_run(), answers);
+    add_text(package.rust_version(), answers);
+    add_text(package.metadata_table(), answers);
+    add_text(Some(package.manifest_path()), answers);
+    add_text(Some(package.edition()), answers);
+    answers.begin("lists");
+    add_list(package.authors(), answers);
+    add_list(package.categories(), answers);
+    add_list(package.keywords(), answers);
+}
+
+fn add_text(text: Option<&str>, answers: &mut Answers) {
+    answers.part(" ", &text.unwrap_or("-"));
+}
+
+fn add_list(texts: &[String], answers: &mut Answers) {
+    for text in texts {
+        answers.part(" ", text);
     }
-    Ok(text)
+    answers.add(&";");
 }
 
-fn lists_text(alloc: Global, package: PackageMetadata<'_>) -> Result<String, AllocError> {
-    let mut text = String::new(alloc);
-    for list in [package.authors(), package.categories(), package.keywords()] {
-        for part in list {
-            push_word(&mut text, part.as_str())?;
-        }
-        text.push(';')?;
-    }
-    Ok(text)
-}
-
-fn tell_parts(
-    alloc: Global,
-    package: PackageMetadata<'_>,
-    answers: &mut Answers,
-) -> Result<(), RowFault> {
-    answers.tell("features", features_text(alloc, package))?;
-    answers.tell("targets", targets_text(alloc, package))?;
-    let library = package.build_target(&BuildTargetId::Library);
-    answers.tell("library", target_text(alloc, library))?;
-    answers.tell("library_defaults", defaults_text(alloc, library))?;
-    let binary = package.build_target(&BuildTargetId::Binary("x"));
-    answers.tell("binary_x", target_text(alloc, binary))?;
-    answers.tell("kinds", kinds_text(alloc, package))
-}
-
-fn features_text(alloc: Global, package: PackageMetadata<'_>) -> Result<String, AllocError> {
-    let mut features = String::new(alloc);
+fn tell_targets(alloc: Global, package: PackageMetadata<'_>, answers: &mut Answers) {
+    answers.begin("features");
     for name in package.named_features() {
-        push_word(&mut features, name)?;
+        answers.part(" ", &name);
     }
-    Ok(features)
-}
-
-fn targets_text(alloc: Global, package: PackageMetadata<'_>) -> Result<String, AllocError> {
-    let mut targets = String::new(alloc);
+    answers.begin("targets");
     for target in package.build_targets() {
-        push_word(&mut targets, target.name())?;
+        answers.part(" ", &target.name());
     }
-    Ok(targets)
+    let library = package.build_target(&BuildTargetId::Library);
+    tell_target("library", library, answers);
+    tell_defaults(alloc, library, answers);
+    let binary = package.build_target(&BuildTargetId::Binary("x"));
+    tell_target("binary_x", binary, answers);
 }
 
-fn target_text(alloc: Global, target: Option<BuildTarget<'_>>) -> Result<String, AllocError> {
+fn tell_target(key: &'static str, target: Option<BuildTarget<'_>>, answers: &mut Answers) {
     match target {
-        Some(target) => String::from_str(alloc, target.name()),
-        None => String::from_str(alloc, "none"),
+        Some(target) => answers.show(key, &target.name()),
+        None => answers.show(key, &"none"),
     }
 }
 
 /// What Cargo does with the target where nothing else is said.
-fn defaults_text(alloc: Global, target: Option<BuildTarget<'_>>) -> Result<String, AllocError> {
+fn tell_defaults(alloc: Global, target: Option<BuildTarget<'_>>, answers: &mut Answers) {
     let Some(target) = target else {
-        return String::from_str(alloc, "none");
+        return answers.show("library_defaults", &"none");
     };
     let is_documented = target.doc_by_default();
     let has_doctests = target.doctest_by_default();
     let is_tested = target.test_by_default();
-    format!(in alloc; "doc {is_documented}, doctest {has_doctests}, test {is_tested}")
+    answers.keep(
+        "library_defaults",
+        format!(in alloc; "doc {is_documented}, doctest {has_doctests}, test {is_tested}"),
+    );
 }
 
-fn kinds_text(alloc: Global, package: PackageMetadata<'_>) -> Result<String, AllocError> {
+fn tell_kinds(alloc: Global, package: PackageMetadata<'_>, answers: &mut Answers) {
     let is_proc_macro = package.is_proc_macro();
     let has_build_script = package.has_build_script();
     let has_default = package.has_default_feature();
     let is_published = !package.publish().is_never();
-    format!(in alloc;
-        "proc-macro {is_proc_macro}, build script {has_build_script}, default {has_default}, published {is_published}"
-    )
+    answers.keep(
+        "kinds",
+        format!(in alloc;
+            "proc-macro {is_proc_macro}, build script {has_build_script}, default {has_default}, published {is_published}"
+        ),
+    );
 }

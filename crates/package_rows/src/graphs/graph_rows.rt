@@ -44,7 +44,10 @@ impl RowRunner for GraphRows {
         let record = record_under(alloc, row)?;
         match graph_of(alloc, record) {
             Ok(graph) => tell_graph(alloc, row, &graph, answers),
-            Err(error) => answers.tell("built", format!(in alloc; "{error}")),
+            Err(error) => {
+                answers.show("built", &error);
+                Ok(())
+            }
         }
     }
 }
@@ -63,11 +66,11 @@ fn tell_graph(
     let (packages, links) = (graph.package_count(), graph.link_count());
     let rows = graph.link_rows().len();
     let is_kept = graph.verify().is_ok();
-    answers.tell(
+    answers.keep(
         "built",
         format!(in alloc; "{packages} packages, {links} links"),
-    )?;
-    answers.tell("kept", format!(in alloc; "{rows} links, {is_kept}"))?;
+    );
+    answers.keep("kept", format!(in alloc; "{rows} links, {is_kept}"));
     tell_resolves(alloc, row, graph, answers)?;
     tell_sets(alloc, row, graph, answers)?;
     tell_members(alloc, row, graph, answers)?;

@@ -1,10 +1,11 @@
-//! Ids read from rows, and lists of packages as texts.
+//! Ids read from rows, and sets of packages that are told.
 
-use guppy_package_graph::{PackageMetadata, PackageSet, Packages, PackagesAt};
+use guppy_package_graph::PackageSet;
 use guppy_package_parts::{DependencyDirection, PackageId};
-use row_program::{Row, RowFault};
+use row_program::{Answers, Row, RowFault};
 use serde_json::Value;
 use std::alloc::{AllocError, Global};
+use std::fmt::Display;
 
 /// The package ids under a key.
 pub(crate) fn ids_in(
@@ -49,66 +50,54 @@ pub(crate) fn direction_in(row: Row<'_>) -> DependencyDirection {
     }
 }
 
-/// The ids of the packages in their order.
-pub(crate) fn listed_text(alloc: Global, packages: Packages<'_, '_>) -> Result<String, AllocError> {
-    let mut text = String::new(alloc);
-    for package in packages {
-        push_id(&mut text, package)?;
-    }
-    Ok(text)
-}
-
-/// The ids of the packages from the last to the first.
-pub(crate) fn listed_back_text(
+/// Tells the ids of the packages of a set that was made, ascending, or why it was not.
+pub(crate) fn tell_set<E: Display + Drop>(
     alloc: Global,
-    packages: Packages<'_, '_>,
-) -> Result<String, AllocError> {
-    let mut text = String::new(alloc);
-    for package in packages.rev() {
-        push_id(&mut text, package)?;
+    key: &'static str,
+    set: Result<PackageSet<'_>, E>,
+    answers: &mut Answers,
+) {
+    match set {
+        Ok(set) => answers.list(key, sorted_ids(alloc, &set)),
+        Err(error) => answers.show(key, &error),
     }
-    Ok(text)
 }
 
-/// The ids of the initials of a query.
-pub(crate) fn initials_text(
-    alloc: Global,
-    packages: PackagesAt<'_, '_>,
-) -> Result<String, AllocError> {
-    let mut text = String::new(alloc);
-    for package in packages {
-        push_id(&mut text, package)?;
-    }
-    Ok(text)
-}
-
-fn push_id(text: &mut String, package: PackageMetadata<'_>) -> Result<(), AllocError> {
-    push_word(text, package.id().repr())
-}
-
-/// Adds a word, with a space before each but the first.
-pub(crate) fn push_word(text: &mut String, word: &str) -> Result<(), AllocError> {
-    if !text.is_empty() {
-        text.push(' ')?;
-    }
-    text.push_str(word)?;
-    Ok(())
-}
-
-/// The ids of the packages of a set, ascending.
-pub(crate) fn set_text(alloc: Global, set: &PackageSet<'_>) -> Result<String, AllocError> {
+fn sorted_ids<'g>(alloc: Global, set: &PackageSet<'g>) -> Result<Vec<&'g str>, AllocError> {
     let mut ids = Vec::new(alloc);
     for package in set.packages(DependencyDirection::Forward) {
         ids.push(package.id().repr())?;
     }
     ids.sort_unstable();
-    words_text(alloc, &ids)
+    Ok(ids)
 }
 
-pub(crate) fn words_text(alloc: Global, words: &[&str]) -> Result<String, AllocError> {
-    let mut text = String::new(alloc);
-    for word in words {
-        push_word(&mut text, *word)?;
+/// As `tell_set`, of two sets that were made at once, with `; ` between both.
+pub(crate) fn tell_parts(
+    alloc: Global,
+    key: &'static str,
+    parts: Result<(PackageSet<'_>, PackageSet<'_>), AllocError>,
+    answers: &mut Answers,
+) {
+    match parts {
+        Ok((first, second)) => {
+            answers.list(key, sorted_ids(alloc, &first));
+            answers.add(&"; ");
+            add_ids(key, sorted_ids(alloc, &second), answers);
+        }
+        Err(refused) => answers.keep(key, Err(refused)),
     }
-    Ok(text)
+}
+
+fn add_ids(key: &'static str, ids: Result<Vec<&str>, AllocError>, answers: &mut Answers) {
+    match ids {
+        Ok(ids) => {
+            let mut between = "";
+            for id in &ids {
+                answers.part(between, id);
+                between = " ";
+            }
+        }
+        Err(refused) => answers.keep(key, Err(refused)),
+    }
 }

@@ -1,12 +1,10 @@
 //! The members of the workspace, found and listed by path and by name.
 
-use crate::graphs::ids::{push_word, set_text};
-use guppy_package_graph::{
-    PackageGraph, PackageIdsAt, PackageMetadata, PackageQuery, PackageSet, PackagesAt,
-};
+use crate::graphs::ids::tell_set;
+use guppy_package_graph::{PackageGraph, PackageIdsAt, PackageMetadata, PackageQuery};
 use guppy_package_parts::Error;
 use row_program::{Answers, Row, RowFault};
-use std::alloc::{AllocError, Global};
+use std::alloc::Global;
 
 pub(crate) fn tell_members(
     alloc: Global,
@@ -14,230 +12,112 @@ pub(crate) fn tell_members(
     graph: &PackageGraph,
     answers: &mut Answers,
 ) -> Result<(), RowFault> {
-    let workspace = graph.workspace();
-    let count = workspace.member_count();
-    answers.tell("member_count", format!(in alloc; "{count}"))?;
-    answers.tell("by_path", places_text(alloc, workspace.iter()))?;
-    answers.tell("member_ids", ids_text(alloc, workspace.member_ids()))?;
-    let defaults = ids_text(alloc, workspace.default_member_ids());
-    answers.tell("default_ids", defaults)?;
-    answers.tell("paths_with_ids", paths_text(alloc, graph))?;
-    answers.tell("names_with_ids", names_text(alloc, graph))?;
-    tell_paths(alloc, row, graph, answers)?;
-    tell_names(alloc, row, graph, answers)
-}
-
-fn paths_text(alloc: Global, graph: &PackageGraph) -> Result<String, AllocError> {
-    let mut paths = String::new(alloc);
-    for (path, package) in graph.workspace().iter_by_path() {
-        push_pair(alloc, &mut paths, path, package)?;
-    }
-    Ok(paths)
-}
-
-fn names_text(alloc: Global, graph: &PackageGraph) -> Result<String, AllocError> {
-    let mut names = String::new(alloc);
-    for (name, package) in graph.workspace().iter_by_name() {
-        push_pair(alloc, &mut names, name, package)?;
-    }
-    Ok(names)
-}
-
-fn push_pair(
-    alloc: Global,
-    text: &mut String,
-    key: &str,
-    package: PackageMetadata<'_>,
-) -> Result<(), AllocError> {
-    let id = package.id();
-    let pair = format!(in alloc; "{key}={id}")?;
-    push_word(text, pair.as_str())
-}
-
-/// The members under `paths`: found one by one, and as a set and a query.
-fn tell_paths(
-    alloc: Global,
-    row: Row<'_>,
-    graph: &PackageGraph,
-    answers: &mut Answers,
-) -> Result<(), RowFault> {
     let paths = row.texts(alloc, "paths")?;
-    tell_at_paths(alloc, graph, &paths, answers)
-}
-
-fn tell_at_paths(
-    alloc: Global,
-    graph: &PackageGraph,
-    paths: &[&str],
-    answers: &mut Answers,
-) -> Result<(), RowFault> {
-    for path in paths {
-        answers.tell("at_path", at_path_text(alloc, graph, path))?;
-    }
-    answers.tell("at_paths", at_paths_text(alloc, graph, paths))?;
-    answers.tell("set_at_paths", set_at_paths_text(alloc, graph, paths))?;
-    answers.tell("from_paths", from_paths_text(alloc, graph, paths))
-}
-
-fn at_path_text(alloc: Global, graph: &PackageGraph, path: &str) -> Result<String, AllocError> {
-    let workspace = graph.workspace();
-    let contained = workspace.contains_path(path);
-    let found = found_text(alloc, workspace.member_by_path(path))?;
-    format!(in alloc; "{found} {contained}")
-}
-
-fn at_paths_text(
-    alloc: Global,
-    graph: &PackageGraph,
-    paths: &[&str],
-) -> Result<String, AllocError> {
-    list_text(alloc, graph.workspace().members_by_paths(alloc, paths))
-}
-
-fn set_at_paths_text(
-    alloc: Global,
-    graph: &PackageGraph,
-    paths: &[&str],
-) -> Result<String, AllocError> {
-    set_or_error(alloc, graph.resolve_workspace_paths(alloc, paths))
-}
-
-fn from_paths_text(
-    alloc: Global,
-    graph: &PackageGraph,
-    paths: &[&str],
-) -> Result<String, AllocError> {
-    reach_or_error(alloc, graph.query_workspace_paths(alloc, paths))
-}
-
-/// The members under `names`, likewise.
-fn tell_names(
-    alloc: Global,
-    row: Row<'_>,
-    graph: &PackageGraph,
-    answers: &mut Answers,
-) -> Result<(), RowFault> {
     let names = row.texts(alloc, "names")?;
-    tell_called(alloc, graph, &names, answers)
+    tell_workspace(graph, answers);
+    tell_paths(alloc, graph, &paths, answers);
+    tell_names(alloc, graph, &names, answers);
+    Ok(())
 }
 
-fn tell_called(
-    alloc: Global,
-    graph: &PackageGraph,
-    names: &[&str],
-    answers: &mut Answers,
-) -> Result<(), RowFault> {
-    for name in names {
-        answers.tell("called", called_text(alloc, graph, name))?;
-        answers.tell("packages_called", packages_called_text(alloc, graph, name))?;
-    }
-    answers.tell("all_called", all_called_text(alloc, graph, names))?;
-    answers.tell("set_called", set_called_text(alloc, graph, names))?;
-    answers.tell("from_names", from_names_text(alloc, graph, names))
-}
-
-fn called_text(alloc: Global, graph: &PackageGraph, name: &str) -> Result<String, AllocError> {
+fn tell_workspace(graph: &PackageGraph, answers: &mut Answers) {
     let workspace = graph.workspace();
-    let contained = workspace.contains_name(name);
-    let found = found_text(alloc, workspace.member_by_name(name))?;
-    format!(in alloc; "{found} {contained}")
-}
-
-fn packages_called_text(
-    alloc: Global,
-    graph: &PackageGraph,
-    name: &str,
-) -> Result<String, AllocError> {
-    let packages = graph.resolve_package_name(alloc, name)?;
-    set_text(alloc, &packages)
-}
-
-fn all_called_text(
-    alloc: Global,
-    graph: &PackageGraph,
-    names: &[&str],
-) -> Result<String, AllocError> {
-    list_text(alloc, graph.workspace().members_by_names(alloc, names))
-}
-
-fn set_called_text(
-    alloc: Global,
-    graph: &PackageGraph,
-    names: &[&str],
-) -> Result<String, AllocError> {
-    set_or_error(alloc, graph.resolve_workspace_names(alloc, names))
-}
-
-fn from_names_text(
-    alloc: Global,
-    graph: &PackageGraph,
-    names: &[&str],
-) -> Result<String, AllocError> {
-    reach_or_error(alloc, graph.query_workspace_names(alloc, names))
-}
-
-fn set_or_error(alloc: Global, set: Result<PackageSet<'_>, Error>) -> Result<String, AllocError> {
-    match set {
-        Ok(set) => set_text(alloc, &set),
-        Err(error) => format!(in alloc; "{error}"),
+    answers.show("member_count", &workspace.member_count());
+    tell_ids("member_ids", workspace.member_ids(), answers);
+    tell_ids("default_ids", workspace.default_member_ids(), answers);
+    answers.begin("by_path");
+    for package in workspace.iter() {
+        answers.part(" ", package.id());
+    }
+    answers.begin("paths_with_ids");
+    for (path, package) in workspace.iter_by_path() {
+        add_pair(path, package, answers);
+    }
+    answers.begin("names_with_ids");
+    for (name, package) in workspace.iter_by_name() {
+        add_pair(name, package, answers);
     }
 }
 
-fn reach_or_error(
-    alloc: Global,
-    query: Result<PackageQuery<'_>, Error>,
-) -> Result<String, AllocError> {
-    match query {
-        Ok(query) => reach_text(alloc, query),
-        Err(error) => format!(in alloc; "{error}"),
-    }
-}
-
-fn reach_text(alloc: Global, query: PackageQuery<'_>) -> Result<String, AllocError> {
-    let reached = query.resolve(alloc)?;
-    set_text(alloc, &reached)
-}
-
-fn found_text(
-    alloc: Global,
-    found: Result<PackageMetadata<'_>, Error>,
-) -> Result<String, AllocError> {
-    match found {
-        Ok(package) => String::from_str(alloc, package.id().repr()),
-        Err(error) => format!(in alloc; "{error}"),
-    }
-}
-
-fn list_text(
-    alloc: Global,
-    found: Result<Vec<PackageMetadata<'_>>, Error>,
-) -> Result<String, AllocError> {
-    match found {
-        Ok(packages) => packages_text(alloc, &packages),
-        Err(error) => format!(in alloc; "{error}"),
-    }
-}
-
-fn packages_text(alloc: Global, packages: &[PackageMetadata<'_>]) -> Result<String, AllocError> {
-    let mut text = String::new(alloc);
-    for package in packages {
-        push_word(&mut text, package.id().repr())?;
-    }
-    Ok(text)
-}
-
-fn places_text(alloc: Global, packages: PackagesAt<'_, '_>) -> Result<String, AllocError> {
-    let mut text = String::new(alloc);
-    for package in packages {
-        push_word(&mut text, package.id().repr())?;
-    }
-    Ok(text)
-}
-
-fn ids_text(alloc: Global, ids: PackageIdsAt<'_, '_>) -> Result<String, AllocError> {
-    let mut text = String::new(alloc);
+fn tell_ids(key: &'static str, ids: PackageIdsAt<'_, '_>, answers: &mut Answers) {
+    answers.begin(key);
     for id in ids {
-        push_word(&mut text, id.repr())?;
+        answers.part(" ", id);
     }
-    Ok(text)
+}
+
+fn add_pair(key: &str, package: PackageMetadata<'_>, answers: &mut Answers) {
+    answers.part(" ", &key);
+    answers.part("=", package.id());
+}
+
+/// The members at the paths: found one by one, and as a set and a query.
+fn tell_paths(alloc: Global, graph: &PackageGraph, paths: &[&str], answers: &mut Answers) {
+    let workspace = graph.workspace();
+    for path in paths {
+        tell_found("at_path", workspace.member_by_path(path), answers);
+        answers.part(" ", &workspace.contains_path(path));
+    }
+    tell_list(
+        "at_paths",
+        workspace.members_by_paths(alloc, paths),
+        answers,
+    );
+    let set = graph.resolve_workspace_paths(alloc, paths);
+    tell_set(alloc, "set_at_paths", set, answers);
+    let query = graph.query_workspace_paths(alloc, paths);
+    tell_reach(alloc, "from_paths", query, answers);
+}
+
+/// The members with the names, likewise.
+fn tell_names(alloc: Global, graph: &PackageGraph, names: &[&str], answers: &mut Answers) {
+    let workspace = graph.workspace();
+    for name in names {
+        tell_found("called", workspace.member_by_name(name), answers);
+        answers.part(" ", &workspace.contains_name(name));
+        let packages = graph.resolve_package_name(alloc, name);
+        tell_set(alloc, "packages_called", packages, answers);
+    }
+    let all = workspace.members_by_names(alloc, names);
+    tell_list("all_called", all, answers);
+    let set = graph.resolve_workspace_names(alloc, names);
+    tell_set(alloc, "set_called", set, answers);
+    let query = graph.query_workspace_names(alloc, names);
+    tell_reach(alloc, "from_names", query, answers);
+}
+
+/// Tells what is reached by a query that was made, or why it was not.
+fn tell_reach(
+    alloc: Global,
+    key: &'static str,
+    query: Result<PackageQuery<'_>, Error>,
+    answers: &mut Answers,
+) {
+    match query {
+        Ok(query) => tell_set(alloc, key, query.resolve(alloc), answers),
+        Err(error) => answers.show(key, &error),
+    }
+}
+
+fn tell_found(key: &'static str, found: Result<PackageMetadata<'_>, Error>, answers: &mut Answers) {
+    match found {
+        Ok(package) => answers.show(key, package.id()),
+        Err(error) => answers.show(key, &error),
+    }
+}
+
+fn tell_list(
+    key: &'static str,
+    found: Result<Vec<PackageMetadata<'_>>, Error>,
+    answers: &mut Answers,
+) {
+    match found {
+        Ok(packages) => {
+            answers.begin(key);
+            for package in &packages {
+                answers.part(" ", package.id());
+            }
+        }
+        Err(error) => answers.show(key, &error),
+    }
 }

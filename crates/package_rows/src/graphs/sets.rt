@@ -1,8 +1,8 @@
 //! The sets under `set` and `other`: how they are listed, and what is made of both.
 
-use crate::graphs::ids::{id_in, ids_in, lent, listed_back_text, listed_text, set_text};
-use crate::graphs::set_choices::{tell_choices, tell_roots};
-use guppy_package_graph::{PackageGraph, PackageSet};
+use crate::graphs::ids::{id_in, ids_in, lent, tell_set};
+use crate::graphs::set_choices::tell_choices;
+use guppy_package_graph::{PackageGraph, PackageSet, Packages};
 use guppy_package_parts::{DependencyDirection, Error};
 use row_program::{Answers, Row, RowFault};
 use std::alloc::Global;
@@ -16,7 +16,10 @@ pub(crate) fn tell_sets(
     tell_whole_sets(alloc, graph, answers)?;
     match set_in(alloc, row, graph, "set")? {
         Ok(set) => tell_one(alloc, row, graph, &set, answers),
-        Err(error) => answers.tell("listed", format!(in alloc; "{error}")),
+        Err(error) => {
+            answers.show("listed", &error);
+            Ok(())
+        }
     }
 }
 
@@ -27,14 +30,19 @@ fn tell_one(
     set: &PackageSet<'_>,
     answers: &mut Answers,
 ) -> Result<(), RowFault> {
-    tell_listing(alloc, set, answers)?;
-    tell_member(alloc, row, set, answers)?;
+    tell_listing(set, answers);
+    if let Some(id) = id_in(alloc, row, "package")? {
+        match set.contains(&id) {
+            Ok(contained) => answers.show("contained", &contained),
+            Err(error) => answers.show("contained", &error),
+        }
+    }
     tell_choices(alloc, row, set, answers)?;
-    tell_roots(alloc, row, set, answers)?;
     match set_in(alloc, row, graph, "other")? {
         Ok(other) => tell_both(alloc, set, &other, answers),
-        Err(error) => answers.tell("union", format!(in alloc; "{error}")),
+        Err(error) => answers.show("union", &error),
     }
+    Ok(())
 }
 
 fn tell_whole_sets(
@@ -42,32 +50,33 @@ fn tell_whole_sets(
     graph: &PackageGraph,
     answers: &mut Answers,
 ) -> Result<(), RowFault> {
-    tell_all(alloc, graph.resolve_all(alloc)?, answers)?;
-    tell_set(alloc, "members", graph.resolve_workspace(alloc)?, answers)?;
-    let (all_count, is_all_empty) = size_of(graph.resolve_all(alloc)?);
-    let (none_count, is_none_empty) = size_of(graph.resolve_none(alloc)?);
-    answers.tell(
+    tell_set(alloc, "members", graph.resolve_workspace(alloc), answers);
+    let none = graph.resolve_none(alloc)?;
+    let all = graph.resolve_all(alloc)?;
+    tell_packages("all", all.packages(DependencyDirection::Forward), answers);
+    let (count, is_empty) = (all.len(), all.is_empty());
+    let (no_count, is_none_empty) = (none.len(), none.is_empty());
+    answers.keep(
         "sizes",
-        format!(in alloc; "{all_count} {is_all_empty}, {none_count} {is_none_empty}"),
-    )
+        format!(in alloc; "{count} {is_empty}, {no_count} {is_none_empty}"),
+    );
+    Ok(())
 }
 
-fn tell_all(alloc: Global, all: PackageSet<'_>, answers: &mut Answers) -> Result<(), RowFault> {
-    let listed = listed_text(alloc, all.packages(DependencyDirection::Forward));
-    answers.tell("all", listed)
+/// Tells the ids of the packages in their order.
+fn tell_packages(key: &'static str, packages: Packages<'_, '_>, answers: &mut Answers) {
+    answers.begin(key);
+    for package in packages {
+        answers.part(" ", package.id());
+    }
 }
 
-fn tell_set(
-    alloc: Global,
-    name: &'static str,
-    set: PackageSet<'_>,
-    answers: &mut Answers,
-) -> Result<(), RowFault> {
-    answers.tell(name, set_text(alloc, &set))
-}
-
-fn size_of(set: PackageSet<'_>) -> (usize, bool) {
-    (set.len(), set.is_empty())
+/// Tells the ids of the packages from the last to the first.
+fn tell_packages_back(key: &'static str, packages: Packages<'_, '_>, answers: &mut Answers) {
+    answers.begin(key);
+    for package in packages.rev() {
+        answers.part(" ", package.id());
+    }
 }
 
 fn set_in<'g>(
@@ -82,50 +91,26 @@ fn set_in<'g>(
 }
 
 /// The packages of the set from both ends, in both directions.
-fn tell_listing(
-    alloc: Global,
-    set: &PackageSet<'_>,
-    answers: &mut Answers,
-) -> Result<(), RowFault> {
+fn tell_listing(set: &PackageSet<'_>, answers: &mut Answers) {
     let forward = set.packages(DependencyDirection::Forward);
     let reverse = set.packages(DependencyDirection::Reverse);
-    let (left, count) = (forward.len(), set.len());
-    answers.tell("listed", listed_text(alloc, forward))?;
-    answers.tell("listed", listed_back_text(alloc, reverse))?;
-    answers.tell("listed_reverse", listed_text(alloc, reverse))?;
-    answers.tell("listed_reverse", listed_back_text(alloc, forward))?;
-    answers.tell("lengths", format!(in alloc; "{left} of {count}"))
+    answers.show("lengths", &forward.len());
+    answers.part(" of ", &set.len());
+    tell_packages("listed", forward, answers);
+    tell_packages_back("listed", reverse, answers);
+    tell_packages("listed_reverse", reverse, answers);
+    tell_packages_back("listed_reverse", forward, answers);
 }
 
-fn tell_member(
-    alloc: Global,
-    row: Row<'_>,
-    set: &PackageSet<'_>,
-    answers: &mut Answers,
-) -> Result<(), RowFault> {
-    let Some(id) = id_in(alloc, row, "package")? else {
-        return Ok(());
-    };
-    match set.contains(&id) {
-        Ok(contained) => answers.tell("contained", format!(in alloc; "{contained}")),
-        Err(error) => answers.tell("contained", format!(in alloc; "{error}")),
-    }
-}
-
-fn tell_both(
-    alloc: Global,
-    set: &PackageSet<'_>,
-    other: &PackageSet<'_>,
-    answers: &mut Answers,
-) -> Result<(), RowFault> {
+fn tell_both(alloc: Global, set: &PackageSet<'_>, other: &PackageSet<'_>, answers: &mut Answers) {
     if !set.same_packages(other) {
-        return answers.tell("union", String::from_str(alloc, "two graphs"));
+        return answers.show("union", &"two graphs");
     }
-    tell_set(alloc, "union", set.union(alloc, other)?, answers)?;
-    let intersection = set.intersection(alloc, other)?;
-    tell_set(alloc, "intersection", intersection, answers)?;
-    let difference = set.difference(alloc, other)?;
-    tell_set(alloc, "difference", difference, answers)?;
-    let symmetric = set.symmetric_difference(alloc, other)?;
-    tell_set(alloc, "symmetric_difference", symmetric, answers)
+    tell_set(alloc, "union", set.union(alloc, other), answers);
+    let intersection = set.intersection(alloc, other);
+    tell_set(alloc, "intersection", intersection, answers);
+    let difference = set.difference(alloc, other);
+    tell_set(alloc, "difference", difference, answers);
+    let symmetric = set.symmetric_difference(alloc, other);
+    tell_set(alloc, "symmetric_difference", symmetric, answers);
 }

@@ -1,6 +1,6 @@
 //! All packages of a graph, its cycles, and the package under `package` in it.
 
-use crate::graphs::ids::{direction_in, id_in, push_word, set_text, words_text};
+use crate::graphs::ids::{direction_in, id_in, tell_set};
 use guppy_package_graph::{Cycles, PackageGraph, PackageIdsAt, PackageMetadata};
 use guppy_package_parts::{DependencyDirection, Error, PackageId};
 use row_program::{Answers, Row, RowFault};
@@ -12,218 +12,116 @@ pub(crate) fn tell_whole_graph(
     graph: &PackageGraph,
     answers: &mut Answers,
 ) -> Result<(), RowFault> {
-    answers.tell("packages", packages_text(alloc, graph))?;
-    answers.tell("cycles", all_cycles_text(alloc, graph))?;
-    answers.tell("cycles_back", all_cycles_back_text(alloc, graph))?;
-    tell_between(alloc, row, graph, answers)?;
-    tell_one(alloc, row, graph, answers)
-}
-
-fn packages_text(alloc: Global, graph: &PackageGraph) -> Result<String, AllocError> {
-    let mut packages = String::new(alloc);
+    answers.begin("packages");
     for package in graph.packages() {
-        push_word(&mut packages, package.id().repr())?;
+        answers.part(" ", package.id());
     }
-    Ok(packages)
-}
-
-fn all_cycles_text(alloc: Global, graph: &PackageGraph) -> Result<String, AllocError> {
     let cycles = graph.cycles(alloc)?;
-    cycles_text(alloc, &cycles)
+    tell_cycles(alloc, &cycles, answers);
+    tell_between(alloc, row, graph, &cycles, answers)
 }
 
-fn all_cycles_back_text(alloc: Global, graph: &PackageGraph) -> Result<String, AllocError> {
-    let cycles = graph.cycles(alloc)?;
-    cycles_back_text(alloc, &cycles)
-}
-
-fn cycles_text(alloc: Global, cycles: &Cycles<'_>) -> Result<String, AllocError> {
-    let mut text = String::new(alloc);
+fn tell_cycles(alloc: Global, cycles: &Cycles<'_>, answers: &mut Answers) {
+    answers.begin("cycles");
     for cycle in cycles.all_cycles() {
-        text.push('[')?;
-        text.push_str(&sorted_text(alloc, cycle)?)?;
-        text.push(']')?;
+        add_cycle(sorted_ids(alloc, cycle), answers);
     }
-    Ok(text)
+    answers.begin("cycles_back");
+    for cycle in cycles.all_cycles().rev() {
+        add_cycle(sorted_ids(alloc, cycle), answers);
+    }
 }
 
-fn cycles_back_text(alloc: Global, cycles: &Cycles<'_>) -> Result<String, AllocError> {
-    let mut text = String::new(alloc);
-    for cycle in cycles.all_cycles().rev() {
-        text.push('[')?;
-        text.push_str(&sorted_text(alloc, cycle)?)?;
-        text.push(']')?;
+fn add_cycle(ids: Result<Vec<&PackageId>, AllocError>, answers: &mut Answers) {
+    match ids {
+        Ok(ids) => {
+            let mut between = "[";
+            for id in &ids {
+                answers.add(&between);
+                answers.add(id);
+                between = " ";
+            }
+            answers.add(&"]");
+        }
+        Err(refused) => answers.keep("cycles", Err(refused)),
     }
-    Ok(text)
 }
 
 /// The ids of one cycle, ascending.
-fn sorted_text(alloc: Global, cycle: PackageIdsAt<'_, '_>) -> Result<String, AllocError> {
+fn sorted_ids<'g>(
+    alloc: Global,
+    cycle: PackageIdsAt<'g, '_>,
+) -> Result<Vec<&'g PackageId>, AllocError> {
     let mut ids = Vec::new(alloc);
     for id in cycle {
-        ids.push(id.repr())?;
+        ids.push(id)?;
     }
     ids.sort_unstable();
-    words_text(alloc, &ids)
+    Ok(ids)
 }
 
-/// Whether the package under `package` depends on that under `target`.
+/// Tells the links of the package under `package`, and whether it depends on that under `target`.
 fn tell_between(
     alloc: Global,
     row: Row<'_>,
     graph: &PackageGraph,
+    cycles: &Cycles<'_>,
     answers: &mut Answers,
 ) -> Result<(), RowFault> {
-    match id_in(alloc, row, "package")? {
-        Some(a) => tell_to_target(alloc, row, graph, &a, answers),
-        None => Ok(()),
+    let Some(a) = id_in(alloc, row, "package")? else {
+        return Ok(());
+    };
+    if let Ok(package) = graph.metadata(&a) {
+        tell_links(alloc, package, direction_in(row), answers)?;
     }
-}
-
-fn tell_to_target(
-    alloc: Global,
-    row: Row<'_>,
-    graph: &PackageGraph,
-    a: &PackageId,
-    answers: &mut Answers,
-) -> Result<(), RowFault> {
-    match id_in(alloc, row, "target")? {
-        Some(b) => tell_two(alloc, graph, a, &b, answers),
-        None => Ok(()),
+    if let Some(b) = id_in(alloc, row, "target")? {
+        tell_two(alloc, graph, cycles, (&a, &b), answers)?;
     }
+    Ok(())
 }
 
 fn tell_two(
     alloc: Global,
     graph: &PackageGraph,
-    a: &PackageId,
-    b: &PackageId,
+    cycles: &Cycles<'_>,
+    (a, b): (&PackageId, &PackageId),
     answers: &mut Answers,
 ) -> Result<(), RowFault> {
-    answers.tell("depends", depends_text(alloc, graph, a, b))?;
-    answers.tell("depends", cached_text(alloc, graph, a, b))?;
-    answers.tell("directly", directly_text(alloc, graph, a, b))?;
-    answers.tell("cyclic", cyclic_text(alloc, graph, a, b))
-}
-
-fn depends_text(
-    alloc: Global,
-    graph: &PackageGraph,
-    a: &PackageId,
-    b: &PackageId,
-) -> Result<String, AllocError> {
-    answer_text(alloc, graph.depends_on(alloc, a, b))
-}
-
-fn directly_text(
-    alloc: Global,
-    graph: &PackageGraph,
-    a: &PackageId,
-    b: &PackageId,
-) -> Result<String, AllocError> {
-    answer_text(alloc, graph.directly_depends_on(a, b))
-}
-
-fn cyclic_text(
-    alloc: Global,
-    graph: &PackageGraph,
-    a: &PackageId,
-    b: &PackageId,
-) -> Result<String, AllocError> {
-    let cycles = graph.cycles(alloc)?;
-    answer_text(alloc, cycles.is_cyclic(a, b))
-}
-
-/// Asked twice, and of another package between.
-fn cached_text(
-    alloc: Global,
-    graph: &PackageGraph,
-    a: &PackageId,
-    b: &PackageId,
-) -> Result<String, AllocError> {
+    tell_answer("depends", graph.depends_on(alloc, a, b), answers);
+    tell_answer("directly", graph.directly_depends_on(a, b), answers);
+    tell_answer("cyclic", cycles.is_cyclic(a, b), answers);
+    // Asked twice, and of another package between.
     let mut cache = graph.new_depends_cache(alloc)?;
-    let first = cache.depends_on(alloc, a, b);
+    tell_answer("depends", cache.depends_on(alloc, a, b), answers);
     let _between = cache.depends_on(alloc, b, b);
-    let again = cache.depends_on(alloc, a, b);
-    if are_same(&first, &again) {
-        answer_text(alloc, first)
-    } else {
-        String::from_str(alloc, "two answers")
-    }
+    tell_answer("depends", cache.depends_on(alloc, a, b), answers);
+    Ok(())
 }
 
-fn are_same(one: &Result<bool, Error>, other: &Result<bool, Error>) -> bool {
-    match (one, other) {
-        (Ok(one), Ok(other)) => one == other,
-        (Err(_), Err(_)) => true,
-        _ => false,
-    }
-}
-
-fn answer_text(alloc: Global, answer: Result<bool, Error>) -> Result<String, AllocError> {
+fn tell_answer(key: &'static str, answer: Result<bool, Error>, answers: &mut Answers) {
     match answer {
-        Ok(answer) => format!(in alloc; "{answer}"),
-        Err(error) => format!(in alloc; "{error}"),
+        Ok(answer) => answers.show(key, &answer),
+        Err(error) => answers.show(key, &error),
     }
 }
 
 /// The links of the package, and the package alone as a query and as a set.
-fn tell_one(
-    alloc: Global,
-    row: Row<'_>,
-    graph: &PackageGraph,
-    answers: &mut Answers,
-) -> Result<(), RowFault> {
-    let Some(id) = id_in(alloc, row, "package")? else {
-        return Ok(());
-    };
-    match graph.metadata(&id) {
-        Ok(package) => tell_links(alloc, row, package, answers),
-        Err(_) => Ok(()),
-    }
-}
-
 fn tell_links(
-    alloc: Global,
-    row: Row<'_>,
-    package: PackageMetadata<'_>,
-    answers: &mut Answers,
-) -> Result<(), RowFault> {
-    answers.tell("links", links_text(alloc, package))?;
-    answers.tell("reverse_links", reverse_links_text(alloc, package))?;
-    answers.tell("alone", alone_text(alloc, package))?;
-    answers.tell("from_one", from_one_text(alloc, package, direction_in(row)))
-}
-
-fn alone_text(alloc: Global, package: PackageMetadata<'_>) -> Result<String, AllocError> {
-    let alone = package.to_package_set(alloc)?;
-    set_text(alloc, &alone)
-}
-
-fn from_one_text(
     alloc: Global,
     package: PackageMetadata<'_>,
     direction: DependencyDirection,
-) -> Result<String, AllocError> {
-    let query = package.to_package_query(alloc, direction)?;
-    let reached = query.resolve(alloc)?;
-    set_text(alloc, &reached)
-}
-
-fn links_text(alloc: Global, package: PackageMetadata<'_>) -> Result<String, AllocError> {
-    let mut text = String::new(alloc);
+    answers: &mut Answers,
+) -> Result<(), RowFault> {
+    answers.begin("links");
     for link in package.direct_links() {
-        let number = link.number();
-        push_word(&mut text, format!(in alloc; "{number}")?.as_str())?;
+        answers.part(" ", &link.number());
     }
-    Ok(text)
-}
-
-fn reverse_links_text(alloc: Global, package: PackageMetadata<'_>) -> Result<String, AllocError> {
-    let mut text = String::new(alloc);
+    answers.begin("reverse_links");
     for link in package.reverse_direct_links() {
-        let number = link.number();
-        push_word(&mut text, format!(in alloc; "{number}")?.as_str())?;
+        answers.part(" ", &link.number());
     }
-    Ok(text)
+    tell_set(alloc, "alone", package.to_package_set(alloc), answers);
+    let reached = package.to_package_query(alloc, direction)?.resolve(alloc);
+    tell_set(alloc, "from_one", reached, answers);
+    Ok(())
 }

@@ -1,9 +1,10 @@
-//! What came of a row, as texts.
+//! What came of a row.
 
 use guppy_package_parts::{
     BuildTarget, BuildTargetId, BuildTargetKind, EnabledStatus, ExternalSource, GitReq,
     PackagePublish, PlatformStatus,
 };
+use row_program::Answers;
 use std::alloc::{AllocError, Global};
 
 pub(crate) fn source_text(
@@ -21,35 +22,36 @@ pub(crate) fn source_text(
                 resolved,
             },
         ) => {
-            let request = request_text(alloc, req)?;
-            format!(in alloc; "git {repository}, {request}, at {resolved}")
+            let (request, name) = request_words(req);
+            format!(in alloc; "git {repository}, {request}{name}, at {resolved}")
         }
     }
 }
 
-fn request_text(alloc: Global, req: GitReq<'_>) -> Result<String, AllocError> {
+fn request_words<'a>(req: GitReq<'a>) -> (&'static str, &'a str) {
     match req {
-        GitReq::Branch(name) => format!(in alloc; "branch {name}"),
-        GitReq::Tag(name) => format!(in alloc; "tag {name}"),
-        GitReq::Rev(name) => format!(in alloc; "rev {name}"),
-        GitReq::Default => String::from_str(alloc, "default"),
+        GitReq::Branch(name) => ("branch ", name),
+        GitReq::Tag(name) => ("tag ", name),
+        GitReq::Rev(name) => ("rev ", name),
+        GitReq::Default => ("default", ""),
     }
 }
 
-pub(crate) fn publish_text(
-    alloc: Global,
-    publish: PackagePublish<'_>,
-) -> Result<String, AllocError> {
+pub(crate) fn tell_publish(alloc: Global, publish: PackagePublish<'_>, answers: &mut Answers) {
     let unrestricted = publish.is_unrestricted();
     let never = publish.is_never();
     let crates_io = publish.can_publish_to_crates_io();
     let other = publish.can_publish_to("other");
-    format!(in alloc;
-        "unrestricted {unrestricted}, never {never}, crates-io {crates_io}, other {other}"
-    )
+    answers.keep(
+        "publish",
+        format!(in alloc;
+            "unrestricted {unrestricted}, never {never}, crates-io {crates_io}, other {other}"
+        ),
+    );
 }
 
-pub(crate) fn target_text(alloc: Global, target: BuildTarget<'_>) -> Result<String, AllocError> {
+/// Adds the line of a target.
+pub(crate) fn tell_target(target: BuildTarget<'_>, answers: &mut Answers) {
     let sort = match target.id() {
         BuildTargetId::Library => "library",
         BuildTargetId::BuildScript => "build script",
@@ -58,40 +60,38 @@ pub(crate) fn target_text(alloc: Global, target: BuildTarget<'_>) -> Result<Stri
         BuildTargetId::Test(_) => "test",
         BuildTargetId::Benchmark(_) => "benchmark",
     };
-    let mut text = format!(in alloc; "{sort} ")?;
-    text.push_str(target.id().name().unwrap_or("unnamed"))?;
+    answers.add(&sort);
+    answers.part(" ", &target.id().name().unwrap_or("unnamed"));
+    answers.add(&" as");
     match target.kind() {
-        BuildTargetKind::ProcMacro => text.push_str(" as proc-macro")?,
-        BuildTargetKind::Binary => text.push_str(" as binary")?,
+        BuildTargetKind::ProcMacro => answers.part(" ", &"proc-macro"),
+        BuildTargetKind::Binary => answers.part(" ", &"binary"),
         BuildTargetKind::LibraryOrExample(crate_types) => {
-            text.push_str(" as")?;
             for crate_type in crate_types {
-                text.push(' ')?;
-                text.push_str(crate_type.as_str())?;
+                answers.part(" ", crate_type);
             }
         }
     }
-    Ok(text)
+    answers.add(&"\n");
 }
 
-/// Both halves of a status.
-pub(crate) fn enabled_text(alloc: Global, status: EnabledStatus<'_>) -> Result<String, AllocError> {
-    let required = status_text(alloc, status.required_status())?;
-    let optional = status_text(alloc, status.optional_status())?;
-    format!(in alloc; "{required}; {optional}")
+/// Tells both halves of a status.
+pub(crate) fn tell_status(key: &'static str, status: EnabledStatus<'_>, answers: &mut Answers) {
+    answers.begin(key);
+    add_half(status.required_status(), answers);
+    answers.add(&"; ");
+    add_half(status.optional_status(), answers);
 }
 
-fn status_text(alloc: Global, status: PlatformStatus<'_>) -> Result<String, AllocError> {
+fn add_half(status: PlatformStatus<'_>, answers: &mut Answers) {
     match status {
-        PlatformStatus::Never => String::from_str(alloc, "never"),
-        PlatformStatus::Always => String::from_str(alloc, "always"),
+        PlatformStatus::Never => answers.add(&"never"),
+        PlatformStatus::Always => answers.add(&"always"),
         PlatformStatus::PlatformDependent { eval } => {
-            let mut text = String::from_str(alloc, "on")?;
+            answers.add(&"on");
             for spec in eval.target_specs() {
-                text.push(' ')?;
-                text.push_str(spec)?;
+                answers.part(" ", &spec);
             }
-            Ok(text)
         }
     }
 }

@@ -1,9 +1,9 @@
-use crate::rules::path_rows::push_paths;
+use crate::rules::path_rows::tell_paths;
 use package_rules::{RecordRule, first_broken_rule};
 use record_checks::{RecordError, check_record};
 use row_program::{Answers, Row, RowFault, RowRunner, file_text};
 use row_records::record_from;
-use std::alloc::{AllocError, Global};
+use std::alloc::Global;
 use workspace_record::WorkspaceRecord;
 
 /// Rows of paths, or of a record in its parts, whose first broken rule is looked for.
@@ -22,26 +22,13 @@ impl RowRunner for RuleRows {
         answers: &mut Answers,
     ) -> Result<(), RowFault> {
         let paths = row.texts(alloc, "paths")?;
+        tell_paths(&paths, answers);
         if paths.is_empty() {
-            push_rules(alloc, row, answers)
-        } else {
-            push_paths(alloc, &paths, answers)
+            let record = record_of(alloc, row)?;
+            tell_broken(alloc, &record, answers)?;
         }
+        Ok(())
     }
-}
-
-fn push_rules(alloc: Global, row: Row<'_>, answers: &mut Answers) -> Result<(), RowFault> {
-    let record = record_of(alloc, row)?;
-    push_first(alloc, &record, answers)
-}
-
-fn push_first(
-    alloc: Global,
-    record: &WorkspaceRecord,
-    answers: &mut Answers,
-) -> Result<(), RowFault> {
-    push_broken(alloc, record, answers)?;
-    push_checked(alloc, record, answers)
 }
 
 fn record_of(alloc: Global, row: Row<'_>) -> Result<WorkspaceRecord, RowFault> {
@@ -61,37 +48,26 @@ fn part_of(alloc: Global, row: Row<'_>, key: &'static str) -> Result<String, Row
     }
 }
 
-/// The first broken rule of the packages, links and members.
-fn push_broken(
+/// The first broken rule of the packages, links and members, and what the check of the whole record says of
+/// it: the same rule, where one of these is broken.
+fn tell_broken(
     alloc: Global,
     record: &WorkspaceRecord,
     answers: &mut Answers,
 ) -> Result<(), RowFault> {
-    let broken = first_broken_rule(alloc, &record.packages, &record.links, &record.workspace)?;
-    let text = match broken {
-        Some((rule, place)) => broken_text(alloc, rule, place),
-        None => String::from_str(alloc, "none"),
-    };
-    answers.tell("broken", text)
-}
-
-fn broken_text(alloc: Global, rule: RecordRule, place: usize) -> Result<String, AllocError> {
-    format!(in alloc; "{rule} at {place}")
-}
-
-/// What the check of the whole record says of it: the same rule, where one of these is broken.
-fn push_checked(
-    alloc: Global,
-    record: &WorkspaceRecord,
-    answers: &mut Answers,
-) -> Result<(), RowFault> {
-    match check_record(alloc, record) {
-        Err(RecordError::Broken { rule, place }) => {
-            answers.tell("broken", broken_text(alloc, rule, place))
-        }
-        Err(RecordError::Filter { .. }) | Ok(()) => {
-            answers.tell("broken", String::from_str(alloc, "none"))
-        }
-        Err(RecordError::Memory) => Err(RowFault::Memory),
+    match first_broken_rule(alloc, &record.packages, &record.links, &record.workspace)? {
+        Some((rule, place)) => tell_rule(rule, place, answers),
+        None => answers.show("broken", &"none"),
     }
+    match check_record(alloc, record) {
+        Err(RecordError::Broken { rule, place }) => tell_rule(rule, place, answers),
+        Err(RecordError::Memory) => return Err(RowFault::Memory),
+        _ => answers.show("broken", &"none"),
+    }
+    Ok(())
+}
+
+fn tell_rule(rule: RecordRule, place: usize, answers: &mut Answers) {
+    answers.show("broken", &rule);
+    answers.part(" at ", &place);
 }
