@@ -89,6 +89,11 @@ impl Chooser {
         accepted
     }
 
+    /// How many links were shown.
+    pub(crate) fn asked(&self) -> usize {
+        self.asked
+    }
+
     /// What the links said, in the order in which they were shown.
     pub(crate) fn into_text(self, alloc: Global) -> Result<String, AllocError> {
         let mut text = String::new(alloc);

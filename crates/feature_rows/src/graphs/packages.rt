@@ -2,7 +2,7 @@
 
 use crate::graphs::features::push_word;
 use guppy_feature_graph::{FeatureList, FeatureQuery, FeatureSet};
-use guppy_package_graph::{DependencyDirection, PackageId, PackageMetadata};
+use guppy_package_graph::{DependencyDirection, PackageId};
 use row_program::{Answers, RowFault};
 use std::alloc::{AllocError, Global};
 
@@ -47,8 +47,11 @@ fn root_count_text(alloc: Global, one: &FeatureSet<'_>) -> Result<String, AllocE
 }
 
 fn initials_text(alloc: Global, query: &FeatureQuery<'_>) -> Result<String, AllocError> {
-    let initials = query.initial_packages(alloc)?;
-    packages_text(alloc, &initials)
+    let mut text = String::new(alloc);
+    for package in query.initial_packages() {
+        push_word(&mut text, package.id().repr())?;
+    }
+    Ok(text)
 }
 
 // Whether the query starts from a feature of the package `app`.
@@ -100,14 +103,6 @@ fn deps_text(alloc: Global, list: &FeatureList<'_>) -> Result<String, AllocError
         if !list.contains(id.label()) {
             text.push('?')?;
         }
-    }
-    Ok(text)
-}
-
-fn packages_text(alloc: Global, packages: &[PackageMetadata<'_>]) -> Result<String, AllocError> {
-    let mut text = String::new(alloc);
-    for package in packages {
-        push_word(&mut text, package.id().repr())?;
     }
     Ok(text)
 }

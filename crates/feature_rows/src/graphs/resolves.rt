@@ -1,14 +1,19 @@
 //! What is reached from the features under `starts`, alone or by the links that a visitor accepts.
 
+ghost use Rattle.std.specs.Prelude.{◌≡◌, ◌<◌};
+
 use crate::graphs::chooser::{Chooser, Rule};
 use crate::graphs::features::{error_text, ids_of, members_text, named_in};
 use guppy_feature_graph::{
     ConditionalLink, FeatureGraph, FeatureId, FeatureLinkContext, FeatureQuery, FeatureSet,
 };
 use guppy_package_graph::Error;
+use numbered_graph::Looks;
 use row_program::{Answers, Row, RowFault};
 use serde_json::Value;
 use std::alloc::{AllocError, Global};
+use std::marker::Brand;
+use std::sync::ledger::{Blank, Ledger};
 
 /// A graph, and its features in the order of their numbers.
 #[derive(Clone, Copy)]
@@ -57,7 +62,7 @@ fn tell_visited(
     }
 }
 
-/// What is reached by the rule, once by a visitor and once by a closure.
+/// What is reached by the rule: by a visitor, by one whose looks are counted, and by a closure.
 fn tell_rule(
     alloc: Global,
     row: Row<'_>,
@@ -68,6 +73,9 @@ fn tell_rule(
 ) -> Result<(), RowFault> {
     if let Ok(query) = query_of(alloc, row, asked.graph, starts) {
         tell_visitor(alloc, asked, query, rule, answers)?;
+    }
+    if let Ok(query) = query_of(alloc, row, asked.graph, starts) {
+        tell_counted::<Brand>(alloc, asked, query, rule, Blank::new(1), answers)?;
     }
     match query_of(alloc, row, asked.graph, starts) {
         Ok(query) => tell_closure(alloc, asked, query, rule, answers),
@@ -120,13 +128,44 @@ fn visited_text(
     members_text(alloc, &included, asked.features)
 }
 
-/// Tells what a run included, and what it offered.
+fn tell_counted<L: Ledger>(
+    alloc: Global,
+    asked: Asked<'_, '_>,
+    query: FeatureQuery<'_>,
+    rule: Rule,
+    blank: Blank,
+    answers: &mut Answers,
+) -> Result<(), RowFault>
+    requires name { blank.name ≡ L.name }
+    requires parts { blank.parts ≡ L.parts }
+    requires some { 0 < blank.parts }
+{
+    let mut chooser = Chooser::new(alloc, rule);
+    let mut looks = Looks::<L>::new(blank);
+    let included = counted_text(alloc, asked, query, &mut chooser, &mut looks);
+    tell_run(alloc, included, chooser, answers)
+}
+
+fn counted_text<L: Ledger>(
+    alloc: Global,
+    asked: Asked<'_, '_>,
+    query: FeatureQuery<'_>,
+    chooser: &mut Chooser,
+    looks: &mut Looks<L>,
+) -> Result<String, AllocError> {
+    let included = query.resolve_with_counted(alloc, chooser, looks)?;
+    members_text(alloc, &included, asked.features)
+}
+
+/// Tells what a run included, what it offered, and how many offers it made.
 fn tell_run(
     alloc: Global,
     included: Result<String, AllocError>,
     chooser: Chooser,
     answers: &mut Answers,
 ) -> Result<(), RowFault> {
+    let count = chooser.asked();
+    answers.tell("offers", format!(in alloc; "{count}"))?;
     answers.tell("offered", chooser.into_text(alloc))?;
     answers.tell("included", included)
 }
