@@ -12,11 +12,7 @@ use workspace_record::copy_packages;
 impl PackageGraph {
     /// The graph of the same packages and workspace with these links, which keep the rules, so that none
     /// is tested.
-    pub fn with_links(
-        &self,
-        alloc: Global,
-        links: Vec<LinkRow>,
-    ) -> Result<PackageGraph, AllocError>
+    pub fn with_links(&self, alloc: Global, links: Vec<LinkRow>) -> Result<PackageGraph, AllocError>
         requires kept { AreKept self.now.packages links.items self.now.workspace }
         ensures built { IfOk result (λ g. AreKept self.now.packages links.items self.now.workspace × IsTableOf self.now.packages links.items self.now.workspace g) }
     {

@@ -54,10 +54,7 @@ impl<'r> Model for CheckedRecord<'r> {
 impl<'r> CheckedRecord<'r> {
     /// The record, once each rule is tested in turn, that on filters last; or the first broken rule, at its
     /// first place, or the first refused filter, with all its faults.
-    pub fn of(
-        alloc: Global,
-        record: &'r WorkspaceRecord,
-    ) -> Result<CheckedRecord<'r>, RecordError>
+    pub fn of(alloc: Global, record: &'r WorkspaceRecord) -> Result<CheckedRecord<'r>, RecordError>
         ensures checked { ChecksRecord «record».entry.now result }
     {
         match graph_of(alloc, record) {

@@ -7,8 +7,8 @@ use crate::command_line::is_readable;
 use crate::failure::Failure;
 use crate::readable::print_entries;
 use clap::ArgMatches;
-use question_files::{FeatureQuestion, FileSource, feature_question, named_files};
 use feature_questions::{account, write_account};
+use question_files::{FeatureQuestion, FileSource, feature_question, named_files};
 use std::alloc::Global;
 use std::io::Write;
 

@@ -5,9 +5,9 @@ ghost use Rattle.test_select.specs.Failures.{status_of};
 
 use crate::failure::Failure;
 use clap::ArgMatches;
+use feature_questions::features_on;
 use feature_reasons::{sourced_rules, write_entries, write_features, write_rules};
 use question_files::{FeatureQuestion, FileSource, feature_question, named_files};
-use feature_questions::features_on;
 use std::alloc::Global;
 use std::io::Write;
 

@@ -48,14 +48,30 @@ fn tell_graph(
     let starts = nodes_in(alloc, row, graph.node_count(), "starts")?;
     let direction = direction_in(row);
     let manner = manner_in(row);
-    tell_walk(alloc, graph, &starts, direction, manner, ("run", "included"), answers);
+    tell_walk(
+        alloc,
+        graph,
+        &starts,
+        direction,
+        manner,
+        ("run", "included"),
+        answers,
+    );
     let others = flags_in(alloc, row, graph.edges().len(), "refused")?;
     let halves = flags_in(alloc, row, graph.edges().len(), "refused_halves")?;
     let table = Manner::Table {
         others: &others,
         halves: &halves,
     };
-    tell_walk(alloc, graph, &starts, direction, table, ("table_run", "least"), answers);
+    tell_walk(
+        alloc,
+        graph,
+        &starts,
+        direction,
+        table,
+        ("table_run", "least"),
+        answers,
+    );
     Ok(())
 }
 

@@ -57,7 +57,12 @@ fn walk_with_blank<L: Ledger>(
     Ok(walk.into_included())
 }
 
-fn answers_to(manner: Manner<'_>, due: Due, before: &mut usize, answers: &mut Answers) -> (bool, bool) {
+fn answers_to(
+    manner: Manner<'_>,
+    due: Due,
+    before: &mut usize,
+    answers: &mut Answers,
+) -> (bool, bool) {
     match due {
         Due::One(offer) => (ask(manner, offer, before, answers), false),
         Due::Halves(edge) => {
