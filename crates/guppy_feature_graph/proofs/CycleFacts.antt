@@ -1,7 +1,6 @@
 -- Features are on one cycle where at least one link leads from each to the other.
-use Rattle.std.proofs.Common.{◌≡◌, ◌↔◌, ◌+◌, ◌<◌, ℕ, suc, Bool, true, false, not, cond, nat_eq, List, [], ◌∷◌, Contains, length, get_or, drop, subst, sym, refl, ap, ◌∙◌, ⊎_elim, arith, if◌then◌else◌}
+use Rattle.std.proofs.Common.{◌≡◌, ◌↔◌, ◌<◌, ℕ, Bool, true, false, not, nat_eq, List, [], Contains, length, get_or, subst, sym, refl, ◌∙◌, ⊎_elim, arith}
 use Rattle.std.specs.List.{position_or_len}
-use Rattle.std.proofs.Math.Seq.{drop-cons}
 use Rattle.std.proofs.lemmas.Bool.{cases_lt, eqb-true, eq-eqb}
 use Rattle.std.proofs.lemmas.List.Elements.{Contains-get_or}
 use Rattle.std.proofs.lemmas.List.Sums.{prefix_len_stops}

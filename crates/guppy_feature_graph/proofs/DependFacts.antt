@@ -1,11 +1,11 @@
 -- Links from one node to another, looked for one after the other.
-use Rattle.std.proofs.Common.{◌≡◌, ◌≢◌, ◌↔◌, ◌+◌, ◌-◌, ◌<◌, ◌≤◌, ℕ, suc, Bool, true, false, List, Option, Some, None, IfSome, IfNone, IsTrue, length, subst, sym, refl, ◌∙◌, ⊎_elim, arith, true≢false}
+use Rattle.std.proofs.Common.{◌≡◌, ◌≢◌, ◌<◌, ◌≤◌, ℕ, suc, List, Option, Some, None, IfSome, IfNone, length, subst, ⊎_elim, arith}
 use Rattle.std.proofs.lemmas.Bool.{cases_lt}
 use Rattle.numbered_graph.specs.declared.direction.Direction.TheVariants.{Forward}
 use Rattle.numbered_graph.specs.declared.link.Link.{Link}
 use Rattle.numbered_graph.specs.Chains.{IsNextLink}
 use Rattle.numbered_graph.specs.Links.{near_at, far_at}
-use Rattle.guppy_package_table.specs.Tables.{IsBetween, IsClear}
+use Rattle.guppy_package_table.specs.Tables.{IsClear}
 
 -- the place of the next link; past the end where there is none
 abbrev pub place_or_end : List Link → Option ℕ → ℕ

@@ -1,5 +1,5 @@
 -- The packages of a query's initials, among all packages of their graph.
-use Rattle.std.proofs.Common.{◌≡◌, ◌↔◌, ℕ, ◌-◌, ◌<◌, Bool, true, List, AllPairs, Any, Contains, IsTrue, Option, Some, None, filter, length, map, slice_get, refl, ap, ◌∙◌, arith}
+use Rattle.std.proofs.Common.{◌≡◌, ◌↔◌, ℕ, ◌-◌, ◌<◌, Bool, true, List, AllPairs, Contains, IsTrue, Option, Some, None, filter, length, map, slice_get, refl, ap, ◌∙◌, arith}
 use Rattle.std.specs.List.{range_with_len}
 use Rattle.std.proofs.lemmas.Bool.{false≢true}
 use Rattle.std.proofs.lemmas.List.FromFn.{get_or-range_with_len, length-range_with_len}
@@ -10,7 +10,6 @@ use Rattle.numbered_graph.specs.Sets.{has}
 use Rattle.workspace_record.specs.Records.{Package}
 use Rattle.guppy_package_table.specs.Tables.{TableValue}
 use Rattle.guppy_feature_lists.specs.Labels.{labels_of}
-use Rattle.guppy_feature_nodes.specs.Graphs.{FeatureGraphValue}
 use Rattle.guppy_feature_graph.specs.FeaturesFor.{HasInitial, has_row}
 use Rattle.guppy_feature_graph.specs.Queries.{AreInitials, QueryValue}
 use Rattle.guppy_feature_graph.specs.Sets.{SetValue}

@@ -1,10 +1,10 @@
 -- Packages of features, and which features have been looked at.
-use Rattle.std.proofs.Common.{◌≡◌, ◌↔◌, ◌⊎◌, ⊎_elim, inl, inr, ℕ, suc, ◌+◌, ◌<◌, Bool, true, false, true≢false, not, get_or, List, [], Option, Some, None, Contains, IsTrue, length, map, position, sym, subst, ap, ◌∙◌, refl, arith}
+use Rattle.std.proofs.Common.{◌≡◌, ◌↔◌, ◌⊎◌, ⊎_elim, inl, inr, ℕ, ◌+◌, ◌<◌, Bool, List, Option, Some, None, Contains, IsTrue, length, map, position, sym, subst, ap, ◌∙◌, arith}
 use Rattle.std.specs.Str.{bytes_eq}
 use Rattle.std.proofs.lemmas.Bool.{cases_lt}
 use Rattle.numbered_graph.specs.Sets.{has}
 use Rattle.workspace_record.specs.Records.{Text}
-use Rattle.guppy_package_table.specs.Tables.{TableValue, ids_of}
+use Rattle.guppy_package_table.specs.Tables.{ids_of}
 use Rattle.guppy_feature_nodes.specs.Graphs.{FeatureGraphValue, feature_at}
 use Rattle.guppy_feature_graph.specs.PackageFeatures.{IsOfFeature, IsOfPackage, IsOfSet}
 use Rattle.guppy_feature_graph.specs.Sets.{SetValue}

@@ -1,5 +1,5 @@
 -- Whether one feature leads to another.
-use Rattle.std.specs.Prelude.{◌≡◌, ◌↔◌, ◌⊎◌, ℕ, ◌<◌, Bool, List, Option, Some, None, Result, Ok, Err, IsTrue, length}
+use Rattle.std.specs.Prelude.{◌≡◌, ◌↔◌, ◌⊎◌, ℕ, ◌<◌, Bool, List, Result, Ok, Err, IsTrue, length}
 use Rattle.numbered_graph.specs.declared.link.Link.{Link}
 use Rattle.numbered_graph.specs.Paths.{Reaches, any_link}
 use Rattle.guppy_row_parts.specs.declared.error.Error.{Error}

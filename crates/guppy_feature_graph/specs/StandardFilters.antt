@@ -6,7 +6,7 @@ use Rattle.guppy_row_parts.specs.declared.error.Error.TheVariants.{UnknownFeatur
 use Rattle.guppy_feature_ids.specs.Kinds.{is_base_kind, kind_of}
 use Rattle.guppy_feature_demands.specs.Nodes.{number_of}
 use Rattle.guppy_feature_nodes.specs.Graphs.{FeatureGraphValue, IsDefault}
-use Rattle.guppy_feature_graph.specs.Finding.{IsNumber, IsUnknown}
+use Rattle.guppy_feature_graph.specs.Finding.{IsUnknown}
 use Rattle.guppy_feature_graph.specs.declared.standard_features.StandardFeatures.{StandardFeatures}
 use Rattle.guppy_feature_graph.specs.declared.standard_features.StandardFeatures.TheVariants.{None, Default, All}
 

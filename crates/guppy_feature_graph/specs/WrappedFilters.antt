@@ -1,5 +1,5 @@
 -- Filters that take more than their base does.
-use Rattle.std.specs.Prelude.{◌≡◌, ◌||◌, Bool, false, List, map}
+use Rattle.std.specs.Prelude.{Bool, false, List}
 use Rattle.std.specs.List.{list_any}
 use Rattle.std.specs.Str.{bytes_eq}
 use Rattle.workspace_record.specs.Records.{Text}

@@ -1,5 +1,5 @@
 -- The features that a list gives.
-use Rattle.std.specs.Prelude.{◌≡◌, List, []}
+use Rattle.std.specs.Prelude.{◌≡◌, List}
 use Rattle.workspace_record.specs.Features.{FeatureValue}
 use Rattle.guppy_package_table.specs.Tables.{id_at}
 use Rattle.guppy_feature_lists.specs.Labels.{features_with}

@@ -3,13 +3,13 @@
 
 use question_files::SystemFiles;
 use std::alloc::AllocGlobal;
-use std::io::{self, ErrorKind};
+use std::io::{self, BufWriter, ErrorKind};
 use std::process::ExitCode;
 use test_select::run;
 
 fn main(rt: HostRuntime) -> ExitCode {
-    match words(&rt) {
-        Ok(words) => ExitCode::from(run_on(&rt, &words)),
+    match run_on(&rt) {
+        Ok(status) => ExitCode::from(status),
         Err(error) if error.kind() == ErrorKind::OutOfMemory => {
             let _ = eprintln!(rt; "out of memory");
             ExitCode::from(1)
@@ -26,9 +26,12 @@ fn words(rt: &HostRuntime) -> io::Result<Vec<String>> {
     Ok(std::env::args(rt)?.collect(rt.alloc())?)
 }
 
-fn run_on(rt: &HostRuntime, words: &[String]) -> u8 {
+/// Runs the program on the words of the command line. What it prints goes out in larger parts, the last of
+/// them when `run` flushes.
+fn run_on(rt: &HostRuntime) -> io::Result<u8> {
+    let words = words(rt)?;
     let mut files = SystemFiles { rt };
-    let mut out = rt.stdout();
+    let mut out = BufWriter::new(rt.alloc(), rt.stdout())?;
     let mut err = rt.stderr();
-    run(rt.alloc(), words, &mut files, &mut out, &mut err)
+    Ok(run(rt.alloc(), &words, &mut files, &mut out, &mut err))
 }

@@ -1,4 +1,3 @@
-use Rattle.std.proofs.Common.{get_or}
 use Rattle.guppy_feature_ids.specs.LabelViews.{label_view}
 use Rattle.guppy_feature_ids.specs.declared.feature_label.FeatureLabel.TheVariants as code
 use Rattle.guppy_feature_graph.specs.FeaturesFor.{has_label}

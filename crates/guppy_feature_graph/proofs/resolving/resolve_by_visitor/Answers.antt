@@ -1,4 +1,4 @@
-use Rattle.std.proofs.Common.{◌≡◌, ◌++◌, ◌+◌, Some, length, subst, sym, ap, ◌∙◌, arith}
+use Rattle.std.proofs.Common.{◌≡◌, ◌++◌, Some, subst, sym, ap, ◌∙◌, arith}
 use Rattle.numbered_offers.specs.Dues.{asked_of}
 use Rattle.numbered_offers.specs.Graphs.{OfferGraphValue}
 use Rattle.numbered_offers.specs.OfferWalks.{OfferWalkValue}

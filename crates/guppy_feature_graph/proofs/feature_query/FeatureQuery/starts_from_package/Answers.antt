@@ -1,4 +1,4 @@
-use Rattle.std.proofs.Common.{◌≡◌, ◌↔◌, ◌∙◌, ℕ, Bool, Result, Ok, Err, Contains, IsTrue, ap, subst, sym}
+use Rattle.std.proofs.Common.{◌≡◌, Bool, Result, Ok, Err, IsTrue, subst}
 use Rattle.numbered_graph.specs.Sets.{has}
 use Rattle.workspace_record.specs.Records.{Text}
 use Rattle.guppy_row_parts.specs.declared.error.Error.{Error}

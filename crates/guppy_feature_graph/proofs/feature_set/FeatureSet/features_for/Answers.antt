@@ -1,4 +1,4 @@
-use Rattle.std.proofs.Common.{◌≡◌, ◌≢◌, ◌∙◌, [], Contains, List, Some, ap, length, map, slice_get, subst, sym, arith, true≢false, vec_len}
+use Rattle.std.proofs.Common.{◌≡◌, ◌∙◌, Contains, List, Some, ap, length, map, slice_get, subst, sym, arith, true≢false, vec_len}
 use Rattle.std.proofs.lemmas.Bool.Decides.{Decides-eqb}
 use Rattle.std.proofs.lemmas.List.{length-map}
 use Rattle.workspace_record.specs.Features.{LabelValue}
