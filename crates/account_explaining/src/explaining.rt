@@ -7,15 +7,14 @@ ghost use Rattle.feature_account.specs.Explanations.{IsExplanation, IsSublist};
 use feature_account::Rule;
 use feature_account::found::{contains, insert, insert_premises};
 use feature_account::soundness::rule_of;
+use indexmap::IndexSet;
 use std::alloc::{AllocError, Global};
-use std::collections::BTreeSet;
 use workspace_record::Feature;
 
 /// The entries of an account, in its order, that the conclusion of the feature rests on, that one last;
 /// none where no entry concludes the feature.
 ///
-/// Takes any account whose entries may all stand. The work grows with the entries, times their
-/// logarithm.
+/// Takes any account whose entries may all stand. The work grows with the entries.
 pub fn explanation_of(
     alloc: Global,
     rules: &[Rule],
@@ -46,7 +45,7 @@ fn needed_entries(
     ensures explains { IfOk result (λ v. v.items ≢ [] → IsExplanation rules.now goal.now v.items) }
     ensures in_order { IfOk result (λ v. IsSublist v.items account.now) }
 {
-    let mut needed: BTreeSet<&Feature> = BTreeSet::new(alloc);
+    let mut needed: IndexSet<&Feature> = IndexSet::new(alloc);
     insert(&mut needed, goal)?;
     let mut entries = Vec::new(alloc);
     for place in (0..account.len()).rev() {

@@ -1,7 +1,6 @@
 -- The search for the lowest open rule: what holds between two looks.
-use Rattle.std.proofs.Common.{◌≡◌, ◌↔◌, ℕ, zero, suc, ◌+◌, ◌*◌, ◌<◌, ◌≤◌, Bool, true, false, cond, ◌&&◌, ◌||◌, not, List, [], ◌∷◌, ◌++◌, ◌⊎◌, inl, inr, ⊎_elim, IsTrue, Some, Vec, refl, sym, ap, ◌∙◌, subst, Bor, length, length-append, length-take, get_or-take, slice_get, take, nat_eq, unwrap_or, Contains, true≢false, arith}
+use Rattle.std.proofs.Common.{◌≡◌, ◌↔◌, ℕ, zero, suc, ◌+◌, ◌*◌, ◌<◌, ◌≤◌, Bool, true, false, cond, ◌&&◌, ◌||◌, not, List, [], ◌∷◌, ◌++◌, ◌⊎◌, inl, inr, ⊎_elim, IsTrue, Some, Vec, refl, sym, ap, ◌∙◌, subst, Bor, length, length-append, length-take, get_or-take, slice_get, take, nat_eq, unwrap_or, true≢false, arith}
 use Rattle.std.specs.BTreeMap as tree
-use Rattle.std.specs.BTreeMap.{BTreeMap}
 use Rattle.std.specs.BTreeSet as set
 use Rattle.std.specs.BTreeSet.{BTreeSet, btree_set_len}
 use Rattle.std.specs.Cmp.{IsEquivalence, unsigned_Decides, unsigned_ties, nat_cmp_is}
@@ -11,12 +10,13 @@ use Rattle.std.specs.List.{list_any}
 use Rattle.std.specs.Ordering.{nat_cmp, is_gt}
 use Rattle.std.proofs.lemmas.Bool.{and_parts, and_from, or_cases, or_parts, or_left, or_right}
 use Rattle.std.proofs.lemmas.List.Filters.{length-filter_both}
-use Rattle.std.proofs.lemmas.List.{take_all}
 use Rattle.std.proofs.lemmas.Nat.{mul-le}
 use Rattle.std.proofs.lemmas.Option.{slice_get_within, slice_get-get_or, get_or_from_slice_get}
+use Rattle.indexmap.specs.IndexMap.{IndexMap}
+use Rattle.indexmap.specs.IndexSet.{IndexSet}
 use Rattle.list_facts.proofs.Tests.{and_not_parts}
 use Rattle.workspace_record.specs.Equality.{equivalence}
-use Rattle.workspace_record.specs.Features.{FeatureValue, feature_eq, feature_cmp, features_decide}
+use Rattle.workspace_record.specs.Features.{FeatureValue, feature_eq, features_decide}
 use Rattle.feature_account.specs.Accounts.{conclusions, concluded_set, concludes, IsSound, IsFirstOpen}
 use Rattle.feature_account.specs.Closed.{FeatureSet, has_premises, is_open, IsClosed, IsOn}
 use Rattle.feature_account.specs.declared.rule.Premises.{Premises}
@@ -30,7 +30,7 @@ use Rattle.account_making.specs.Waiting.{is_premise, waiting_at, IsWaiting, has,
 use Rattle.account_making.proofs.Concluding.{sound-push, lowest-push, left_out, left_out-falls, same_open}
 
 -- what the search keeps: the account so far, and among the numbers to be looked at each open rule's
-pub record Keeps (rules : List Rule) (ready : BTreeSet ℕ) (found : BTreeSet (Bor FeatureValue)) (account : List ℕ) (looks : ℕ) : Type 0 where
+pub record Keeps {S : Type 0} (rules : List Rule) (ready : BTreeSet ℕ) (found : IndexSet (Bor FeatureValue) S) (account : List ℕ) (looks : ℕ) : Type 0 where
   pub found_is : (f : FeatureValue) → found_set found f ≡ concludes rules account f
   pub sound : IsSound rules account
   pub lowest : IsLowestAfter rules [] account
@@ -93,12 +93,12 @@ outweighed after before count woken ready lt few =
     omega (arith, row, few)
 
 -- at the beginning each number is to be looked at
-pub search_begins : (rules : List Rule) (ready : BTreeSet ℕ) (found : BTreeSet (Bor FeatureValue)) (account : List ℕ) → account ≡ [] → IsEach (length rules) ready → found.keys ≡ [] → Keeps rules ready found account 0
+pub search_begins : {S : Type 0} (rules : List Rule) (ready : BTreeSet ℕ) (found : IndexSet (Bor FeatureValue) S) (account : List ℕ) → account ≡ [] → IsEach (length rules) ready → found.keys ≡ [] → Keeps rules ready found account 0
 search_begins rules ready found account none all empty = subst (λ xs. Keeps rules ready found xs 0) (sym none) (
     let count = all.count_is in
     let both = length-filter_both (λ (r : Rule). not (concluded_set [] r.conclusion)) (λ r. not (not (concluded_set [] r.conclusion))) (λ r. refl) rules in
     record {
-      found_is = λ f. ap (list_any (tree.is_at (λ (k : Bor FeatureValue). feature_cmp f k.now))) empty;
+      found_is = λ f. ap (list_any (λ (k : Bor FeatureValue). feature_eq f k.now)) empty;
       sound = tt;
       lowest = tt;
       open_ready = λ n r at h. all.finds n (slice_get_within rules n r at);
@@ -109,7 +109,7 @@ search_begins rules ready found account none all empty = subst (λ xs. Keeps rul
     })
 
 -- One look: the least number is taken out.
-module _ (rules : List Rule) (ready rest : BTreeSet ℕ) (found : BTreeSet (Bor FeatureValue)) (account : List ℕ) (looks n : ℕ) (rule : Rule) (before : Keeps rules ready found account looks) (stands : slice_get rules n ≡ Some rule) (taken : set.Updates nat_cmp ready rest n false) (count : btree_set_len rest + 1 ≡ btree_set_len ready) where
+module _ {S : Type 0} (rules : List Rule) (ready rest : BTreeSet ℕ) (found : IndexSet (Bor FeatureValue) S) (account : List ℕ) (looks n : ℕ) (rule : Rule) (before : Keeps rules ready found account looks) (stands : slice_get rules n ≡ Some rule) (taken : set.Updates nat_cmp ready rest n false) (count : btree_set_len rest + 1 ≡ btree_set_len ready) where
   rest_has : (m : ℕ) → has rest m ≡ cond (nat_eq n m) false (has ready m)
   rest_has m = taken.0 m ∙ ap (λ b. cond b false (has ready m)) (sym (unsigned_ties n m))
 
@@ -147,7 +147,7 @@ module _ (rules : List Rule) (ready rest : BTreeSet ℕ) (found : BTreeSet (Bor 
       }
 
   -- an open rule is the next entry, and the rules that wait for its conclusion are to be looked at
-  module _ (opened : is_open (found_set found) rule ≡ true) (least : set.IsLowerBound nat_cmp ready n) (waiting : BTreeMap (Bor FeatureValue) (Vec ℕ Global)) (waits : IsWaiting rules waiting) (woken : BTreeSet ℕ) (more : BTreeSet (Bor FeatureValue)) (with_rule : (f : FeatureValue) → found_set more f ≡ (found_set found f || (feature_eq f rule.conclusion || false))) (wakes : IsWith rest (waiting_at waiting rule.conclusion) woken) where
+  module _ (opened : is_open (found_set found) rule ≡ true) (least : set.IsLowerBound nat_cmp ready n) {T : Type 0} (waiting : IndexMap (Bor FeatureValue) (Vec ℕ Global) T) (waits : IsWaiting rules waiting) (woken : BTreeSet ℕ) (more : IndexSet (Bor FeatureValue) S) (with_rule : (f : FeatureValue) → found_set more f ≡ (found_set found f || (feature_eq f rule.conclusion || false))) (wakes : IsWith rest (waiting_at waiting rule.conclusion) woken) where
     is_opened : is_open (concludes rules account) rule ≡ true
     is_opened = sym (same_open (found_set found) (concludes rules account) before.found_is rule) ∙ opened
 
@@ -205,7 +205,7 @@ module _ (rules : List Rule) (ready rest : BTreeSet ℕ) (found : BTreeSet (Bor 
         }
 
 -- at the end no rule is open
-module _ (rules : List Rule) (ready : BTreeSet ℕ) (found : BTreeSet (Bor FeatureValue)) (account : List ℕ) (looks : ℕ) (kept : Keeps rules ready found account looks) (empty : btree_set_len ready ≡ 0) where
+module _ {S : Type 0} (rules : List Rule) (ready : BTreeSet ℕ) (found : IndexSet (Bor FeatureValue) S) (account : List ℕ) (looks : ℕ) (kept : Keeps rules ready found account looks) (empty : btree_set_len ready ≡ 0) where
   nothing_ready : (n : ℕ) → has ready n ≡ true → ⊥
   nothing_ready n h = none ready.keys empty h
     where

@@ -1,37 +1,36 @@
 -- The numbers that a map has for lent features.
-use Rattle.std.proofs.Common.{◌≡◌, ℕ, ◌+◌, ◌≤◌, ◌<◌, Bool, true, false, cond, not, ◌||◌, List, [], ◌∷◌, ◌++◌, ◌⊎◌, inl, inr, ⊎_elim, Option, Some, None, Vec, refl, sym, ap, ◌∙◌, subst, Bor, length, length-append, append-nil, slice_get, nat_eq, unwrap_or, true≢false, Result, Ok, Err, OnOk, arith}
-use Rattle.std.specs.BTreeMap as tree
-use Rattle.std.specs.BTreeMap.{BTreeMap}
-use Rattle.std.specs.BTreeSet as set
-use Rattle.std.specs.BTreeSet.{BTreeSet}
+use Rattle.std.proofs.Common.{◌≡◌, ℕ, ◌+◌, ◌≤◌, ◌<◌, Bool, true, false, cond, not, ◌||◌, List, [], ◌∷◌, ◌++◌, ⊎_elim, Option, Some, None, Vec, refl, sym, ap, ◌∙◌, subst, Bor, length, length-append, append-nil, slice_get, nat_eq, unwrap_or, true≢false, Result, Ok, Err, OnOk, arith}
 use Rattle.std.specs.Global.{Global}
-use Rattle.std.specs.Cmp.{IsEquivalence, unsigned_Decides}
+use Rattle.std.specs.Cmp.{unsigned_Decides}
 use Rattle.std.specs.List.{list_any}
 use Rattle.std.specs.Option.{option_map_or}
-use Rattle.std.specs.Ordering.{eq_by_cmp}
-use Rattle.std.specs.declared.cmp.Ordering.{Ordering}
 use Rattle.std.proofs.lemmas.Bool.{or_cases, or_left, or_right, cases_lt}
 use Rattle.std.proofs.lemmas.List.Folds.{list_any-append}
 use Rattle.std.proofs.lemmas.Option.{slice_get_within}
 use Rattle.std.specs.Map.{lookup}
-use Rattle.workspace_record.specs.Equality.{equivalence}
-use Rattle.workspace_record.specs.Features.{FeatureValue, feature_eq, feature_cmp, feature_ties, features_decide}
+use Rattle.indexmap.specs.IndexMap.{IndexMap, Updates, get}
+use Rattle.workspace_record.specs.Features.{FeatureValue, feature_eq, features_decide}
 use Rattle.feature_account.specs.declared.rule.Rule.{Rule}
-use Rattle.feature_account.proofs.FoundFacts.{lent, lent_cmp, tied}
+use Rattle.feature_account.proofs.FoundFacts.{lent, lent_eq, same_either_way}
 use Rattle.account_making.specs.Waiting.{is_premise, waiting_at, IsWaiting}
 
 -- the map with a number more for one feature
-module _ (m0 m1 m2 : BTreeMap (Bor FeatureValue) (Vec ℕ Global)) (k : Bor FeatureValue) (numbers : Vec ℕ Global) (n : ℕ) (taken : tree.UpdatesBy lent_cmp (lent_cmp k) m0 m1 None) (put : tree.UpdatesBy lent_cmp (lent_cmp k) m1 m2 (Some numbers)) where
-  at_new : (f : FeatureValue) → waiting_at m2 f ≡ option_map_or (λ (v : Vec ℕ Global). v.items) (cond (feature_eq f k.now) (Some numbers) (cond (feature_eq f k.now) None (tree.get lent_cmp m0 (lent f)))) []
+module _ {S : Type 0} (old new : IndexMap (Bor FeatureValue) (Vec ℕ Global) S) (k : Bor FeatureValue) (numbers : Vec ℕ Global) (n : ℕ) (put : Updates lent_eq old new k (Some numbers)) where
+  at_new : (f : FeatureValue) → waiting_at new f ≡ option_map_or (λ (v : Vec ℕ Global). v.items) (cond (feature_eq f k.now) (Some numbers) (get lent_eq old (lent f))) []
   at_new f =
-      ap (λ o. option_map_or (λ (v : Vec ℕ Global). v.items) o []) (put.0 (lent f) ∙ ap (λ b. cond b (Some numbers) (tree.get lent_cmp m1 (lent f))) (tied f k.now) ∙ ap (λ o. cond (feature_eq f k.now) (Some numbers) o) (taken.0 (lent f) ∙ ap (λ b. cond b None (tree.get lent_cmp m0 (lent f))) (tied f k.now)))
+      ap (λ o. option_map_or (λ (v : Vec ℕ Global). v.items) o []) (put.0 (lent f) ∙ ap (λ b. cond b (Some numbers) (get lent_eq old (lent f))) (same_either_way f k.now))
 
-  pub number_added : numbers.items ≡ waiting_at m0 k.now ++ n ∷ [] → (f : FeatureValue) → waiting_at m2 f ≡ waiting_at m0 f ++ cond (feature_eq f k.now) (n ∷ []) []
+  pub number_added : numbers.items ≡ waiting_at old k.now ++ n ∷ [] → (f : FeatureValue) → waiting_at new f ≡ waiting_at old f ++ cond (feature_eq f k.now) (n ∷ []) []
   number_added is f = at_new f ∙ by (feature_eq f k.now) refl
     where
-      by : (b : Bool) → feature_eq f k.now ≡ b → option_map_or (λ (v : Vec ℕ Global). v.items) (cond b (Some numbers) (cond b None (tree.get lent_cmp m0 (lent f)))) [] ≡ waiting_at m0 f ++ cond b (n ∷ []) []
-      by true e = is ∙ ap (λ g. waiting_at m0 g ++ n ∷ []) (sym ((features_decide f k.now).0 e))
-      by false e = sym (append-nil (waiting_at m0 f))
+      by : (b : Bool) → feature_eq f k.now ≡ b → option_map_or (λ (v : Vec ℕ Global). v.items) (cond b (Some numbers) (get lent_eq old (lent f))) [] ≡ waiting_at old f ++ cond b (n ∷ []) []
+      by true e = is ∙ ap (λ g. waiting_at old g ++ n ∷ []) (sym ((features_decide f k.now).0 e))
+      by false e = sym (append-nil (waiting_at old f))
+
+-- the numbers under a key are those that its entry has, or none
+pub numbers_at : (found : Option (Vec ℕ Global)) (empty : Vec ℕ Global) → empty.items ≡ [] → (unwrap_or found empty).items ≡ option_map_or (λ (v : Vec ℕ Global). v.items) found []
+numbers_at None empty none = none
+numbers_at (Some v) empty none = refl
 
 -- two features that are not the same
 apart : (a b : FeatureValue) → feature_eq a b ≡ false → (f : FeatureValue) → feature_eq f a ≡ true → feature_eq f b ≡ false
@@ -54,21 +53,21 @@ one_added xs n a b f same =
     once false = refl
 
 -- the map has the numbers of the waiting rules among the first
-pub record WaitsBelow (rules : List Rule) (count : ℕ) (waiting : BTreeMap (Bor FeatureValue) (Vec ℕ Global)) : Type 0 where
+pub record WaitsBelow {S : Type 0} (rules : List Rule) (count : ℕ) (waiting : IndexMap (Bor FeatureValue) (Vec ℕ Global) S) : Type 0 where
   pub finds : (n : ℕ) (r : Rule) (f : FeatureValue) → n < count → slice_get rules n ≡ Some r → is_premise r.premises f ≡ true → list_any (nat_eq n) (waiting_at waiting f) ≡ true
   pub known : (n : ℕ) (f : FeatureValue) → list_any (nat_eq n) (waiting_at waiting f) ≡ true → n < count
   pub few : (f : FeatureValue) → length (waiting_at waiting f) ≤ count
 
-pub waits_begin : (rules : List Rule) (m : BTreeMap (Bor FeatureValue) (Vec ℕ Global)) → m.entries ≡ [] → WaitsBelow rules 0 m
+pub waits_begin : {S : Type 0} (rules : List Rule) (m : IndexMap (Bor FeatureValue) (Vec ℕ Global) S) → m.entries ≡ [] → WaitsBelow rules 0 m
 waits_begin rules m empty =
-    let none : (f : FeatureValue) → waiting_at m f ≡ [] = λ f. ap (λ es. option_map_or (λ (v : Vec ℕ Global). v.items) (lookup (tree.is_at (λ (k : Bor FeatureValue). feature_cmp f k.now)) es) []) empty in
+    let none : (f : FeatureValue) → waiting_at m f ≡ [] = λ f. ap (λ es. option_map_or (λ (v : Vec ℕ Global). v.items) (lookup (λ (k : Bor FeatureValue). feature_eq f k.now) es) []) empty in
     record {
       finds = λ n r f lt at waits. absurd (omega (arith, lt));
       known = λ n f h. absurd (true≢false (sym h ∙ ap (list_any (nat_eq n)) (none f)));
       few = λ f. let e = ap length (none f) in omega (arith, e);
     }
 
-pub waits_all : (rules : List Rule) (m : BTreeMap (Bor FeatureValue) (Vec ℕ Global)) (count : ℕ) → length rules ≤ count → count ≤ length rules → WaitsBelow rules count m → IsWaiting rules m
+pub waits_all : {S : Type 0} (rules : List Rule) (m : IndexMap (Bor FeatureValue) (Vec ℕ Global) S) (count : ℕ) → length rules ≤ count → count ≤ length rules → WaitsBelow rules count m → IsWaiting rules m
 waits_all rules m count le ge all = record {
   finds = λ n r f at. all.finds n r f (let lt = slice_get_within rules n r at in omega (arith, lt, le)) at;
   known = λ n f h. let lt = all.known n f h in omega (arith, lt, ge);
@@ -76,7 +75,7 @@ waits_all rules m count le ge all = record {
 }
 
 -- one rule more
-module _ (rules : List Rule) (m0 m1 : BTreeMap (Bor FeatureValue) (Vec ℕ Global)) (i : ℕ) (rule : Rule) (before : WaitsBelow rules i m0) (stands : slice_get rules i ≡ Some rule) (added : (f : FeatureValue) → waiting_at m1 f ≡ waiting_at m0 f ++ cond (is_premise rule.premises f) (i ∷ []) []) where
+module _ {S : Type 0} (rules : List Rule) (m0 m1 : IndexMap (Bor FeatureValue) (Vec ℕ Global) S) (i : ℕ) (rule : Rule) (before : WaitsBelow rules i m0) (stands : slice_get rules i ≡ Some rule) (added : (f : FeatureValue) → waiting_at m1 f ≡ waiting_at m0 f ++ cond (is_premise rule.premises f) (i ∷ []) []) where
   any_added : (n : ℕ) (f : FeatureValue) → list_any (nat_eq n) (waiting_at m1 f) ≡ (list_any (nat_eq n) (waiting_at m0 f) || list_any (nat_eq n) (cond (is_premise rule.premises f) (i ∷ []) []))
   any_added n f = ap (list_any (nat_eq n)) (added f) ∙ list_any-append (nat_eq n) (waiting_at m0 f) _
 

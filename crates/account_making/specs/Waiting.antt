@@ -1,8 +1,6 @@
 -- What a search over rules keeps: which rules wait for a feature, and which are to be looked at.
 pub use Rattle.feature_account.specs.Closed.{is_premise}
-use Rattle.std.specs.Prelude.{◌≡◌, ℕ, ◌+◌, ◌<◌, ◌≤◌, Bool, true, false, ◌||◌, List, [], Some, length, slice_get, Vec, nat_eq, Contains}
-use Rattle.std.specs.BTreeMap as tree
-use Rattle.std.specs.BTreeMap.{BTreeMap}
+use Rattle.std.specs.Prelude.{◌≡◌, ℕ, ◌+◌, ◌<◌, ◌≤◌, Bool, true, false, ◌||◌, List, [], Some, length, slice_get, Vec, nat_eq}
 use Rattle.std.specs.BTreeSet as set
 use Rattle.std.specs.BTreeSet.{BTreeSet, btree_set_len}
 use Rattle.std.specs.Borrow.{Bor}
@@ -10,15 +8,16 @@ use Rattle.std.specs.Global.{Global}
 use Rattle.std.specs.List.{list_any}
 use Rattle.std.specs.Option.{option_map_or}
 use Rattle.std.specs.Ordering.{nat_cmp}
-use Rattle.workspace_record.specs.Features.{FeatureValue, feature_cmp}
+use Rattle.indexmap.specs.IndexMap.{IndexMap, get_by}
+use Rattle.workspace_record.specs.Features.{FeatureValue, feature_eq}
 use Rattle.feature_account.specs.declared.rule.Rule.{Rule}
 
 -- the numbers that the map has for a feature
-abbrev pub waiting_at : BTreeMap (Bor FeatureValue) (Vec ℕ Global) → FeatureValue → List ℕ
-waiting_at waiting f = option_map_or (λ v. v.items) (tree.get_by (λ k. feature_cmp f k.now) waiting) []
+abbrev pub waiting_at : {S : Type 0} → IndexMap (Bor FeatureValue) (Vec ℕ Global) S → FeatureValue → List ℕ
+waiting_at waiting f = option_map_or (λ v. v.items) (get_by (λ k. feature_eq f k.now) waiting) []
 
 -- the map has for a feature the numbers of the rules that wait for it, each once at most
-pub record IsWaiting (rules : List Rule) (waiting : BTreeMap (Bor FeatureValue) (Vec ℕ Global)) : Type 0 where
+pub record IsWaiting {S : Type 0} (rules : List Rule) (waiting : IndexMap (Bor FeatureValue) (Vec ℕ Global) S) : Type 0 where
   pub finds : (n : ℕ) (r : Rule) (f : FeatureValue) → slice_get rules n ≡ Some r → is_premise r.premises f ≡ true → list_any (nat_eq n) (waiting_at waiting f) ≡ true
   pub known : (n : ℕ) (f : FeatureValue) → list_any (nat_eq n) (waiting_at waiting f) ≡ true → n < length rules
   pub few : (f : FeatureValue) → length (waiting_at waiting f) ≤ length rules

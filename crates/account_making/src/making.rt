@@ -11,8 +11,8 @@ use crate::ready::{each_number, take_least, wake};
 use crate::waiting::waiting_rules;
 use feature_account::Rule;
 use feature_account::found::{insert, is_open};
+use indexmap::IndexSet;
 use std::alloc::{AllocError, Global};
-use std::collections::BTreeSet;
 use workspace_record::Feature;
 
 /// The account that lists at each place the lowest rule that may stand there, until none may.
@@ -26,7 +26,7 @@ pub fn account_of(alloc: Global, rules: &[Rule]) -> Result<Account, AllocError>
 {
     let waiting = waiting_rules(alloc, rules)?;
     let mut ready = each_number(alloc, rules.len())?;
-    let mut found: BTreeSet<&Feature> = BTreeSet::new(alloc);
+    let mut found: IndexSet<&Feature> = IndexSet::new(alloc);
     let mut account = Vec::new(alloc);
     let mut looks = 0;
     while let Some(number) = take_least(&mut ready) {

@@ -5,8 +5,9 @@ ghost use Rattle.std.specs.BTreeSet.{btree_set_len};
 ghost use Rattle.workspace_record.specs.Features.{FeatureValue};
 ghost use Rattle.account_making.specs.Waiting.{waiting_at, IsEach, IsTakenLeast, IsWith};
 
+use indexmap::IndexMap;
 use std::alloc::{AllocError, Global};
-use std::collections::{BTreeMap, BTreeSet};
+use std::collections::BTreeSet;
 use workspace_record::Feature;
 
 /// The numbers of this many rules.
@@ -31,7 +32,7 @@ pub(crate) fn take_least(ready: &mut BTreeSet<usize>) -> Option<usize>
 /// Has the rules that wait for the feature looked at again.
 pub(crate) fn wake<'a>(
     ready: &mut BTreeSet<usize>,
-    waiting: &BTreeMap<&'a Feature, Vec<usize>>,
+    waiting: &IndexMap<&'a Feature, Vec<usize>>,
     feature: &'a Feature,
 ) -> Result<(), AllocError>
     ensures { OnOk result (IsWith ready.old (waiting_at waiting.now feature.entry.now) ready.new) }

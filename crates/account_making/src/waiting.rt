@@ -5,18 +5,18 @@ ghost use Rattle.workspace_record.specs.Features.{FeatureValue, feature_eq};
 ghost use Rattle.account_making.specs.Waiting.{is_premise, waiting_at, IsWaiting};
 
 use feature_account::{Premises, Rule};
+use indexmap::IndexMap;
 use std::alloc::{AllocError, Global};
-use std::collections::BTreeMap;
 use workspace_record::Feature;
 
 /// The numbers of the rules that wait for a feature, found by the feature.
 pub(crate) fn waiting_rules<'a>(
     alloc: Global,
     rules: &'a [Rule],
-) -> Result<BTreeMap<&'a Feature, Vec<usize>>, AllocError>
+) -> Result<IndexMap<&'a Feature, Vec<usize>>, AllocError>
     ensures { IfOk result (IsWaiting rules.entry.now) }
 {
-    let mut waiting = BTreeMap::new(alloc);
+    let mut waiting = IndexMap::new(alloc);
     for (number, rule) in rules.iter().enumerate() {
         add_premises(alloc, &mut waiting, &rule.premises, number)?;
     }
@@ -25,7 +25,7 @@ pub(crate) fn waiting_rules<'a>(
 
 fn add_premises<'a>(
     alloc: Global,
-    waiting: &mut BTreeMap<&'a Feature, Vec<usize>>,
+    waiting: &mut IndexMap<&'a Feature, Vec<usize>>,
     premises: &'a Premises,
     number: usize,
 ) -> Result<(), AllocError>
@@ -40,7 +40,7 @@ fn add_premises<'a>(
 
 fn add_two<'a>(
     alloc: Global,
-    waiting: &mut BTreeMap<&'a Feature, Vec<usize>>,
+    waiting: &mut IndexMap<&'a Feature, Vec<usize>>,
     first: &'a Feature,
     second: &'a Feature,
     number: usize,
@@ -55,17 +55,13 @@ fn add_two<'a>(
 
 fn add_number<'a>(
     alloc: Global,
-    waiting: &mut BTreeMap<&'a Feature, Vec<usize>>,
+    waiting: &mut IndexMap<&'a Feature, Vec<usize>>,
     feature: &'a Feature,
     number: usize,
 ) -> Result<(), AllocError>
     ensures { OnOk result ((f : FeatureValue) → waiting_at waiting.new f ≡ waiting_at waiting.old f ++ (if feature_eq f feature.entry.now then number ∷ [] else [])) }
 {
-    let mut numbers = match waiting.remove(&feature) {
-        Some(numbers) => numbers,
-        None => Vec::new(alloc),
-    };
+    let numbers = waiting.entry(feature)?.or_insert(Vec::new(alloc));
     numbers.push(number)?;
-    drop(waiting.insert(feature, numbers)?);
     Ok(())
 }

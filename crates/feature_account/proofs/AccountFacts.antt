@@ -1,15 +1,14 @@
 -- An account, read entry by entry.
 use Rattle.std.proofs.Common.{Bor, ◌≡◌, ℕ, zero, suc, ◌+◌, ◌<◌, ⊎_elim, true, false, ◌||◌, List, [], ◌∷◌, ◌++◌, Option, Some, None, length, take, get_or, append-nil, append_assoc, refl, sym, ◌∙◌, ap, subst, slice_get, Contains, true≢false, unwrap_or, Result, Ok, Err, IfOk, ◌↔◌}
-use Rattle.std.specs.BTreeMap as tree
-use Rattle.std.specs.BTreeSet.{BTreeSet}
 use Rattle.std.specs.List.{list_any, cons_option}
 use Rattle.std.specs.Option.{option_map}
 use Rattle.std.proofs.lemmas.List.{take_more}
 use Rattle.std.proofs.lemmas.List.Elements.{filter_map-append, Contains-push_cases}
 use Rattle.std.proofs.lemmas.List.Folds.{list_any-append}
 use Rattle.std.proofs.lemmas.Option.{slice_get_within, get_or_from_slice_get, slice_get-get_or}
+use Rattle.indexmap.specs.IndexSet.{IndexSet}
 use Rattle.list_facts.proofs.Tests.{and_not_parts, implied}
-use Rattle.workspace_record.specs.Features.{FeatureValue, feature_eq, feature_cmp}
+use Rattle.workspace_record.specs.Features.{FeatureValue, feature_eq}
 use Rattle.feature_account.specs.Closed.{FeatureSet, has_premises, is_open, IsClosed}
 use Rattle.feature_account.specs.Accounts.{conclusions, concluded_set, concludes, MayStand, IsSoundAfter, IsSound, IsFirstFault, IsUnknown, IsRepeated, IsUnsupported, IsFirstOpen, IsFault, IsVerdict, IsValidAccount}
 use Rattle.feature_account.specs.Found.{found_set}
@@ -27,9 +26,9 @@ pub record SoFar (rules : List Rule) (account : List ℕ) (place : ℕ) (found :
   pub sound : IsSound rules (take place account)
 
 -- nothing was read
-pub begins : (rules : List Rule) (account : List ℕ) (found : BTreeSet (Bor FeatureValue)) → found.keys ≡ [] → SoFar rules account 0 (found_set found)
+pub begins : {S : Type 0} (rules : List Rule) (account : List ℕ) (found : IndexSet (Bor FeatureValue) S) → found.keys ≡ [] → SoFar rules account 0 (found_set found)
 begins rules account found empty = record {
-  found_is = λ i f. list_any (tree.is_at (λ (k : Bor FeatureValue). feature_cmp f k.now)) (empty i);
+  found_is = λ i f. list_any (λ (k : Bor FeatureValue). feature_eq f k.now) (empty i);
   sound = tt;
 }
 

@@ -1,12 +1,9 @@
 -- Features that a set of lent features finds.
 use Rattle.std.proofs.Common.{◌≡◌, Bool, true, false, cond, ◌||◌, Bor, Result, Ok, Err, OnOk, refl, sym, ap, ◌∙◌}
-use Rattle.std.specs.BTreeSet as set
-use Rattle.std.specs.BTreeSet.{BTreeSet}
 use Rattle.std.specs.Cmp.{IsEquivalence}
-use Rattle.std.specs.Ordering.{eq_by_cmp}
-use Rattle.std.specs.declared.cmp.Ordering.{Ordering}
+use Rattle.indexmap.specs.IndexSet.{IndexSet, Updates}
 use Rattle.workspace_record.specs.Equality.{equivalence}
-use Rattle.workspace_record.specs.Features.{FeatureValue, feature_eq, feature_cmp, feature_ties, features_decide}
+use Rattle.workspace_record.specs.Features.{FeatureValue, feature_eq, features_decide}
 use Rattle.feature_account.specs.Closed.{FeatureSet, is_premise}
 use Rattle.feature_account.specs.Found.{found_set}
 use Rattle.feature_account.specs.declared.rule.Premises.{Premises}
@@ -16,12 +13,12 @@ use Rattle.feature_account.specs.declared.rule.Premises.TheVariants.{Two}
 abbrev pub lent : FeatureValue → Bor FeatureValue
 lent f = record { ref_ptr = (0, 0); now = f }
 
-abbrev pub lent_cmp : Bor FeatureValue → Bor FeatureValue → Ordering
-lent_cmp a b = feature_cmp a.now b.now
+abbrev pub lent_eq : Bor FeatureValue → Bor FeatureValue → Bool
+lent_eq a b = feature_eq a.now b.now
 
--- the order ties two features exactly where they are the same, either way round
-pub tied : (f g : FeatureValue) → eq_by_cmp feature_cmp g f ≡ feature_eq f g
-tied f g = sym (feature_ties g f) ∙ IsEquivalence.symm (equivalence features_decide) g f
+-- two features are the same either way round
+pub same_either_way : (f g : FeatureValue) → feature_eq g f ≡ feature_eq f g
+same_either_way f g = IsEquivalence.symm (equivalence features_decide) g f
 
 joined : (a b : Bool) → cond a true b ≡ (b || (a || false))
 joined true true = refl
@@ -30,9 +27,9 @@ joined false true = refl
 joined false false = refl
 
 -- one feature more is found
-pub found_more : (old new : BTreeSet (Bor FeatureValue)) (g : FeatureValue) → set.UpdatesBy lent_cmp (λ k. feature_cmp g k.now) old new true → (f : FeatureValue) → found_set new f ≡ (found_set old f || (feature_eq f g || false))
+pub found_more : {S : Type 0} (old new : IndexSet (Bor FeatureValue) S) (g : Bor FeatureValue) → Updates lent_eq old new g true → (f : FeatureValue) → found_set new f ≡ (found_set old f || (feature_eq f g.now || false))
 found_more old new g put f =
-    put.0 (lent f) ∙ ap (λ b. cond b true (found_set old f)) (tied f g) ∙ joined (feature_eq f g) (found_set old f)
+    put.0 (lent f) ∙ ap (λ b. cond b true (found_set old f)) (same_either_way f g.now) ∙ joined (feature_eq f g.now) (found_set old f)
 
 -- two features more are found
 both_found : (old a b : Bool) → ((old || (a || false)) || (b || false)) ≡ ((a || b) || old)

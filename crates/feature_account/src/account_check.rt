@@ -12,8 +12,8 @@ use crate::rule::Rule;
 use crate::rule_list::rules;
 use crate::soundness::first_fault;
 use crate::verdict::Verdict;
+use indexmap::IndexSet;
 use std::alloc::{AllocError, Global};
-use std::collections::BTreeSet;
 use workspace_record::{Feature, FeatureChoice, PlatformTable, WorkspaceRecord};
 
 /// Whether a list of rule numbers accounts for what is on: each rule is known, each conclusion is new,
@@ -21,8 +21,7 @@ use workspace_record::{Feature, FeatureChoice, PlatformTable, WorkspaceRecord};
 /// fault, a number that no rule has before a repeated conclusion before a missing premise at one place,
 /// and all of them before a rule that is left out.
 ///
-/// Takes any record. The work grows as that of `rules`, and with the entries and rules, times the
-/// logarithm of the entries.
+/// Takes any record. The work grows as that of `rules`, and with the entries and rules.
 pub fn check_account(
     alloc: Global,
     record: &WorkspaceRecord,
@@ -39,7 +38,7 @@ pub fn check_account(
 }
 
 // The lowest rule that is open, if there is one.
-fn first_open<'a>(rules: &'a [Rule], concluded: &BTreeSet<&'a Feature>) -> Option<usize>
+fn first_open<'a>(rules: &'a [Rule], concluded: &IndexSet<&'a Feature>) -> Option<usize>
     ensures none { IfNone result (IsClosed rules.entry.now (found_set concluded.now)) }
     ensures first { IfSome result (IsFirstOpen rules.entry.now (found_set concluded.now)) }
 {
@@ -54,7 +53,7 @@ fn first_open<'a>(rules: &'a [Rule], concluded: &BTreeSet<&'a Feature>) -> Optio
 fn verdict_of(alloc: Global, rules: &[Rule], account: &[usize]) -> Result<Verdict, AllocError>
     ensures { IfOk result (IsVerdict rules.now account.now) }
 {
-    let mut concluded = BTreeSet::new(alloc);
+    let mut concluded = IndexSet::new(alloc);
     match first_fault(rules, account, &mut concluded)? {
         Some(fault) => Ok(fault),
         None => match first_open(rules, &concluded) {

@@ -10,8 +10,8 @@ use crate::rule::Rule;
 use crate::rule_list::rules;
 use crate::soundness::{first_fault, rule_of};
 use crate::verdict::Verdict;
+use indexmap::IndexSet;
 use std::alloc::{AllocError, Global};
-use std::collections::BTreeSet;
 use workspace_record::{Feature, FeatureChoice, PlatformTable, WorkspaceRecord};
 
 /// Whether a list of rule numbers explains why the feature is on: each rule is known, each conclusion
@@ -20,7 +20,7 @@ use workspace_record::{Feature, FeatureChoice, PlatformTable, WorkspaceRecord};
 /// stand, by place, as `check_account` tells them, before a goal that is not reached, and that before an
 /// entry that is not used.
 ///
-/// Takes any record. The work grows as that of `rules`, and with the entries times their logarithm.
+/// Takes any record. The work grows as that of `rules`, and with the entries.
 pub fn check_explanation(
     alloc: Global,
     record: &WorkspaceRecord,
@@ -45,7 +45,7 @@ fn verdict_of(
 ) -> Result<Verdict, AllocError>
     ensures { IfOk result (IsExplanationVerdict rules.now goal.now entries.now) }
 {
-    let mut concluded = BTreeSet::new(alloc);
+    let mut concluded = IndexSet::new(alloc);
     match first_fault(rules, entries, &mut concluded)? {
         Some(fault) => Ok(fault),
         None => verdict_on_use(alloc, rules, goal, entries),
@@ -94,7 +94,7 @@ fn first_unused(
     requires { IsSound rules.now entries.now }
     ensures { IfOk result (λ o. MatchOption o (EachIsUsed rules.now entries.now) (IsFirstUnused rules.now entries.now)) }
 {
-    let mut needed: BTreeSet<&Feature> = BTreeSet::new(alloc);
+    let mut needed: IndexSet<&Feature> = IndexSet::new(alloc);
     let mut unused = None;
     for place in (0..entries.len()).rev() {
         let rule = rule_of(rules, entries[place]);

@@ -7,15 +7,15 @@ ghost use Rattle.feature_account.specs.Found.{found_set};
 use crate::found::{contains, has_premises, insert};
 use crate::rule::Rule;
 use crate::verdict::Verdict;
+use indexmap::IndexSet;
 use std::alloc::AllocError;
-use std::collections::BTreeSet;
 use workspace_record::Feature;
 
 /// The first entry that may not stand, if there is one; else all that the entries conclude is found.
 pub(crate) fn first_fault<'a>(
     rules: &'a [Rule],
     entries: &[usize],
-    concluded: &mut BTreeSet<&'a Feature>,
+    concluded: &mut IndexSet<&'a Feature>,
 ) -> Result<Option<Verdict>, AllocError>
     requires { concluded.old.keys ≡ [] }
     ensures fault { IfOk result (λ o. IfSome o (IsFault rules.entry.now entries.now)) }
