@@ -7,17 +7,15 @@ ghost use Rattle.guppy_package_table.specs.Tables.{IsTableOf};
 use crate::package_graph::PackageGraph;
 use guppy_package_parts::LinkRow;
 use std::alloc::{AllocError, Global};
-use workspace_record::copy_packages;
 
 impl PackageGraph {
     /// The graph of the same packages and workspace with these links, which keep the rules, so that none
-    /// is tested.
+    /// is tested. The rows of packages are shared, not copied.
     pub fn with_links(&self, alloc: Global, links: Vec<LinkRow>) -> Result<PackageGraph, AllocError>
         requires kept { AreKept self.now.packages links.items self.now.workspace }
         ensures built { IfOk result (λ g. AreKept self.now.packages links.items self.now.workspace × IsTableOf self.now.packages links.items self.now.workspace g) }
     {
-        let packages = copy_packages(alloc, self.table().packages())?;
-        let workspace = self.table().workspace().copy(alloc)?;
-        PackageGraph::of_kept(alloc, packages, links, workspace)
+        let table = self.table().with_links(alloc, links)?;
+        PackageGraph::of_table(alloc, table)
     }
 }

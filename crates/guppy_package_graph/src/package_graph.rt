@@ -71,28 +71,20 @@ impl PackageGraph {
         }
     }
 
-    /// The graph of rows that keep the rules.
-    pub(crate) fn of_kept(
-        alloc: Global,
-        packages: Vec<PackageRow>,
-        links: Vec<LinkRow>,
-        workspace: WorkspaceRow,
-    ) -> Result<PackageGraph, AllocError>
-        requires { AreKept packages.items links.items workspace }
-        ensures { IfOk result (λ g. AreKept packages.items links.items workspace × IsTableOf packages.items links.items workspace g) }
+    /// The graph of a table whose rows keep the rules.
+    pub(crate) fn of_table(alloc: Global, table: PackageTable) -> Result<PackageGraph, AllocError>
+        requires { AreKept table.packages table.links table.workspace }
+        ensures { IfOk result (λ g. g ≡ table) }
     {
-        let table = PackageTable::of_kept(alloc, packages, links, workspace)?;
         let members = member_orders(alloc, &table)?;
         Ok(PackageGraph { table, members })
     }
 
-    /// An equal graph in memory of its own.
+    /// An equal graph, with links of its own.
     pub fn copy(&self, alloc: Global) -> Result<PackageGraph, AllocError>
         ensures same { IfOk result (λ g. g ≡ self.now) }
     {
-        let table = self.table.copy(alloc)?;
-        let members = member_orders(alloc, &table)?;
-        Ok(PackageGraph { table, members })
+        PackageGraph::of_table(alloc, self.table.copy(alloc)?)
     }
 
     /// The rows with what is found in them at once.

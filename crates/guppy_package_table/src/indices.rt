@@ -1,11 +1,10 @@
 //! What is found in rows at once.
 
 ghost use Rattle.std.specs.Prelude.{◌≡◌, IfOk, length, map, nat_lt};
-ghost use Rattle.package_rules.specs.Kept.{AreKept};
 ghost use Rattle.numbered_graph.specs.Listings.{IsListing};
 ghost use Rattle.numbered_graph.specs.Sets.{has};
-ghost use Rattle.guppy_package_table.specs.Indices.{Indexes};
-ghost use Rattle.guppy_package_table.specs.Tables.{AreKnownEnds, firm_flags, link_between};
+ghost use Rattle.guppy_package_table.specs.Indices.{ArePackagesKept, IndexesLinks, IndexesPackages};
+ghost use Rattle.guppy_package_table.specs.Tables.{AreKnownEnds, firm_flags, ids_of, link_between};
 
 use crate::members::{Members, members_of};
 use crate::numbering::{firm_links, numbered_links};
@@ -17,57 +16,101 @@ use numbered_graph::{Graph, listing};
 use semver::{Version, VersionReq};
 use std::alloc::{AllocError, Global};
 
-/// Packages by id, what was read in the rows, the graph of the places of packages with its listing,
-/// and the places of members.
-pub struct Indices {
+/// Packages by id, the versions that were read, and the places of members.
+pub struct PackageIndices {
     pub ids: IndexSet<PackageId>,
     pub versions: Vec<Version>,
-    pub requirements: Vec<VersionReq>,
-    pub rust_names: Vec<String>,
-    pub graph: Graph,
-    pub listing: Vec<usize>,
     pub members: Members,
 }
 
 // Written out, so that a function that lets one go takes one step.
-impl Drop for Indices {
+impl Drop for PackageIndices {
     fn drop(self) {
-        let Indices {
+        let PackageIndices {
             ids: _,
             versions: _,
-            requirements: _,
-            rust_names: _,
-            graph: _,
-            listing: _,
             members: _,
         } = self;
     }
 }
 
-pub fn indices_of(
+/// Packages and a workspace with their indices, which tables share that differ in their links alone.
+pub struct SharedRows {
+    pub packages: Vec<PackageRow>,
+    pub workspace: WorkspaceRow,
+    pub indices: PackageIndices,
+}
+
+// Written out, so that a function that lets one go takes one step.
+impl Drop for SharedRows {
+    fn drop(self) {
+        let SharedRows {
+            packages: _,
+            workspace: _,
+            indices: _,
+        } = self;
+    }
+}
+
+/// The requirements that were read, names as Rust writes them, and the graph of the places of packages
+/// with its listing.
+pub struct LinkIndices {
+    pub requirements: Vec<VersionReq>,
+    pub rust_names: Vec<String>,
+    pub graph: Graph,
+    pub listing: Vec<usize>,
+}
+
+// Written out, so that a function that lets one go takes one step.
+impl Drop for LinkIndices {
+    fn drop(self) {
+        let LinkIndices {
+            requirements: _,
+            rust_names: _,
+            graph: _,
+            listing: _,
+        } = self;
+    }
+}
+
+/// What is found at once in packages and a workspace, which keep the rules with some links.
+pub(crate) fn package_indices(
     alloc: Global,
     packages: &[PackageRow],
-    links: &[LinkRow],
     workspace: &WorkspaceRow,
-) -> Result<Indices, AllocError>
-    requires { AreKept packages.now links.now workspace.now }
-    ensures { IfOk result (Indexes packages.now links.now workspace.now) }
+) -> Result<PackageIndices, AllocError>
+    requires { ArePackagesKept packages.now workspace.now }
+    ensures { IfOk result (IndexesPackages packages.now workspace.now) }
 {
     let ids = ids_of(alloc, packages)?;
-    let graph = graph_of(alloc, &ids, links)?;
-    let listing = listing_of(alloc, &graph, links)?;
     let versions = versions_of(alloc, packages)?;
-    let requirements = requirements_of(alloc, links)?;
-    let rust_names = rust_names_of(alloc, links)?;
     let members = members_of(alloc, &ids, workspace)?;
-    Ok(Indices {
+    Ok(PackageIndices {
         ids,
         versions,
+        members,
+    })
+}
+
+/// What is found at once in links between these packages.
+pub(crate) fn link_indices(
+    alloc: Global,
+    shared: &SharedRows,
+    links: &[LinkRow],
+) -> Result<LinkIndices, AllocError>
+    requires ids { shared.now.indices.ids.keys ≡ ids_of shared.now.packages.items }
+    requires ends { AreKnownEnds (ids_of shared.now.packages.items) links.now }
+    ensures { IfOk result (IndexesLinks shared.now.packages.items links.now) }
+{
+    let requirements = requirements_of(alloc, links)?;
+    let rust_names = rust_names_of(alloc, links)?;
+    let graph = graph_of(alloc, &shared.indices.ids, links)?;
+    let listing = listing_of(alloc, &graph, links)?;
+    Ok(LinkIndices {
         requirements,
         rust_names,
         graph,
         listing,
-        members,
     })
 }
 

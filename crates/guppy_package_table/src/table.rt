@@ -6,12 +6,13 @@ ghost use Rattle.std.specs.Str.{bytes_eq};
 ghost use Rattle.numbered_graph.specs.Listings.{IsListing};
 ghost use Rattle.numbered_graph.specs.Sets.{has};
 ghost use Rattle.package_rules.specs.Kept.{AreKept};
+ghost use Rattle.guppy_package_table.specs.Indices.{IndexesPackages};
 ghost use Rattle.guppy_package_table.specs.LinkDetailsViews as link_views;
 ghost use Rattle.guppy_package_table.specs.PackageDetailsViews.{member_path_of, row_of};
 ghost use Rattle.guppy_package_table.specs.Refusals.{IsRefusal};
-ghost use Rattle.guppy_package_table.specs.Tables.{IsClear, IsFirstBetween, IsTableOf, firm_flags, ids_of, member_of, member_path_at, numbered_links, place_among};
+ghost use Rattle.guppy_package_table.specs.Tables.{AreKnownEnds, IsClear, IsFirstBetween, IsTableOf, firm_flags, ids_of, member_of, member_path_at, numbered_links, place_among};
 
-use crate::indices::{Indices, indices_of};
+use crate::indices::{LinkIndices, SharedRows, link_indices, package_indices};
 use crate::link_details::LinkDetails;
 use crate::members::member_among;
 use crate::package_details::PackageDetails;
@@ -22,38 +23,36 @@ use numbered_graph::{Direction, Graph};
 use package_rules::first_broken_rule;
 use std::alloc::{AllocError, Global};
 use std::marker::Model;
-use workspace_record::{copy_links, copy_packages};
+use std::rc::Rc;
+use workspace_record::copy_links;
 
 /// The rows of a package graph: packages and links are told by their places in the lists.
 pub struct PackageTable {
-    packages: Vec<PackageRow>,
+    shared: Rc<SharedRows>,
     links: Vec<LinkRow>,
-    workspace: WorkspaceRow,
-    indices: Indices,
+    indices: LinkIndices,
 }
 
 // Written out, so that a function that lets one go takes one step.
 impl Drop for PackageTable {
     fn drop(self) {
         let PackageTable {
-            packages: _,
+            shared: _,
             links: _,
-            workspace: _,
             indices: _,
         } = self;
     }
 }
 
 impl Model for PackageTable {
-    ghost use Rattle.guppy_package_table.specs.Indices.{Indexes};
-    ghost use Rattle.guppy_package_table.specs.Refusals.{IsRefusal};
+    ghost use Rattle.guppy_package_table.specs.Indices.{IndexesLinks, IndexesPackages};
     ghost use Rattle.guppy_package_table.specs.Tables.{TableValue};
 
     ghost Value = { TableValue };
 
-    ghost view = { λ t. record { packages = t.packages.items; links = t.links.items; workspace = t.workspace; listing = t.indices.listing.items } };
+    ghost view = { λ t. record { packages = t.shared.value.packages.items; links = t.links.items; workspace = t.shared.value.workspace; listing = t.indices.listing.items } };
 
-    ghost invariant = { λ t. Indexes t.packages.items t.links.items t.workspace t.indices };
+    ghost invariant = { λ t. IndexesPackages t.shared.value.packages.items t.shared.value.workspace t.shared.value.indices × IndexesLinks t.shared.value.packages.items t.links.items t.indices };
 }
 
 impl PackageTable {
@@ -85,25 +84,48 @@ impl PackageTable {
         requires kept { AreKept packages.items links.items workspace }
         ensures built { IfOk result (IsTableOf packages.items links.items workspace) }
     {
-        let indices = indices_of(alloc, &packages, &links, &workspace)?;
-        Ok(PackageTable {
+        let indices = package_indices(alloc, &packages, &workspace)?;
+        let rows = SharedRows {
             packages,
-            links,
             workspace,
+            indices,
+        };
+        PackageTable::over(alloc, Rc::new(alloc, rows)?, links)
+    }
+
+    /// The table of the same packages and workspace with these links, which keep the rules with them.
+    pub fn with_links(&self, alloc: Global, links: Vec<LinkRow>) -> Result<PackageTable, AllocError>
+        requires kept { AreKept self.now.packages links.items self.now.workspace }
+        ensures built { IfOk result (IsTableOf self.now.packages links.items self.now.workspace) }
+    {
+        PackageTable::over(alloc, self.shared.clone()?, links)
+    }
+
+    fn over(
+        alloc: Global,
+        shared: Rc<SharedRows>,
+        links: Vec<LinkRow>,
+    ) -> Result<PackageTable, AllocError>
+        requires ends { AreKnownEnds (ids_of shared.value.packages.items) links.items }
+        requires indexed { IndexesPackages shared.value.packages.items shared.value.workspace shared.value.indices }
+        ensures { IfOk result (IsTableOf shared.value.packages.items links.items shared.value.workspace) }
+    {
+        let indices = link_indices(alloc, shared.as_ref(), &links)?;
+        Ok(PackageTable {
+            shared,
+            links,
             indices,
         })
     }
 
-    /// An equal table in memory of its own.
+    /// An equal table, with links of its own.
     pub fn copy(&self, alloc: Global) -> Result<PackageTable, AllocError>
         requires { AreKept self.now.packages self.now.links self.now.workspace }
         ensures same { IfOk result (λ t. t ≡ self.now) }
     {
         let listing = Vec::from_slice(alloc, self.listing())?;
-        let packages = copy_packages(alloc, &self.packages)?;
         let links = copy_links(alloc, &self.links)?;
-        let workspace = self.workspace.copy(alloc)?;
-        let table = PackageTable::of_kept(alloc, packages, links, workspace)?;
+        let table = self.with_links(alloc, links)?;
         Ok(table.listed_so(listing))
     }
 
@@ -120,7 +142,7 @@ impl PackageTable {
     pub fn packages(&self) -> &[PackageRow]
         ensures { result.now ≡ self.now.packages }
     {
-        &self.packages
+        &self.shared.as_ref().packages
     }
 
     /// The links' rows, in the order of the record.
@@ -134,7 +156,7 @@ impl PackageTable {
     pub fn workspace(&self) -> &WorkspaceRow
         ensures { result.now ≡ self.now.workspace }
     {
-        &self.workspace
+        &self.shared.as_ref().workspace
     }
 
     /// The places of packages with the links between them, each with its number.
@@ -157,7 +179,7 @@ impl PackageTable {
     pub fn ids(&self) -> &[PackageId]
         ensures { result.now ≡ ids_of self.now.packages }
     {
-        self.indices.ids.as_slice()
+        self.shared.as_ref().indices.ids.as_slice()
     }
 
     /// The id of the package at a place.
@@ -165,21 +187,22 @@ impl PackageTable {
         requires { place < length self.now.packages }
         ensures { slice_get (ids_of self.now.packages) place ≡ Some result.now }
     {
-        &self.indices.ids.as_slice()[place]
+        &self.ids()[place]
     }
 
     /// The place of the package with an id.
     pub fn find(&self, id: &PackageId) -> Option<usize>
         ensures { result ≡ position (bytes_eq id.now) (ids_of self.now.packages) }
     {
-        find_id(&self.indices.ids, id.repr())
+        find_id(&self.shared.as_ref().indices.ids, id.repr())
     }
 
     /// The member whose package has an id.
     pub fn member(&self, id: &str) -> Option<&MemberRow>
         ensures { option_copied result ≡ member_of self.now id.now }
     {
-        member_among(&self.indices.members.ids, &self.workspace.members, id)
+        let shared = self.shared.as_ref();
+        member_among(&shared.indices.members.ids, &shared.workspace.members, id)
     }
 
     /// What the row of the package at a place says.
@@ -188,8 +211,9 @@ impl PackageTable {
         ensures row { slice_get self.now.packages place ≡ Some (row_of result) }
         ensures path { member_path_of result ≡ option_map (λ m. m.path) (member_of self.now (row_of result).id) }
     {
-        let row = &self.packages[place];
-        let version = &self.indices.versions[place];
+        let shared = self.shared.as_ref();
+        let row = &shared.packages[place];
+        let version = &shared.indices.versions[place];
         let member_path = self.member_path(row.id.as_str());
         PackageDetails::of(row, version, member_path)
     }
@@ -216,7 +240,7 @@ impl PackageTable {
         ensures value { result.now ≡ map (λ m. place_among (ids_of self.now.packages) m.package_id) self.now.workspace.members }
         ensures within { All (λ v. v < length self.now.packages) result.now }
     {
-        &self.indices.members.places
+        &self.shared.as_ref().indices.members.places
     }
 
     /// The place of each default member's package, in their order.
@@ -224,7 +248,7 @@ impl PackageTable {
         ensures value { result.now ≡ map (place_among (ids_of self.now.packages)) self.now.workspace.default_members }
         ensures within { All (λ v. v < length self.now.packages) result.now }
     {
-        &self.indices.members.defaults
+        &self.shared.as_ref().indices.members.defaults
     }
 
     /// The first link from one package to another, in the order of the record.

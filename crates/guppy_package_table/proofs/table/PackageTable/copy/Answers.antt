@@ -7,6 +7,6 @@ pub listed_so-requires : goal.listed_so-requires
 listed_so-requires c =
     let old = c.args.self.now in
     let made = c.in_ok-table.ensures.built in
-    let packages : c.in_ok-table.table.packages ≡ old.packages = made.rows ∙ c.in_ok-packages.ensures ∙ c.deref.ensures.value ∙ ap (λ (t : TableValue). t.packages) c.self.view_is in
-    let links : c.in_ok-table.table.links ≡ old.links = made.link_rows ∙ c.in_ok-links.ensures ∙ c.deref-2.ensures.value ∙ ap (λ (t : TableValue). t.links) c.self.view_is in
+    let packages : c.in_ok-table.table.packages ≡ old.packages = made.rows in
+    let links : c.in_ok-table.table.links ≡ old.links = made.link_rows ∙ c.in_ok-links.ensures ∙ c.deref.ensures.value ∙ ap (λ (t : TableValue). t.links) c.self.view_is in
     listed_alike old.packages _ old.links _ c.listing.result.now _ packages links c.in_ok-listing.ensures.items c.listing.ensures.listing

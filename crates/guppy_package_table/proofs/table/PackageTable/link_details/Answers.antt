@@ -9,13 +9,13 @@ use Rattle.guppy_package_table.proofs.table.PackageTable.link_details.Goals as g
 
 pub of-requires-clause-read : goal.of-requires-clause-read
 of-requires-clause-read c =
-    same_read (λ l. req_of l.requirement) (λ r. Ok (map comparator_view r.comparators.items)) _ _ c.args.number c.index-2.result.now c.index-requirement.result.now c.self.invariant.requirements
+    same_read (λ l. req_of l.requirement) (λ r. Ok (map comparator_view r.comparators.items)) _ _ c.args.number c.index-2.result.now c.index-requirement.result.now c.self.invariant.1.requirements
     (subst (λ (t : TableValue). c.args.number < length t.links) (sym c.self.view_is) c.requires) c.index-2.ensures c.index-requirement.ensures
 
 pub of-requires-clause-resolved : goal.of-requires-clause-resolved
 of-requires-clause-resolved c =
     c.as_str-rust_name.ensures.value
-    ∙ sym (same_read (λ l. name_in_rust l.name) string_bytes _ _ c.args.number c.index-2.result.now c.index.result.now (sym c.self.invariant.rust_names)
+    ∙ sym (same_read (λ l. name_in_rust l.name) string_bytes _ _ c.args.number c.index-2.result.now c.index.result.now (sym c.self.invariant.1.rust_names)
     (subst (λ (t : TableValue). c.args.number < length t.links) (sym c.self.view_is) c.requires) c.index-2.ensures c.index.ensures)
 
 pub returns : goal.returns

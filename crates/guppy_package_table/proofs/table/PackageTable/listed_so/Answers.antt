@@ -6,15 +6,12 @@ use Rattle.guppy_package_table.proofs.table.PackageTable.listed_so.Goals as goal
 
 pub invariant_of-self : goal.invariant_of-self
 invariant_of-self c =
-    let kept = c.self.invariant in
-    record {
-      ids = kept.ids;
-      versions = kept.versions;
-      requirements = kept.requirements;
-      rust_names = kept.rust_names;
-      graph = kept.graph;
-      listing = subst (λ (t : TableValue). IsListing (numbered_links t) (has (firm_flags t.links)) (λ v. nat_lt v (length t.packages)) c.args.listing.items) (sym c.self.view_is) c.requires;
-      members = kept.members;
-      member_places = kept.member_places;
-      default_places = kept.default_places;
-    }
+    let kept = c.self.invariant in (
+      kept.0,
+      record {
+        requirements = kept.1.requirements;
+        rust_names = kept.1.rust_names;
+        graph = kept.1.graph;
+        listing = subst (λ (t : TableValue). IsListing (numbered_links t) (has (firm_flags t.links)) (λ v. nat_lt v (length t.packages)) c.args.listing.items) (sym c.self.view_is) c.requires;
+      },
+    )

@@ -1,0 +1,19 @@
+use Rattle.std.proofs.Common.{sym, subst, ℕ, ◌<◌, All, length}
+use Rattle.guppy_package_table.specs.Tables.{ids_of}
+use Rattle.guppy_package_table.specs.Members.{AreMembers}
+use Rattle.guppy_package_table.proofs.Places.{defaults_within, members_within}
+use Rattle.guppy_package_table.proofs.indices.package_indices.Goals as goal
+
+pub returns : goal.returns
+returns c =
+    let packages = c.args.packages.now in
+    let workspace = c.args.workspace.now in
+    let members : AreMembers (ids_of packages) workspace c.in_ok-members.members = subst (λ ids. AreMembers ids workspace c.in_ok-members.members) c.in_ok-ids.ensures c.in_ok-members.ensures in
+    let within : ℕ → Type 0 = λ v. v < length packages in
+    record {
+      ids = c.in_ok-ids.ensures;
+      versions = c.in_ok-versions.ensures;
+      members = members;
+      member_places = subst (All within) (sym members.places) (members_within packages workspace.members c.requires.members_known);
+      default_places = subst (All within) (sym members.defaults) (defaults_within packages workspace c.requires.members_known c.requires.defaults_are_members);
+    }
