@@ -21,7 +21,8 @@ module _ {T : Type 0} {eq : T → T → Bool} (laws : IsEquivalence eq) where
   any-without_by a b p ps true false ne e g h = λ i. e i || h i
   any-without_by a b p ps false false ne e g h = λ i. e i || h i
 
-  any-without : (a b : T) (ps : List T) → eq a b ≡ false → list_any (eq a) (without b ps) ≡ list_any (eq a) ps
+  -- a test by another element finds the same without those of the one
+  pub any-without : (a b : T) (ps : List T) → eq a b ≡ false → list_any (eq a) (without b ps) ≡ list_any (eq a) ps
   any-without a b [] ne = refl
   any-without a b (p ∷ ps) ne = any-without_by a b p ps _ _ ne refl refl (any-without a b ps ne)
 

@@ -10,7 +10,13 @@ kept-append : (nodes : List FeatureValue) (ds es : List DemandValue) → kept_de
 kept-append nodes ds es =
     ap (λ xs. filter (is_between_nodes (length nodes)) xs) (map-append (with_numbers nodes) ds es) ∙ filter-append (is_between_nodes (length nodes)) (map (with_numbers nodes) ds) (map (with_numbers nodes) es)
 
-pub kept_more : {X : Type 0} (nodes : List FeatureValue) (view : X → DemandValue) (xs : List X) (i : ℕ) (d : X) → i < length xs → (old new : List NumberedValue) → old ≡ kept_demands nodes (map view (take i xs)) → new ≡ old ++ kept_demands nodes (view (get_or xs i d) ∷ []) → new ≡ kept_demands nodes (map view (take (i + 1) xs))
+kept_more : {X : Type 0} (nodes : List FeatureValue) (view : X → DemandValue) (xs : List X) (i : ℕ) (d : X) → i < length xs → (old new : List NumberedValue) → old ≡ kept_demands nodes (map view (take i xs)) → new ≡ old ++ kept_demands nodes (view (get_or xs i d) ∷ []) → new ≡ kept_demands nodes (map view (take (i + 1) xs))
 kept_more nodes view xs i d lt old new before pushed =
     let one = view (get_or xs i d) ∷ [] in
     pushed ∙ ap (λ ks. ks ++ kept_demands nodes one) before ∙ sym (kept-append nodes (map view (take i xs)) one) ∙ ap (kept_demands nodes) (sym (map-take_more view xs i d lt))
+
+-- one demand more, whose numbers were found among nodes that are these
+pub kept_next : {X : Type 0} (nodes ns : List FeatureValue) (view : X → DemandValue) (xs : List X) (i : ℕ) (d : X) → i < length xs → (old new : List NumberedValue) (n : NumberedValue) → old ≡ kept_demands nodes (map view (take i xs)) → ns ≡ nodes → n ≡ with_numbers ns (view (get_or xs i d)) → new ≡ old ++ filter (is_between_nodes (length nodes)) (n ∷ []) → new ≡ kept_demands nodes (map view (take (i + 1) xs))
+kept_next nodes ns view xs i d lt old new n before same is pushed =
+    let numbered = is ∙ ap (λ ms. with_numbers ms (view (get_or xs i d))) same in
+    kept_more nodes view xs i d lt old new before (pushed ∙ ap (λ m. old ++ filter (is_between_nodes (length nodes)) (m ∷ [])) numbered)

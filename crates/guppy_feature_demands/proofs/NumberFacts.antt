@@ -1,10 +1,12 @@
 -- Places in lists, and lists with their places.
-use Rattle.std.proofs.Common.{◌≡◌, ℕ, zero, suc, ◌+◌, ◌<◌, ◌≤◌, length, get_or, take, Bool, true, false, cond, not, List, [], ◌∷◌, ◌++◌, map, nat_lt, Some, None, position, refl, sym, ◌∙◌, ap, arith}
+use Rattle.std.proofs.Common.{◌≡◌, ℕ, zero, suc, ◌+◌, ◌<◌, ◌≤◌, length, get_or, take, Bool, true, false, cond, not, List, [], ◌∷◌, ◌++◌, map, nat_lt, Some, None, position, refl, sym, ◌∙◌, ap, arith, append_assoc, append-nil, flat_map}
 use Rattle.std.proofs.lemmas.Bool.Decides.{nat_tests}
 use Rattle.std.proofs.lemmas.List.{map-append}
 use Rattle.std.proofs.lemmas.List.Sums.{prefix_len-le-length}
 use Rattle.std.specs.List.{position_or_len}
-use Rattle.guppy_feature_demands.specs.Numbered.{numbered_from}
+use Rattle.list_facts.proofs.Lists.{flat_map-append, flat_map-map}
+use Rattle.workspace_record.specs.Records.{Line, Link}
+use Rattle.guppy_feature_demands.specs.Numbered.{lines_of, numbered, numbered_from}
 
 pub position_or_len-map : {X Y : Type 0} (test : Y → Bool) (f : X → Y) (xs : List X) → position_or_len test (map f xs) ≡ position_or_len (λ x. test (f x)) xs
 position_or_len-map test f [] = refl
@@ -44,12 +46,34 @@ numbered_one xs i d lt =
     let same : 0 + i ≡ i = omega arith in
     numbered_more 0 xs i d lt ∙ ap (λ (k : ℕ). numbered_from 0 (take i xs) ++ (k, get_or xs i d) ∷ []) same
 
--- one element more, seen by f
-pub numbered_step : {X Y A : Type 0} (view : A → Y) (f : ℕ × X → Y) (xs : List X) (i : ℕ) (d : X) → i < length xs → (old new : List A) (a : A) → map view old ≡ map f (numbered_from 0 (take i xs)) → view a ≡ f (i, get_or xs i d) → new ≡ old ++ a ∷ [] → map view new ≡ map f (numbered_from 0 (take (i + 1) xs))
-numbered_step view f xs i d lt old new a before seen pushed =
-    ap (map view) pushed ∙ map-append view old (a ∷ []) ∙ (λ j. before j ++ seen j ∷ []) ∙ sym (map-append f (numbered_from 0 (take i xs)) ((i, get_or xs i d) ∷ [])) ∙ ap (map f) (sym (numbered_one xs i d lt))
+module _ {X Y : Type 0} (xs : List X) (i : ℕ) (d : X) where
+  -- one element more, which gives one, after what stood before
+  pub numbered_map : (f : ℕ × X → Y) → i < length xs → (base old new : List Y) → old ≡ base ++ map f (numbered_from 0 (take i xs)) → new ≡ old ++ f (i, get_or xs i d) ∷ [] → new ≡ base ++ map f (numbered_from 0 (take (i + 1) xs))
+  numbered_map f lt base old new before pushed =
+      let now = numbered_from 0 (take i xs) in
+      let one : List (ℕ × X) = (i, get_or xs i d) ∷ [] in
+      pushed ∙ ap (λ ys. ys ++ map f one) before ∙ append_assoc base (map f now) (map f one) ∙ ap (λ ys. base ++ ys) (sym (map-append f now one) ∙ ap (map f) (sym (numbered_one xs i d lt)))
+
+  -- one element more, which gives several, after what stood before
+  pub numbered_flat : (f : ℕ × X → List Y) → i < length xs → (base old new : List Y) → old ≡ base ++ flat_map f (numbered_from 0 (take i xs)) → new ≡ old ++ f (i, get_or xs i d) → new ≡ base ++ flat_map f (numbered_from 0 (take (i + 1) xs))
+  numbered_flat f lt base old new before pushed =
+      let now = numbered_from 0 (take i xs) in
+      let at : ℕ × X = (i, get_or xs i d) in
+      pushed ∙ ap (λ ys. ys ++ f at) before ∙ append_assoc base (flat_map f now) (f at) ∙ ap (λ ys. base ++ ys) (ap (λ ys. flat_map f now ++ ys) (sym (append-nil (f at))) ∙ sym (flat_map-append f now (at ∷ [])) ∙ ap (flat_map f) (sym (numbered_one xs i d lt)))
 
 -- one element more, as it is
 pub numbered_push : {X A : Type 0} (view : A → ℕ × X) (xs : List X) (i : ℕ) (d : X) → i < length xs → (old new : List A) (a : A) → map view old ≡ numbered_from 0 (take i xs) → view a ≡ (i, get_or xs i d) → new ≡ old ++ a ∷ [] → map view new ≡ numbered_from 0 (take (i + 1) xs)
 numbered_push view xs i d lt old new a before seen pushed =
     ap (map view) pushed ∙ map-append view old (a ∷ []) ∙ (λ j. before j ++ seen j ∷ []) ∙ sym (numbered_one xs i d lt)
+
+map_places : {X Y Z : Type 0} (g : Y → Z) (f : X → Y) (xs : List X) → map g (map f xs) ≡ map (λ x. g (f x)) xs
+map_places g f [] = refl
+map_places g f (x ∷ xs) = ap (λ ys. g (f x) ∷ ys) (map_places g f xs)
+
+-- what is said of each line of a link is said of each with its number
+pub lines_said : {Y : Type 0} (say : (ℕ × ℕ) × Line → Y) (link : ℕ × Link) → map say (lines_of link) ≡ map (λ line. say ((link.0, line.0), line.1)) (numbered link.1.lines)
+lines_said say link = map_places say (λ (line : ℕ × Line). ((link.0, line.0), line.1)) (numbered link.1.lines)
+
+-- the same of several that are said
+pub lines_flat : {Y : Type 0} (say : (ℕ × ℕ) × Line → List Y) (link : ℕ × Link) → flat_map say (lines_of link) ≡ flat_map (λ line. say ((link.0, line.0), line.1)) (numbered link.1.lines)
+lines_flat say link = flat_map-map say (λ (line : ℕ × Line). ((link.0, line.0), line.1)) (numbered link.1.lines)

@@ -11,3 +11,5 @@ pub mod Warnings
 pub mod LinkNames
 pub mod NamedRows
 pub mod StageViews
+pub mod EntriesAt
+pub mod EntryAtView

@@ -5,6 +5,7 @@
 
 mod demand;
 mod demands;
+mod entries;
 mod entry;
 mod feature_name;
 mod link_names;

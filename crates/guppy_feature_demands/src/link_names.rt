@@ -1,6 +1,6 @@
 //! The links of packages by the names that they give them.
 
-ghost use Rattle.std.specs.Prelude.{◌≡◌, ◌++◌, ◌∷◌, [], None, cond, IfNone, IfOk, IfSome, OnOk, map};
+ghost use Rattle.std.specs.Prelude.{◌≡◌, ◌++◌, ◌∷◌, [], IfNone, IfOk, IfSome, OnOk, map};
 ghost use Rattle.indexmap.specs.IndexMap.{get};
 ghost use Rattle.guppy_feature_demands.specs.LinkNames.{NamesLinks, key_eq, links_in};
 ghost use Rattle.guppy_feature_demands.specs.Numbered.{links_named};
@@ -101,19 +101,7 @@ fn push_link<'g>(
         from: row.from.as_str(),
         name: row.name.as_str(),
     };
-    let mut group = take_group(alloc, names, key);
+    let group = names.groups.entry(key)?.or_insert(Vec::new(alloc));
     group.push(link)?;
-    names.groups.insert(key, group)?;
     Ok(())
-}
-
-// The links that were found so far under a name, which are taken out.
-fn take_group<'g>(alloc: Global, names: &mut LinkNames<'g>, key: LinkName<'g>) -> Vec<LinkAt<'g>>
-    ensures taken { map link_view result.items ≡ links_in (get key_eq names.old.groups key.entry) }
-    ensures left { (q : LinkName) → get key_eq names.new.groups q ≡ cond (key_eq key.entry q) None (get key_eq names.old.groups q) }
-{
-    match names.groups.swap_remove(&key) {
-        Some(group) => group,
-        None => Vec::new(alloc),
-    }
 }

@@ -1,8 +1,8 @@
 //! Links and lines, each with its place in the record.
 
 ghost use Rattle.std.specs.Prelude.{◌≡◌, IfOk, map};
-ghost use Rattle.guppy_feature_demands.specs.Numbered.{lines_of, numbered};
-ghost use Rattle.guppy_feature_demands.specs.NumberedViews.{line_view, link_view};
+ghost use Rattle.guppy_feature_demands.specs.Numbered.{numbered};
+ghost use Rattle.guppy_feature_demands.specs.NumberedViews.{link_view};
 
 use guppy_row_parts::{LineRow, LinkRow};
 use std::alloc::{AllocError, Global};
@@ -30,28 +30,6 @@ pub(crate) fn numbered_links<'g>(
     let mut all: Vec<LinkAt<'g>> = Vec::with_capacity(alloc, links.len())?;
     for (number, row) in links.iter().enumerate() {
         all.push(LinkAt { number, row })?;
-    }
-    Ok(all)
-}
-
-pub(crate) fn lines_of<'g>(alloc: Global, link: LinkAt<'g>) -> Result<Vec<LineAt<'g>>, AllocError>
-    ensures { IfOk result (λ v. map line_view v.items ≡ lines_of (link_view link.entry)) }
-{
-    let row = link.row;
-    numbered_lines(alloc, link.number, &row.lines)
-}
-
-fn numbered_lines<'g>(
-    alloc: Global,
-    link: usize,
-    lines: &'g [LineRow],
-) -> Result<Vec<LineAt<'g>>, AllocError>
-    ensures { IfOk result (λ v. map line_view v.items ≡ map (λ line. ((link, line.0), line.1)) (numbered lines.entry.now)) }
-{
-    let mut all: Vec<LineAt<'g>> = Vec::with_capacity(alloc, lines.len())?;
-    for (number, row) in lines.iter().enumerate() {
-        let place = (link, number);
-        all.push(LineAt { place, row })?;
     }
     Ok(all)
 }

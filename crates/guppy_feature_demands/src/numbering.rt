@@ -1,10 +1,13 @@
 //! Demands between the nodes that there are.
 
-ghost use Rattle.std.specs.Prelude.{◌≡◌, ◌∷◌, [], IfOk, OnOk, ◌++◌, length, map};
+ghost use Rattle.std.specs.Prelude.{◌≡◌, ◌∷◌, [], IfOk, OnOk, ◌++◌, filter, length, map};
 ghost use Rattle.guppy_feature_demands.specs.Demands.{is_between_nodes, kept_demands, with_numbers};
 ghost use Rattle.guppy_feature_demands.specs.DemandViews.{demand_view, numbered_view};
+ghost use Rattle.guppy_feature_demands.specs.NameViews.{name_view};
+ghost use Rattle.guppy_feature_demands.specs.Nodes.{number_of};
 
 use crate::demand::{Demand, NumberedDemand};
+use crate::feature_name::FeatureName;
 use crate::nodes::NodeTable;
 use std::alloc::{AllocError, Global};
 
@@ -16,35 +19,85 @@ pub(crate) fn kept_demands<'g>(
 ) -> Result<Vec<NumberedDemand<'g>>, AllocError>
     ensures { IfOk result (λ v. map numbered_view v.items ≡ kept_demands nodes.now (map demand_view demands.now)) }
 {
+    let mut from = LastNumber::of(nodes);
+    let mut to = LastNumber::of(nodes);
     let mut kept: Vec<NumberedDemand<'g>> = Vec::new(alloc);
     for demand in demands {
-        push_kept(nodes, *demand, &mut kept)?;
+        let numbered = with_numbers(&mut from, &mut to, *demand);
+        push_kept(nodes, numbered, &mut kept)?;
     }
     Ok(kept)
 }
 
 fn push_kept<'g>(
     nodes: &NodeTable<'g>,
-    demand: Demand<'g>,
+    demand: NumberedDemand<'g>,
     kept: &mut Vec<NumberedDemand<'g>>,
 ) -> Result<(), AllocError>
-    ensures { OnOk result (map numbered_view kept.new.items ≡ map numbered_view kept.old.items ++ kept_demands nodes.now (demand_view demand.entry ∷ [])) }
+    ensures { OnOk result (map numbered_view kept.new.items ≡ map numbered_view kept.old.items ++ filter (is_between_nodes (length nodes.now)) (numbered_view demand.entry ∷ [])) }
 {
-    let numbered = with_numbers(nodes, demand);
-    if is_between(nodes, numbered) {
-        kept.push(numbered)?;
+    if is_between(nodes, demand) {
+        kept.push(demand)?;
     }
     Ok(())
 }
 
-fn with_numbers<'g>(nodes: &NodeTable<'g>, demand: Demand<'g>) -> NumberedDemand<'g>
-    ensures { numbered_view result ≡ with_numbers nodes.now (demand_view demand.entry) }
+fn with_numbers<'g>(
+    from: &mut LastNumber<'_, 'g>,
+    to: &mut LastNumber<'_, 'g>,
+    demand: Demand<'g>,
+) -> NumberedDemand<'g>
+    requires { to.old.nodes.now ≡ from.old.nodes.now }
+    ensures value { numbered_view result ≡ with_numbers from.old.nodes.now (demand_view demand.entry) }
+    ensures from { from.new.nodes.now ≡ from.old.nodes.now }
+    ensures to { to.new.nodes.now ≡ to.old.nodes.now }
 {
     NumberedDemand {
-        from: nodes.number_of(demand.from),
-        to: nodes.number_of(demand.to),
+        from: from.number_of(demand.from),
+        to: to.number_of(demand.to),
         form: demand.form,
         line: demand.line,
+    }
+}
+
+/// The feature that was asked for last, and its number: demands that start at one feature, or lead to
+/// one, follow each other.
+#[derive(Clone, Copy)]
+struct LastNumber<'a, 'g> {
+    nodes: &'a NodeTable<'g>,
+    feature: FeatureName<'g>,
+    number: usize,
+    ghost known: { number ≡ number_of nodes.now (name_view feature) },
+}
+
+impl<'a, 'g> LastNumber<'a, 'g> {
+    fn of(nodes: &'a NodeTable<'g>) -> LastNumber<'a, 'g>
+        ensures { result.nodes.now ≡ nodes.entry.now }
+    {
+        let feature = FeatureName::base("");
+        let number = nodes.number_of(feature);
+        LastNumber {
+            nodes,
+            feature,
+            number,
+        }
+    }
+
+    /// The number of a feature; the number of features where there is none.
+    fn number_of(&mut self, feature: FeatureName<'g>) -> usize
+        ensures number { result ≡ number_of self.old.nodes.now (name_view feature.entry) }
+        ensures nodes { self.new.nodes.now ≡ self.old.nodes.now }
+    {
+        if feature != self.feature {
+            let nodes = self.nodes;
+            let number = nodes.number_of(feature);
+            *self = LastNumber {
+                nodes,
+                feature,
+                number,
+            };
+        }
+        self.number
     }
 }
 

@@ -9,6 +9,7 @@ ghost use Rattle.guppy_feature_demands.specs.Warnings.{warnings_of};
 
 use crate::demand::NumberedDemand;
 use crate::demands::demands_of;
+use crate::entries::entries_of;
 use crate::link_table::LinkTable;
 use crate::nodes::NodeTable;
 use crate::numbering::kept_demands;
@@ -27,6 +28,7 @@ pub struct FeatureParts<'g> {
 
 /// What the rows of packages and links say of features. Takes time in proportion to packages,
 /// features, entries and lines, each with the texts that it names.
+#[tactic(auto, using(crate::proofs::EntriesFacts::demands_by_entries, crate::proofs::EntriesFacts::warnings_by_entries))]
 pub fn feature_parts<'g>(
     alloc: Global,
     packages: &[PackageAt<'g>],
@@ -38,9 +40,10 @@ pub fn feature_parts<'g>(
 {
     let nodes = NodeTable::of(alloc, packages)?;
     let table = LinkTable::of(alloc, links)?;
-    let all = demands_of(alloc, packages, &nodes, &table)?;
+    let entries = entries_of(alloc, packages)?;
+    let all = demands_of(alloc, &entries, &nodes, &table)?;
     let demands = kept_demands(alloc, &nodes, &all)?;
-    let warnings = warnings_of(alloc, packages, links, &nodes, &table)?;
+    let warnings = warnings_of(alloc, &entries, links, &nodes, &table)?;
     Ok(FeatureParts {
         nodes,
         demands,

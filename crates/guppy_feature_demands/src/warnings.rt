@@ -2,28 +2,26 @@
 
 ghost use Rattle.std.specs.Prelude.{◌≡◌, ◌∷◌, ◌++◌, [], IfOk, OnOk, map, string_bytes};
 ghost use Rattle.std.specs.List.{flat_map};
-ghost use Rattle.guppy_row_parts.specs.Warnings.{AddNamedFeatureEdges, MissingFeature, SelfLoop};
+ghost use Rattle.guppy_row_parts.specs.Warnings.{MissingFeature, SelfLoop};
 ghost use Rattle.guppy_feature_ids.specs.LabelViews.{label_view};
 ghost use Rattle.guppy_feature_ids.specs.Printing.{label_text};
 ghost use Rattle.guppy_row_parts.specs.WarningViews.{stage_view, warning_view};
-ghost use Rattle.guppy_feature_demands.specs.Entries.{entry_value};
-ghost use Rattle.guppy_feature_demands.specs.EntryView.{entry_view};
+ghost use Rattle.guppy_feature_demands.specs.EntriesAt.{at_warnings};
+ghost use Rattle.guppy_feature_demands.specs.EntryAtView.{entry_at_view};
 ghost use Rattle.guppy_feature_demands.specs.NameViews.{name_view};
-ghost use Rattle.guppy_feature_demands.specs.NamedRows.{named_view};
 ghost use Rattle.guppy_feature_demands.specs.Nodes.{named_of};
 ghost use Rattle.guppy_feature_demands.specs.Numbered.{links_named};
 ghost use Rattle.guppy_feature_demands.specs.NumberedViews.{link_view};
 ghost use Rattle.guppy_feature_demands.specs.StageViews.{place_view};
-ghost use Rattle.guppy_feature_demands.specs.Warnings.{entry_warnings, feature_warnings, line_warnings, link_warnings, missing, optional_warnings, own_warnings, package_warnings, slash_warnings};
+ghost use Rattle.guppy_feature_demands.specs.Warnings.{line_warnings, link_warnings, missing, optional_warnings, own_warnings, slash_warnings};
 
-use crate::entry::{Entry, entry_of};
+use crate::entries::EntryAt;
+use crate::entry::Entry;
 use crate::feature_name::FeatureName;
 use crate::link_names::LinkName;
 use crate::link_table::LinkTable;
-use crate::named_entries::{NamedRow, named_entries};
 use crate::nodes::NodeTable;
 use crate::numbered::LinkAt;
-use crate::package_at::PackageAt;
 use guppy_row_parts::{FeatureBuildStage, FeatureGraphWarning, LineRow, LinkRow, PackageId};
 use std::alloc::{AllocError, Global};
 
@@ -37,137 +35,61 @@ pub(crate) enum StageAt<'g> {
 /// The warnings of the packages' features, and then of the links' lines.
 pub(crate) fn warnings_of<'g>(
     alloc: Global,
-    packages: &[PackageAt<'g>],
+    entries: &[EntryAt<'g>],
     rows: &'g [LinkRow],
     nodes: &NodeTable<'g>,
     links: &LinkTable<'g>,
 ) -> Result<Vec<FeatureGraphWarning>, AllocError>
-    ensures { IfOk result (λ v. map warning_view v.items ≡ flat_map (package_warnings nodes.now links.now) (map (λ p. p.row.now) packages.now) ++ flat_map (link_warnings nodes.now) rows.entry.now) }
+    ensures { IfOk result (λ v. map warning_view v.items ≡ flat_map (at_warnings nodes.now links.now) (map entry_at_view entries.now) ++ flat_map (link_warnings nodes.now) rows.entry.now) }
 {
     let mut warnings: Vec<FeatureGraphWarning> = Vec::new(alloc);
-    push_packages(alloc, packages, nodes, links, &mut warnings)?;
+    push_entries(alloc, entries, nodes, links, &mut warnings)?;
     push_links(alloc, rows, nodes, &mut warnings)?;
     Ok(warnings)
 }
 
-fn push_packages<'g>(
-    alloc: Global,
-    packages: &[PackageAt<'g>],
-    nodes: &NodeTable<'g>,
-    links: &LinkTable<'g>,
-    warnings: &mut Vec<FeatureGraphWarning>,
-) -> Result<(), AllocError>
-    ensures { OnOk result (map warning_view warnings.new.items ≡ map warning_view warnings.old.items ++ flat_map (package_warnings nodes.now links.now) (map (λ p. p.row.now) packages.now)) }
-{
-    for at in packages {
-        push_package(alloc, *at, nodes, links, warnings)?;
-    }
-    Ok(())
-}
-
-fn push_package<'g>(
-    alloc: Global,
-    at: PackageAt<'g>,
-    nodes: &NodeTable<'g>,
-    links: &LinkTable<'g>,
-    warnings: &mut Vec<FeatureGraphWarning>,
-) -> Result<(), AllocError>
-    ensures { OnOk result (map warning_view warnings.new.items ≡ map warning_view warnings.old.items ++ package_warnings nodes.now links.now at.entry.row.now) }
-{
-    let row = at.row;
-    let features = named_entries(alloc, &row.features)?;
-    push_features(
-        alloc,
-        row.id.as_str(),
-        features.as_slice(),
-        nodes,
-        links,
-        warnings,
-    )
-}
-
-fn push_features<'g>(
-    alloc: Global,
-    id: &'g str,
-    features: &[NamedRow<'g>],
-    nodes: &NodeTable<'g>,
-    links: &LinkTable<'g>,
-    warnings: &mut Vec<FeatureGraphWarning>,
-) -> Result<(), AllocError>
-    ensures { OnOk result (map warning_view warnings.new.items ≡ map warning_view warnings.old.items ++ flat_map (feature_warnings nodes.now links.now id.entry.now) (map named_view features.now)) }
-{
-    for feature in features {
-        push_feature(alloc, id, *feature, nodes, links, warnings)?;
-    }
-    Ok(())
-}
-
-fn push_feature<'g>(
-    alloc: Global,
-    id: &'g str,
-    feature: NamedRow<'g>,
-    nodes: &NodeTable<'g>,
-    links: &LinkTable<'g>,
-    warnings: &mut Vec<FeatureGraphWarning>,
-) -> Result<(), AllocError>
-    ensures { OnOk result (map warning_view warnings.new.items ≡ map warning_view warnings.old.items ++ feature_warnings nodes.now links.now id.entry.now (named_view feature.entry)) }
-{
-    let row = feature.row;
-    push_entries(
-        alloc,
-        id,
-        row.name.as_str(),
-        &row.enables,
-        nodes,
-        links,
-        warnings,
-    )
-}
-
 fn push_entries<'g>(
     alloc: Global,
-    id: &'g str,
-    from: &'g str,
-    entries: &'g [String],
+    entries: &[EntryAt<'g>],
     nodes: &NodeTable<'g>,
     links: &LinkTable<'g>,
     warnings: &mut Vec<FeatureGraphWarning>,
 ) -> Result<(), AllocError>
-    ensures { OnOk result (map warning_view warnings.new.items ≡ map warning_view warnings.old.items ++ flat_map (λ e. entry_warnings nodes.now links.now id.entry.now from.entry.now (entry_value e)) (map string_bytes entries.entry.now)) }
+    ensures { OnOk result (map warning_view warnings.new.items ≡ map warning_view warnings.old.items ++ flat_map (at_warnings nodes.now links.now) (map entry_at_view entries.now)) }
 {
-    for text in entries {
-        push_entry(
-            alloc,
-            id,
-            from,
-            entry_of(text.as_str()),
-            nodes,
-            links,
-            warnings,
-        )?;
+    for at in entries {
+        push_entry(alloc, *at, nodes, links, warnings)?;
     }
     Ok(())
 }
 
 fn push_entry<'g>(
     alloc: Global,
-    id: &'g str,
-    from: &'g str,
-    entry: Entry<'g>,
+    at: EntryAt<'g>,
     nodes: &NodeTable<'g>,
     links: &LinkTable<'g>,
     warnings: &mut Vec<FeatureGraphWarning>,
 ) -> Result<(), AllocError>
-    ensures { OnOk result (map warning_view warnings.new.items ≡ map warning_view warnings.old.items ++ entry_warnings nodes.now links.now id.entry.now from.entry.now (entry_view entry.entry)) }
+    ensures { OnOk result (map warning_view warnings.new.items ≡ map warning_view warnings.old.items ++ at_warnings nodes.now links.now (entry_at_view at.entry)) }
 {
-    match entry {
+    let (id, from) = (at.package_id, at.feature);
+    match at.entry {
         Entry::OwnFeature(name) => push_own(alloc, id, from, name, nodes, warnings),
         Entry::Dependency(name) => {
             let dep = FeatureName::dep(id, name);
             push_missing(alloc, StageAt::Entry(id, from), dep, nodes, warnings)
         }
         Entry::Strong(name, feature) | Entry::Weak(name, feature) => {
-            push_slash(alloc, id, from, name, feature, nodes, links, warnings)
+            let key = LinkName { from: id, name };
+            push_slash(
+                alloc,
+                StageAt::Entry(id, from),
+                key,
+                feature,
+                nodes,
+                links,
+                warnings,
+            )
         }
     }
 }
@@ -193,18 +115,16 @@ fn push_own<'g>(
 
 fn push_slash<'g>(
     alloc: Global,
-    id: &'g str,
-    from: &'g str,
-    name: &'g str,
+    stage: StageAt<'g>,
+    key: LinkName<'g>,
     feature: &'g str,
     nodes: &NodeTable<'g>,
     links: &LinkTable<'g>,
     warnings: &mut Vec<FeatureGraphWarning>,
 ) -> Result<(), AllocError>
-    ensures { OnOk result (map warning_view warnings.new.items ≡ map warning_view warnings.old.items ++ slash_warnings nodes.now (AddNamedFeatureEdges id.entry.now from.entry.now) feature.entry.now (links_named links.now id.entry.now name.entry.now)) }
+    ensures { OnOk result (map warning_view warnings.new.items ≡ map warning_view warnings.old.items ++ slash_warnings nodes.now (place_view stage.entry) feature.entry.now (links_named links.now key.entry.from.now key.entry.name.now)) }
 {
-    let stage = StageAt::Entry(id, from);
-    match links.named(LinkName { from: id, name }) {
+    match links.named(key) {
         Some(group) => push_slash_links(alloc, stage, feature, group, nodes, warnings),
         None => Ok(()),
     }

@@ -1,5 +1,5 @@
 -- One line more among those of a key.
-use Rattle.std.proofs.Common.{◌≡◌, ℕ, ◌+◌, ◌<◌, length, get_or, take, map, filter, Bool, true, false, cond, List, [], ◌∷◌, ◌++◌, append-nil, Option, Some, None, Vec, Global, refl, sym, ◌∙◌, ap}
+use Rattle.std.proofs.Common.{◌≡◌, ℕ, ◌+◌, ◌<◌, length, get_or, take, map, filter, Bool, true, false, cond, List, [], ◌∷◌, ◌++◌, append-nil, unwrap_or, Option, Some, None, Vec, Global, refl, sym, ◌∙◌, ap}
 use Rattle.std.proofs.lemmas.List.Elements.{filter-append, filter_map-append}
 use Rattle.std.specs.List.{filter_map}
 use Rattle.list_facts.proofs.Lists.{map-take_more}
@@ -12,11 +12,16 @@ use Rattle.guppy_feature_edges.specs.declared.edge_key.EdgeKey.{EdgeKey}
 use Rattle.guppy_feature_edges.specs.declared.line_map.LineMap.{LineMap}
 
 -- under the key its group grows by the line, and under other keys nothing changes
-pub grown : (b n : Bool) (here under mid new : Option (Vec (ℕ × ℕ) Global)) (group : Vec (ℕ × ℕ) Global) (x : ℕ × ℕ) → (b ≡ true → here ≡ under) → n ≡ b → mid ≡ cond b None here → new ≡ cond b (Some group) mid → group.items ≡ lines_in under ++ x ∷ [] → lines_in new ≡ lines_in here ++ cond n (x ∷ []) []
-grown true n here under mid new group x same named taken put is =
+pub grown : (b n : Bool) (here under new : Option (Vec (ℕ × ℕ) Global)) (group : Vec (ℕ × ℕ) Global) (x : ℕ × ℕ) → (b ≡ true → here ≡ under) → n ≡ b → new ≡ cond b (Some group) here → group.items ≡ lines_in under ++ x ∷ [] → lines_in new ≡ lines_in here ++ cond n (x ∷ []) []
+grown true n here under new group x same named put is =
     ap lines_in put ∙ is ∙ ap (λ o. lines_in o ++ x ∷ []) (sym (same refl)) ∙ ap (λ c. lines_in here ++ cond c (x ∷ []) []) (sym named)
-grown false n here under mid new group x same named taken put is =
-    ap lines_in (put ∙ taken) ∙ sym (append-nil (lines_in here)) ∙ ap (λ c. lines_in here ++ cond c (x ∷ []) []) (sym named)
+grown false n here under new group x same named put is =
+    ap lines_in put ∙ sym (append-nil (lines_in here)) ∙ ap (λ c. lines_in here ++ cond c (x ∷ []) []) (sym named)
+
+-- the lines of an entry are those that its key has, or none
+pub lines_at : (found : Option (Vec (ℕ × ℕ) Global)) (empty : Vec (ℕ × ℕ) Global) → empty.items ≡ [] → (unwrap_or found empty).items ≡ lines_in found
+lines_at None empty none = none
+lines_at (Some group) empty none = refl
 
 -- a map has the same at equal keys
 pub same_group : {S : Type 0} (m : IndexMap EdgeKey (Vec (ℕ × ℕ) Global) S) (k q : EdgeKey) → same_key k q ≡ true → get same_key m q ≡ get same_key m k

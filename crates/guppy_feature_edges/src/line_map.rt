@@ -1,6 +1,6 @@
 //! Lines by what joins them in one edge.
 
-ghost use Rattle.std.specs.Prelude.{◌≡◌, ◌++◌, ◌∷◌, [], None, cond, IfOk, OnOk, map};
+ghost use Rattle.std.specs.Prelude.{◌≡◌, ◌++◌, ◌∷◌, [], cond, IfOk, OnOk, map};
 ghost use Rattle.indexmap.specs.IndexMap.{get};
 ghost use Rattle.guppy_feature_demands.specs.DemandViews.{numbered_view};
 ghost use Rattle.guppy_feature_edges.specs.Joining.{key_eq, lines_joined};
@@ -61,21 +61,9 @@ fn push_line<'g>(
 ) -> Result<(), AllocError>
     ensures { OnOk result ((q : EdgeKey) → lines_in (get same_key lines.new.map q) ≡ lines_in (get same_key lines.old.map q) ++ cond (key_eq (key_view q) (key_view key.entry)) (place ∷ []) []) }
 {
-    let mut group = take_group(alloc, lines, key);
+    let group = lines.map.entry(key)?.or_insert(Vec::new(alloc));
     group.push(place)?;
-    lines.map.insert(key, group)?;
     Ok(())
-}
-
-// The lines that were found so far under a key, which are taken out.
-fn take_group<'g>(alloc: Global, lines: &mut LineMap<'g>, key: EdgeKey<'g>) -> Vec<(usize, usize)>
-    ensures taken { result.items ≡ lines_in (get same_key lines.old.map key.entry) }
-    ensures left { (q : EdgeKey) → get same_key lines.new.map q ≡ cond (same_key key.entry q) None (get same_key lines.old.map q) }
-{
-    match lines.map.swap_remove(&key) {
-        Some(group) => group,
-        None => Vec::new(alloc),
-    }
 }
 
 /// The lines under a key, in memory of their own.

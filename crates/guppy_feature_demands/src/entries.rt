@@ -1,0 +1,90 @@
+//! The entries of the packages' features, each with where it stands.
+
+ghost use Rattle.std.specs.Prelude.{◌≡◌, ◌++◌, IfOk, OnOk, map, string_bytes};
+ghost use Rattle.std.specs.List.{flat_map};
+ghost use Rattle.guppy_feature_demands.specs.Entries.{entry_value};
+ghost use Rattle.guppy_feature_demands.specs.EntriesAt.{feature_entries, package_entries};
+ghost use Rattle.guppy_feature_demands.specs.EntryAtView.{entry_at_view};
+ghost use Rattle.guppy_feature_demands.specs.NamedRows.{named_view};
+
+use crate::entry::{Entry, entry_of};
+use crate::named_entries::{NamedRow, named_entries};
+use crate::package_at::PackageAt;
+use std::alloc::{AllocError, Global};
+
+/// An entry of a feature's list, the name of the feature, and the id of its package.
+#[derive(Clone, Copy)]
+pub(crate) struct EntryAt<'g> {
+    pub package_id: &'g str,
+    pub feature: &'g str,
+    pub entry: Entry<'g>,
+}
+
+/// The entries of these packages' features, of features of one name those of the first.
+pub(crate) fn entries_of<'g>(
+    alloc: Global,
+    packages: &[PackageAt<'g>],
+) -> Result<Vec<EntryAt<'g>>, AllocError>
+    ensures { IfOk result (λ v. map entry_at_view v.items ≡ flat_map package_entries (map (λ p. p.row.now) packages.now)) }
+{
+    let mut entries: Vec<EntryAt<'g>> = Vec::new(alloc);
+    for at in packages {
+        push_package(alloc, *at, &mut entries)?;
+    }
+    Ok(entries)
+}
+
+fn push_package<'g>(
+    alloc: Global,
+    at: PackageAt<'g>,
+    entries: &mut Vec<EntryAt<'g>>,
+) -> Result<(), AllocError>
+    ensures { OnOk result (map entry_at_view entries.new.items ≡ map entry_at_view entries.old.items ++ package_entries at.entry.row.now) }
+{
+    let row = at.row;
+    let features = named_entries(alloc, &row.features)?;
+    push_features(row.id.as_str(), features.as_slice(), entries)
+}
+
+fn push_features<'g>(
+    id: &'g str,
+    features: &[NamedRow<'g>],
+    entries: &mut Vec<EntryAt<'g>>,
+) -> Result<(), AllocError>
+    ensures { OnOk result (map entry_at_view entries.new.items ≡ map entry_at_view entries.old.items ++ flat_map (feature_entries id.entry.now) (map named_view features.now)) }
+{
+    for feature in features {
+        push_feature(id, *feature, entries)?;
+    }
+    Ok(())
+}
+
+fn push_feature<'g>(
+    id: &'g str,
+    feature: NamedRow<'g>,
+    entries: &mut Vec<EntryAt<'g>>,
+) -> Result<(), AllocError>
+    ensures { OnOk result (map entry_at_view entries.new.items ≡ map entry_at_view entries.old.items ++ feature_entries id.entry.now (named_view feature.entry)) }
+{
+    let row = feature.row;
+    push_entries(id, row.name.as_str(), &row.enables, entries)
+}
+
+fn push_entries<'g>(
+    package_id: &'g str,
+    feature: &'g str,
+    texts: &'g [String],
+    entries: &mut Vec<EntryAt<'g>>,
+) -> Result<(), AllocError>
+    ensures { OnOk result (map entry_at_view entries.new.items ≡ map entry_at_view entries.old.items ++ map (λ text. record { package_id = package_id.entry.now; feature = feature.entry.now; entry = entry_value text }) (map string_bytes texts.entry.now)) }
+{
+    for text in texts {
+        let entry = entry_of(text.as_str());
+        entries.push(EntryAt {
+            package_id,
+            feature,
+            entry,
+        })?;
+    }
+    Ok(())
+}
