@@ -13,7 +13,8 @@ use Rattle.numbered_offers.specs.declared.offer.Offer.{Offer}
 use Rattle.guppy_feature_graph.specs.Links.{link_of}
 use Rattle.kept_records.specs.Laws.{IsBuiltOf, KeptEdgesLeadToWhatIsOn}
 use Rattle.kept_records.proofs.KeptFacts.{rows_kept}
-use Rattle.line_verdicts.proofs.Counting.{counting_iff, some_counts}
+use Rattle.line_verdicts.specs.Verdicts.{some_counts}
+use Rattle.line_verdicts.proofs.Counting.{counting_iff}
 use Rattle.feature_resolving.specs.Known.{is_known_extra}
 use Rattle.feature_resolving.specs.Leading.{IsLedTo}
 use Rattle.feature_resolving.specs.Starts.{IsStart}

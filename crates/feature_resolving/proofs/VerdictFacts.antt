@@ -16,8 +16,8 @@ use Rattle.guppy_feature_graph.specs.Queries.{QueryValue}
 use Rattle.guppy_feature_graph.specs.Resolves.{IsAlwaysLeast, IsIncluded, IsResolved}
 use Rattle.guppy_feature_graph.specs.Sets.{SetValue}
 use Rattle.guppy_feature_views.specs.Links.{LinkValue}
-use Rattle.line_verdicts.specs.Verdicts.{HasCountingLine}
-use Rattle.line_verdicts.proofs.Counting.{counting_iff, some_counts}
+use Rattle.line_verdicts.specs.Verdicts.{HasCountingLine, some_counts}
+use Rattle.line_verdicts.proofs.Counting.{counting_iff}
 use Rattle.feature_resolving.specs.Leading.{IsLeastBy}
 
 -- two tests that hold where the same holds

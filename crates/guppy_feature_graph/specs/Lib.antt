@@ -10,6 +10,7 @@ pub mod WrappedFilters
 pub mod Queries
 pub mod ContextViews
 pub mod Resolves
+pub mod OffersViews
 pub mod Closures
 pub mod Depending
 pub mod CycleValues

@@ -9,6 +9,7 @@ ghost use Rattle.numbered_offers.specs.Runs.{Run};
 ghost use Rattle.numbered_offers.specs.declared.offer.Offer.{Offer};
 ghost use Rattle.guppy_feature_graph.specs.Closures.{AsksClosure};
 ghost use Rattle.guppy_feature_graph.specs.Links.{declarations_of, link_of};
+ghost use Rattle.guppy_feature_graph.specs.OffersViews.{offers_view};
 ghost use Rattle.guppy_feature_graph.specs.Resolves.{IsResolved, shown_to};
 ghost use Rattle.guppy_feature_views.specs.Views.{link_view};
 
@@ -18,19 +19,38 @@ use crate::feature_query::FeatureQuery;
 use crate::visitor::FeatureLinkVisitor;
 use guppy_feature_nodes::LinkDeclarations;
 use guppy_feature_views::ConditionalLink;
+use guppy_package_graph::DependencyDirection;
 use numbered_graph::{Looks, NodeSet};
 use numbered_offers::{Due, Offer, OfferGraph, OfferKind, OfferWalk};
 use std::alloc::{AllocError, Global};
 use std::sync::ledger::Ledger;
 
-/// The edges of a query's graph, as they are offered in its direction.
-fn offers_of<'a>(query: &'a FeatureQuery<'_>) -> &'a OfferGraph
-    ensures { result.now ≡ offered (direction_of query.entry.now.direction) query.entry.now.graph }
+/// The edges of a graph as they are offered in a direction: kept by the graph, or made for one resolve.
+#[derive(Drop)]
+enum Offers<'a> {
+    Kept(&'a OfferGraph),
+    Made(OfferGraph),
+}
+
+impl Offers<'_> {
+    fn graph(&self) -> &OfferGraph
+        ensures { result.now ≡ offers_view self.now }
+    {
+        match self {
+            Offers::Kept(graph) => graph,
+            Offers::Made(graph) => graph,
+        }
+    }
+}
+
+fn offers_of<'a>(alloc: Global, query: &'a FeatureQuery<'_>) -> Result<Offers<'a>, AllocError>
+    ensures { IfOk result (λ o. offers_view o ≡ offered (direction_of query.entry.now.direction) query.entry.now.graph) }
 {
-    query
-        .graph()
-        .built()
-        .offers(direction_of(query.direction()))
+    let graph = query.graph().built();
+    match query.direction() {
+        DependencyDirection::Forward => Ok(Offers::Kept(graph.offers())),
+        DependencyDirection::Reverse => Ok(Offers::Made(graph.reverse_offers(alloc)?)),
+    }
 }
 
 /// Asks a visitor about each offer that becomes due.
@@ -45,8 +65,27 @@ pub(crate) fn resolve_by_visitor<L: Ledger>(
     ensures err { OnErr result (visitor.new ≡ visitor.old) }
     ensures looks { looks.new ≤ looks.old + length query.now.graph.nodes }
 {
+    match offers_of(alloc, query) {
+        Ok(offers) => show_to_visitor(alloc, query, offers.graph(), visitor, looks),
+        Err(refused) => Err(refused),
+    }
+}
+
+fn show_to_visitor<L: Ledger>(
+    alloc: Global,
+    query: &FeatureQuery<'_>,
+    offers: &OfferGraph,
+    visitor: &mut dyn FeatureLinkVisitor,
+    looks: &mut Looks<L>,
+) -> Result<NodeSet, AllocError>
+    requires offers { offers.now ≡ offered (direction_of query.now.direction) query.now.graph }
+    ensures ok { IfOk result (λ set. (run : Run) × IsResolved query.now run set × Chain (steps visitor.old) (state visitor.old) (shown_to query.now run) (state visitor.new)) }
+    ensures same { SameSteps (steps visitor.old) (steps visitor.new) }
+    ensures err { OnErr result (visitor.new ≡ visitor.old) }
+    ensures looks { looks.new ≤ looks.old + length query.now.graph.nodes }
+{
     let direction = direction_of(query.direction());
-    let mut walk = OfferWalk::new(alloc, offers_of(query), query.starts(), direction)?;
+    let mut walk = OfferWalk::new(alloc, offers, query.starts(), direction)?;
     while let Some(due) = walk.take(looks) {
         let (first, second) = ask_due(visitor, query, due);
         walk.answer(due, first, second);
@@ -117,8 +156,27 @@ pub(crate) fn resolve_by_closure<
     ensures err { OnErr result (accepts.new ≡ accepts.old) }
     ensures looks { looks.new ≤ looks.old + length query.now.graph.nodes }
 {
+    match offers_of(alloc, query) {
+        Ok(offers) => show_to_closure(alloc, query, offers.graph(), accepts, looks),
+        Err(refused) => Err(refused),
+    }
+}
+
+fn show_to_closure<L: Ledger, F: FnMut(&FeatureLinkContext<'_>, ConditionalLink<'_>) -> bool>(
+    alloc: Global,
+    query: &FeatureQuery<'_>,
+    offers: &OfferGraph,
+    accepts: &mut F,
+    looks: &mut Looks<L>,
+) -> Result<NodeSet, AllocError>
+    requires callable { F.IsAlwaysCallable accepts.old }
+    requires offers { offers.now ≡ offered (direction_of query.now.direction) query.now.graph }
+    ensures ok { IfOk result (λ set. (run : Run) × IsResolved query.now run set × Chain (AsksClosure F.FnMut query.now) accepts.old run accepts.new) }
+    ensures err { OnErr result (accepts.new ≡ accepts.old) }
+    ensures looks { looks.new ≤ looks.old + length query.now.graph.nodes }
+{
     let direction = direction_of(query.direction());
-    let mut walk = OfferWalk::new(alloc, offers_of(query), query.starts(), direction)?;
+    let mut walk = OfferWalk::new(alloc, offers, query.starts(), direction)?;
     while let Some(due) = walk.take(looks) {
         let (first, second) = ask_closure_due(accepts, query, due);
         walk.answer(due, first, second);

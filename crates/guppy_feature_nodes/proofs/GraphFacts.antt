@@ -10,7 +10,6 @@ use Rattle.std.proofs.lemmas.Slice.Eq.{bytes_eq-Decides}
 use Rattle.list_facts.proofs.Membership.{Contains-filter_cases, Contains-map_cases}
 use Rattle.list_facts.proofs.Quantifiers.{All-from_Contains, list_any-from_Contains}
 use Rattle.workspace_record.specs.Records.{Link, Package, Text}
-use Rattle.workspace_record.specs.declared.kinds.LineKind.{LineKind}
 use Rattle.workspace_record.specs.Features.{FeatureValue}
 use Rattle.guppy_package_parts.specs.Lines.{IsLineAt}
 use Rattle.guppy_package_table.specs.Tables.{TableValue, ids_of}
@@ -20,7 +19,7 @@ use Rattle.guppy_feature_demands.proofs.EntryFacts.{list_any_from_position_or_le
 use Rattle.guppy_feature_demands.proofs.NumberFacts.{at_end}
 use Rattle.guppy_feature_nodes.specs.GraphEdges.{AreEdges, AreEdgesWithin, EdgeValue, IsEdgeWithin, edge_at}
 use Rattle.guppy_feature_nodes.specs.Graphs.{FeatureGraphValue, IsFeatureGraph, feature_at}
-use Rattle.guppy_feature_nodes.specs.Lines.{declares_at, declares_kind_at, lines_shown, links_shown}
+use Rattle.guppy_feature_nodes.specs.Lines.{declares_at, links_shown}
 use Rattle.guppy_feature_nodes.proofs.EdgeFacts.{edges_within, first_of_each-among}
 use Rattle.guppy_feature_nodes.proofs.NodeFacts.{node_package}
 
@@ -37,12 +36,6 @@ module _ (g : FeatureGraphValue) (built : IsFeatureGraph g) where
   pub edge_within : (number : ℕ) → number < length g.edges → IsEdgeWithin (length g.nodes) g.rows.links (edge_at g.edges number)
   edge_within number lt = All-get_or (IsEdgeWithin (length g.nodes) g.rows.links) g.edges number _ lt all_within
 
-  -- the lines that are shown of it are lines of the rows
-  pub lines_within : (number : ℕ) → number < length g.edges → (shown : LinkDeclarations) (kind : LineKind) → All (IsLineAt g.rows.links) (lines_shown g.rows.links shown kind (edge_at g.edges number).lines)
-  lines_within number lt shown kind =
-      let lines = (edge_at g.edges number).lines in
-      All-from_Contains (IsLineAt g.rows.links) (lines_shown g.rows.links shown kind lines) (λ x h. All-contains (IsLineAt g.rows.links) lines x (edge_within number lt).lines (Contains-filter_cases (declares_kind_at g.rows.links shown kind) lines x h).0)
-
   link_within : (place : ℕ × ℕ) → IsLineAt g.rows.links place → place.0 < length g.rows.links
   link_within place h = by (slice_get g.rows.links place.0) refl h
     where
@@ -50,7 +43,7 @@ module _ (g : FeatureGraphValue) (built : IsFeatureGraph g) where
       by (Some link) e k = slice_get_within g.rows.links place.0 link e
       by None e k = absurd (false≢true k)
 
-  -- and their links are links of the rows
+  -- the links of the lines that are shown of it are links of the rows
   pub links_within : (number : ℕ) → number < length g.edges → (shown : LinkDeclarations) → All (λ link. link < length g.rows.links) (links_shown g.rows.links shown (edge_at g.edges number).lines)
   links_within number lt shown =
       let lines = (edge_at g.edges number).lines in

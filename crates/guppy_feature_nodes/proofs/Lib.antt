@@ -1,5 +1,6 @@
 pub mod RowFacts
 pub mod LineFacts
+pub mod LinkOrder
 pub mod EdgeFacts
 pub mod OfferFacts
 pub mod NodeFacts

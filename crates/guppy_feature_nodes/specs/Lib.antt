@@ -1,7 +1,7 @@
 pub mod GraphEdges
 pub mod EdgeViews
 pub mod Lines
-pub mod LineViews
+pub mod EdgeLinkViews
 pub mod Orders
 pub mod Graphs
 pub mod OrderViews

@@ -1,6 +1,8 @@
 //! What stands behind an edge of a feature graph.
 
 ghost use Rattle.std.specs.Prelude.{◌≡◌};
+ghost use Rattle.std.specs.List.Sorted.{IsStrictlySortedBy};
+ghost use Rattle.guppy_feature_edges.specs.Joining.{place_cmp};
 ghost use Rattle.guppy_feature_nodes.specs.GraphEdges.{ByLines, ByStrongEntries, ByWeakEntries, is_always};
 ghost use Rattle.guppy_feature_nodes.specs.EdgeViews.{form_view, lines_view, link_lines};
 
@@ -94,10 +96,11 @@ impl FeatureEdge {
         }
     }
 
-    /// The lines behind the edge, each told by the number of its link and by its own there; none
-    /// where it is crossed always.
+    /// The lines behind the edge, ascending, each told by the number of its link and by its own there;
+    /// none where it is crossed always.
     pub fn lines(&self) -> &[(usize, usize)]
         ensures value { result.now ≡ lines_view self.now }
+        ensures ascending { IsStrictlySortedBy place_cmp result.now }
     {
         match self {
             FeatureEdge::FeatureToBase
@@ -122,6 +125,7 @@ impl WeakSlashImpl {
 impl ConditionalLinkImpl {
     pub(crate) fn lines(&self) -> &[(usize, usize)]
         ensures value { result.now ≡ link_lines self.now }
+        ensures ascending { IsStrictlySortedBy place_cmp result.now }
     {
         self.lines.as_slice()
     }

@@ -1,4 +1,5 @@
 ghost use Rattle.std.specs.Prelude.{◌≡◌, ◌↔◌, ◌<◌, All, IfOk, IsTrue, length, map};
+ghost use Rattle.std.specs.List.{list_any};
 ghost use Rattle.guppy_row_parts.specs.WarningViews.{warning_view};
 ghost use Rattle.guppy_feature_ids.specs.IdViews.{id_view};
 ghost use Rattle.guppy_feature_demands.specs.NameViews.{name_view};
@@ -7,13 +8,14 @@ ghost use Rattle.guppy_feature_demands.specs.Warnings.{warnings_of};
 ghost use Rattle.guppy_feature_nodes.specs.EdgeViews.{edge_view};
 ghost use Rattle.guppy_feature_nodes.specs.GraphEdges.{AreEdges, IsEdgeWithin, edge_at, edge_ends};
 ghost use Rattle.guppy_feature_nodes.specs.Graphs.{IsDefault, IsEdgeListing, IsFeatureGraph, feature_at};
-ghost use Rattle.guppy_feature_nodes.specs.LineViews.{AreEdgeLines};
-ghost use Rattle.guppy_feature_nodes.specs.Lines.{lines_shown, links_shown};
+ghost use Rattle.guppy_feature_nodes.specs.EdgeLinkViews.{AreEdgeLinks};
+ghost use Rattle.guppy_feature_nodes.specs.Lines.{declares_kind_at, links_shown};
 ghost use Rattle.guppy_feature_nodes.specs.Offering.{offered};
+ghost use Rattle.numbered_graph.specs.declared.direction.Direction.TheVariants.{Forward, Reverse};
 ghost use Rattle.guppy_package_graph.specs.Finding.{IsAt};
 ghost use Rattle.guppy_package_graph.specs.Views.{graph_of, place_of};
-ghost use Rattle.guppy_package_parts.specs.Lines.{IsLineAt};
 
+use crate::edge_lines::has_line;
 use crate::node_edge::{NodeEdge, node_edges};
 use crate::offers::offer_graph;
 use crate::orders::{Orders, orders_of};
@@ -37,7 +39,6 @@ pub struct FeatureGraphData<'g> {
     warnings: Vec<FeatureGraphWarning>,
     orders: Orders,
     forward: OfferGraph,
-    reverse: OfferGraph,
 }
 
 // Written out, so that a function that lets one go takes one step.
@@ -50,7 +51,6 @@ impl Drop for FeatureGraphData<'_> {
             warnings: _,
             orders: _,
             forward: _,
-            reverse: _,
         } = self;
     }
 }
@@ -66,7 +66,7 @@ struct GraphParts<'g> {
 fn graph_parts<'g>(alloc: Global, graph: &'g PackageGraph) -> Result<GraphParts<'g>, AllocError>
     ensures nodes { IfOk result (λ p. p.nodes ≡ nodes_of graph.entry.now.packages) }
     ensures edges { IfOk result (λ p. AreEdges graph.entry.now.packages graph.entry.now.links (map edge_view p.edges.items)) }
-    ensures lines { IfOk result (λ p. All (λ e. AreEdgeLines graph.entry.now.links (edge_view e).lines e.lines) p.edges.items) }
+    ensures lines { IfOk result (λ p. All (λ e. AreEdgeLinks graph.entry.now.links (edge_view e).lines e.links) p.edges.items) }
     ensures warnings { IfOk result (λ p. map warning_view p.warnings.items ≡ warnings_of graph.entry.now.packages graph.entry.now.links) }
 {
     let packages = package_rows(alloc, graph)?;
@@ -110,7 +110,6 @@ impl<'g> FeatureGraphData<'g> {
         let (count, links) = (nodes.len(), graph.link_rows());
         let orders = orders_of(alloc, &nodes, links, &edges)?;
         let forward = offer_graph(alloc, count, links, &edges, Direction::Forward)?;
-        let reverse = offer_graph(alloc, count, links, &edges, Direction::Reverse)?;
         Ok(FeatureGraphData {
             graph,
             nodes,
@@ -118,7 +117,6 @@ impl<'g> FeatureGraphData<'g> {
             warnings,
             orders,
             forward,
-            reverse,
         })
     }
 
@@ -176,18 +174,13 @@ impl<'g> FeatureGraphData<'g> {
         &self.edges[number]
     }
 
-    /// The lines of a kind behind an edge that declare what is shown of it.
-    pub fn lines_shown(
-        &self,
-        number: usize,
-        shown: LinkDeclarations,
-        kind: LineKind,
-    ) -> &[(usize, usize)]
+    /// Whether a line of a kind behind an edge declares what is shown of it.
+    pub fn has_line(&self, number: usize, shown: LinkDeclarations, kind: LineKind) -> bool
         requires { number < length self.now.edges }
-        ensures lines { result.now ≡ lines_shown self.now.rows.links shown kind (edge_at self.now.edges number).lines }
-        ensures within { All (IsLineAt self.now.rows.links) (lines_shown self.now.rows.links shown kind (edge_at self.now.edges number).lines) }
+        ensures answer { result ≡ list_any (declares_kind_at self.now.rows.links shown kind) (edge_at self.now.edges number).lines }
     {
-        self.edges[number].lines.shown(shown).of_kind(kind)
+        let lines = self.edges[number].edge.lines();
+        has_line(self.graph.link_rows(), lines, shown, kind)
     }
 
     /// The links of the lines behind an edge that declare what is shown of it, each once.
@@ -196,17 +189,22 @@ impl<'g> FeatureGraphData<'g> {
         ensures links { result.now ≡ links_shown self.now.rows.links shown (edge_at self.now.edges number).lines }
         ensures within { All (λ link. link < length self.now.rows.links) (links_shown self.now.rows.links shown (edge_at self.now.edges number).lines) }
     {
-        self.edges[number].lines.shown(shown).links.as_slice()
+        self.edges[number].links.shown(shown)
     }
 
-    /// The edges as they are offered in a direction.
-    pub fn offers(&self, direction: Direction) -> &OfferGraph
-        ensures offers { result.now ≡ offered direction self.now }
+    /// The edges as they are offered forward.
+    pub fn offers(&self) -> &OfferGraph
+        ensures offers { result.now ≡ offered Forward self.now }
     {
-        match direction {
-            Direction::Forward => &self.forward,
-            Direction::Reverse => &self.reverse,
-        }
+        &self.forward
+    }
+
+    /// The edges as they are offered in reverse, which the graph does not keep.
+    pub fn reverse_offers(&self, alloc: Global) -> Result<OfferGraph, AllocError>
+        ensures offers { IfOk result (λ g. g ≡ offered Reverse self.now) }
+    {
+        let (count, links) = (self.nodes.len(), self.graph.link_rows());
+        offer_graph(alloc, count, links, &self.edges, Direction::Reverse)
     }
 
     /// The edges as links between nodes, each with its number.

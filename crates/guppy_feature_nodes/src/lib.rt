@@ -4,6 +4,7 @@
 #![tactic(auto)]
 
 mod edge_lines;
+mod edge_links;
 mod feature_edge;
 mod feature_graph_data;
 mod node_edge;

@@ -5,9 +5,9 @@ ghost use Rattle.guppy_feature_demands.specs.DemandViews as demands;
 ghost use Rattle.guppy_feature_edges.specs.JoinedViews.{joined_view};
 ghost use Rattle.guppy_feature_nodes.specs.EdgeViews.{edge_view, form_view, lines_view};
 ghost use Rattle.guppy_feature_nodes.specs.GraphEdges.{edge_form, edge_lines, edge_value, waits_for};
-ghost use Rattle.guppy_feature_nodes.specs.LineViews.{AreEdgeLines};
+ghost use Rattle.guppy_feature_nodes.specs.EdgeLinkViews.{AreEdgeLinks};
 
-use crate::edge_lines::EdgeLines;
+use crate::edge_links::EdgeLinks;
 use crate::feature_edge::FeatureEdge;
 use guppy_feature_demands::{FeatureName, Form, NodeTable, NumberedDemand};
 use guppy_feature_edges::JoinedEdge;
@@ -20,7 +20,7 @@ pub struct NodeEdge {
     pub from: usize,
     pub to: usize,
     pub edge: FeatureEdge,
-    pub(crate) lines: EdgeLines,
+    pub(crate) links: EdgeLinks,
 }
 
 pub(crate) fn node_edges<'g>(
@@ -30,7 +30,7 @@ pub(crate) fn node_edges<'g>(
     joined: Vec<JoinedEdge<'g>>,
 ) -> Result<Vec<NodeEdge>, AllocError>
     ensures values { IfOk result (λ v. map edge_view v.items ≡ map (edge_value nodes.now) (map joined_view joined.entry.items)) }
-    ensures lines { IfOk result (λ v. All (λ e. AreEdgeLines links.now (edge_view e).lines e.lines) v.items) }
+    ensures lines { IfOk result (λ v. All (λ e. AreEdgeLinks links.now (edge_view e).lines e.links) v.items) }
 {
     let mut edges = Vec::with_capacity(alloc, joined.len())?;
     for edge in joined {
@@ -46,17 +46,17 @@ fn node_edge<'g>(
     joined: JoinedEdge<'g>,
 ) -> Result<NodeEdge, AllocError>
     ensures value { IfOk result (λ e. edge_view e ≡ edge_value nodes.now (joined_view joined.entry)) }
-    ensures lines { IfOk result (λ e. AreEdgeLines links.now (edge_view e).lines e.lines) }
+    ensures lines { IfOk result (λ e. AreEdgeLinks links.now (edge_view e).lines e.links) }
 {
     let JoinedEdge { head, lines } = joined;
     let (from, to) = (head.from, head.to);
     let edge = feature_edge(nodes, head, lines);
-    let lines = EdgeLines::of(alloc, links, edge.lines())?;
+    let links = EdgeLinks::of(alloc, links, edge.lines())?;
     Ok(NodeEdge {
         from,
         to,
         edge,
-        lines,
+        links,
     })
 }
 

@@ -8,6 +8,7 @@ use crate::feature_metadata::FeatureMetadata;
 use crate::package_links::PackageLinks;
 use guppy_feature_nodes::{FeatureGraphData, LinkDeclarations};
 use guppy_package_graph::{DependencyKind, PlatformStatus};
+use guppy_package_parts::LineChoice;
 use std::fmt;
 use workspace_record::LineKind;
 
@@ -96,12 +97,18 @@ impl<'g> ConditionalLink<'g> {
         self.status_of(kind.line_kind())
     }
 
+    #[tactic(auto, using(crate::proofs::LineFacts::lines_chosen))]
     fn status_of(&self, kind: LineKind) -> PlatformStatus<'g>
         ensures { IsStatusOf (specs_of (lines_behind (link_view self.now) kind)) (status_view result) }
     {
         let built = self.built;
-        let lines = built.lines_shown(self.number, self.declarations, kind);
-        PlatformStatus::over(built.package_graph().link_rows(), lines)
+        let choice = LineChoice {
+            kind,
+            required: self.declarations.includes_required(),
+            optional: self.declarations.includes_optional(),
+        };
+        let lines = built.edge(self.number).edge.lines();
+        PlatformStatus::over(built.package_graph().link_rows(), lines, choice)
     }
 
     /// Whether it stands on no normal and no build line.
@@ -111,13 +118,11 @@ impl<'g> ConditionalLink<'g> {
         self.has_none(LineKind::Normal) && self.has_none(LineKind::Build)
     }
 
+    #[tactic(auto, using(crate::proofs::LineFacts::none_passes))]
     fn has_none(&self, kind: LineKind) -> bool
         ensures { IsTrue result ↔ (line_places (link_view self.now) kind ≡ []) }
     {
-        let built = self.built;
-        built
-            .lines_shown(self.number, self.declarations, kind)
-            .is_empty()
+        !self.built.has_line(self.number, self.declarations, kind)
     }
 
     /// The links of the lines that it stands on, each once, in the order of the record.

@@ -2,6 +2,7 @@ pub mod Ternaries
 pub mod Statuses
 pub mod PlatformViews
 pub mod Lines
+pub mod LineChoices
 pub mod LineViews
 pub mod StatusViews
 pub mod RequirementViews

@@ -13,6 +13,7 @@ mod requirement_features;
 
 pub use crate::dependency_req::{DependencyReq, EnabledStatus};
 pub use crate::enabled_ternary::EnabledTernary;
+pub use crate::lines::LineChoice;
 pub use crate::platform::{Platform, PlatformSpec};
 pub use crate::platform_status::{PlatformEval, PlatformStatus, TargetSpecs};
 pub use crate::requirement_features::RequirementFeatures;

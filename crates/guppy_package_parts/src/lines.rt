@@ -3,6 +3,7 @@
 ghost use Rattle.std.specs.Prelude.{◌≡◌, ◌∷◌, [], MatchOption, filter, option_copied};
 ghost use Rattle.std.specs.List.{filter_map};
 ghost use Rattle.guppy_package_parts.specs.Lines.{line_at};
+ghost use Rattle.guppy_package_parts.specs.LineChoices.{takes};
 ghost use Rattle.guppy_package_parts.specs.LineViews.{is_line_of, lines_of};
 
 use guppy_row_parts::contains_text;
@@ -39,13 +40,35 @@ impl LineTest<'_> {
     }
 }
 
+/// The lines of one kind: those that are required, those that are optional, or both.
+#[derive(Clone, Copy, Debug)]
+pub struct LineChoice {
+    pub kind: LineKind,
+    pub required: bool,
+    pub optional: bool,
+}
+
+impl LineChoice {
+    /// Whether the line is one of these.
+    pub fn takes(&self, line: &LineRecord) -> bool
+        ensures answer { result ≡ takes self.now line.now }
+    {
+        line.kind == self.kind
+            && if line.optional {
+                self.optional
+            } else {
+                self.required
+            }
+    }
+}
+
 /// Lines of a record.
 #[derive(Clone, Copy, Debug)]
 pub(crate) enum Lines<'g> {
     /// Those that pass a test.
     Passing(&'g [LineRecord], LineTest<'g>),
-    /// Those named by the place of their link, and by their place in it.
-    Named(&'g [LinkRecord], &'g [(usize, usize)]),
+    /// Of those named by the place of their link, and by their place in it, the ones that are chosen.
+    Chosen(&'g [LinkRecord], &'g [(usize, usize)], LineChoice),
 }
 
 impl<'g> Lines<'g> {
@@ -58,9 +81,9 @@ impl<'g> Lines<'g> {
                 let (line, others) = first_passing(lines, test)?;
                 Some((line, Lines::Passing(others, test)))
             }
-            Lines::Named(links, places) => {
-                let (line, others) = first_named(links, places)?;
-                Some((line, Lines::Named(links, others)))
+            Lines::Chosen(links, places, choice) => {
+                let (line, others) = first_chosen(links, places, choice)?;
+                Some((line, Lines::Chosen(links, others, choice)))
             }
         }
     }
@@ -75,6 +98,23 @@ fn first_passing<'g>(
     let mut left = lines;
     while let Some((line, others)) = left.split_first() {
         if test.passes(line) {
+            return Some((line, others));
+        }
+        left = others;
+    }
+    None
+}
+
+fn first_chosen<'g>(
+    links: &'g [LinkRecord],
+    places: &'g [(usize, usize)],
+    choice: LineChoice,
+) -> Option<(&'g LineRecord, &'g [(usize, usize)])>
+    ensures { MatchOption result (filter (takes choice) (filter_map (line_at links.entry.now) places.entry.now) ≡ []) (λ p. filter (takes choice) (filter_map (line_at links.entry.now) places.entry.now) ≡ p.0.now ∷ filter (takes choice) (filter_map (line_at links.entry.now) p.1.now)) }
+{
+    let mut left = places;
+    while let Some((line, others)) = first_named(links, left) {
+        if choice.takes(line) {
             return Some((line, others));
         }
         left = others;

@@ -1,14 +1,15 @@
-ghost use Rattle.std.specs.Prelude.{◌≡◌, ◌∷◌, [], All, MatchOption, map, Some};
+ghost use Rattle.std.specs.Prelude.{◌≡◌, ◌∷◌, [], MatchOption, filter, map, Some};
 ghost use Rattle.std.specs.List.{list_any};
 ghost use Rattle.std.specs.Option.{is_none};
-ghost use Rattle.guppy_package_parts.specs.Lines.{IsLineAt, lines_at};
+ghost use Rattle.guppy_package_parts.specs.LineChoices.{takes};
+ghost use Rattle.guppy_package_parts.specs.Lines.{lines_at};
 ghost use Rattle.guppy_package_parts.specs.LineViews.{lines_of};
 ghost use Rattle.guppy_package_parts.specs.PlatformViews.{spec_view};
 ghost use Rattle.guppy_package_parts.specs.Statuses.{IsStatusOf, given_specs, is_always, is_never, is_present, kept_specs, specs_of, status_from, status_of};
 ghost use Rattle.guppy_package_parts.specs.StatusViews.{eval_specs, specs_left, status_view};
 
 use crate::enabled_ternary::EnabledTernary;
-use crate::lines::Lines;
+use crate::lines::{LineChoice, Lines};
 use crate::platform::{Platform, PlatformSpec};
 use workspace_record::LinkRecord;
 
@@ -30,12 +31,16 @@ pub struct PlatformEval<'g> {
 }
 
 impl<'g> PlatformStatus<'g> {
-    /// The status of the lines that are named by the place of their link, and by their place in it.
-    pub fn over(links: &'g [LinkRecord], lines: &'g [(usize, usize)]) -> PlatformStatus<'g>
-        requires in_range { All (IsLineAt links.now) lines.now }
-        ensures { IsStatusOf (specs_of (lines_at links.entry.now lines.entry.now)) (status_view result) }
+    /// The status of the chosen ones of the lines that are named by the place of their link, and by their
+    /// place in it.
+    pub fn over(
+        links: &'g [LinkRecord],
+        lines: &'g [(usize, usize)],
+        choice: LineChoice,
+    ) -> PlatformStatus<'g>
+        ensures status { IsStatusOf (specs_of (filter (takes choice) (lines_at links.entry.now lines.entry.now))) (status_view result) }
     {
-        PlatformStatus::of(Lines::Named(links, lines))
+        PlatformStatus::of(Lines::Chosen(links, lines, choice))
     }
 
     /// The status of these lines.

@@ -3,6 +3,7 @@
 
 pub mod laws;
 mod line_verdict;
+mod starting;
 mod table_platform;
 
 pub use crate::line_verdict::LineVerdict;

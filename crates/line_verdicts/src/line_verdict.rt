@@ -1,18 +1,22 @@
 //! Which links are followed on the platform of a table.
 
-ghost use Rattle.std.specs.Prelude.{◌≡◌, ◌&&◌, ◌||◌, ◌∷◌, [], IfOk, Option, List};
+ghost use Rattle.std.specs.Prelude.{◌≡◌, ◌&&◌, ◌∷◌, [], IfOk, Option, List};
 ghost use Rattle.std.specs.List.{list_any};
 ghost use Rattle.workspace_record.specs.Tables.{answer};
 ghost use Rattle.workspace_record.specs.Records.{Text};
+ghost use Rattle.workspace_record.specs.declared.kinds.LineKind.TheVariants.{Dev};
 ghost use Rattle.feature_account.specs.Lines.{is_in_force};
 ghost use Rattle.guppy_package_parts.specs.Statuses.{AskedPlatforms, IsStatusOf};
 ghost use Rattle.guppy_package_parts.specs.PlatformViews.{spec_view};
 ghost use Rattle.guppy_package_parts.specs.StatusViews.{status_view};
+ghost use Rattle.guppy_row_parts.specs.DependencyKinds.{line_kind_of};
+ghost use Rattle.guppy_feature_views.specs.Views.{link_view};
 ghost use Rattle.line_verdicts.specs.declared.table_platform.TablePlatform.{TablePlatform};
 
+use crate::starting::starts_in_workspace;
 use crate::table_platform::TablePlatform;
 use guppy_feature_graph::{ConditionalLink, FeatureLinkContext, FeatureLinkVisitor};
-use guppy_package_graph::{EnabledTernary, PlatformSpec, PlatformStatus};
+use guppy_package_graph::{DependencyKind, EnabledTernary, PlatformSpec, PlatformStatus};
 use std::alloc::{AllocError, Global};
 use workspace_record::PlatformTable;
 
@@ -27,8 +31,7 @@ pub struct LineVerdict<'t> {
 
 impl<'t> LineVerdict<'t> {
     ghost use Rattle.std.specs.Prelude.{◌↔◌, IsTrue};
-    ghost use Rattle.guppy_feature_views.specs.Views.{link_view};
-    ghost use Rattle.line_verdicts.specs.Verdicts.{HasCountingLine, table_of};
+    ghost use Rattle.line_verdicts.specs.Verdicts.{HasCountingLine, in_force_of, some_counts, starts_in_workspace, table_of};
 
     /// The verdict on the platform of a table.
     pub fn new(alloc: Global, table: &'t PlatformTable) -> Result<LineVerdict<'t>, AllocError>
@@ -44,11 +47,29 @@ impl<'t> LineVerdict<'t> {
     pub fn accepts(&self, link: ConditionalLink<'_>) -> bool
         ensures counting { IsTrue result ↔ HasCountingLine (table_of self.now) (link_view link.entry) }
     {
-        let in_workspace = link.from().package().in_workspace();
-        let normal = self.is_in_force(link.normal());
-        let build = self.is_in_force(link.build());
-        let dev = self.is_in_force(link.dev());
-        some_counts(in_workspace, normal, build, dev)
+        self.some_counts(link)
+    }
+
+    /// Whether a line counts: a normal or a build line, or a dev line of a member of the workspace.
+    fn some_counts(&self, link: ConditionalLink<'_>) -> bool
+        ensures { result ≡ some_counts (table_of self.now) (link_view link.entry) }
+    {
+        self.has_one_in_force(link, DependencyKind::Normal)
+            || self.has_one_in_force(link, DependencyKind::Build)
+            || self.dev_line_counts(link)
+    }
+
+    fn dev_line_counts(&self, link: ConditionalLink<'_>) -> bool
+        ensures { result ≡ (starts_in_workspace (link_view link.entry) && in_force_of (table_of self.now) (link_view link.entry) Dev) }
+    {
+        starts_in_workspace(link) && self.has_one_in_force(link, DependencyKind::Development)
+    }
+
+    /// Whether a line of a kind is in force.
+    fn has_one_in_force(&self, link: ConditionalLink<'_>, kind: DependencyKind) -> bool
+        ensures { result ≡ in_force_of (table_of self.now) (link_view link.entry) (line_kind_of kind) }
+    {
+        self.is_in_force(link.status_for_kind(kind))
     }
 
     /// Whether one of the lines of a status is in force.
@@ -74,11 +95,4 @@ impl FeatureLinkVisitor for LineVerdict<'_> {
     fn visit_link(&mut self, _: &FeatureLinkContext<'_>, link: ConditionalLink<'_>) -> bool {
         self.accepts(link)
     }
-}
-
-/// Whether a line counts: a normal or a build line, or a dev line of a member of the workspace.
-fn some_counts(in_workspace: bool, normal: bool, build: bool, dev: bool) -> bool
-    ensures { result ≡ ((normal || build) || (in_workspace && dev)) }
-{
-    normal || build || (in_workspace && dev)
 }

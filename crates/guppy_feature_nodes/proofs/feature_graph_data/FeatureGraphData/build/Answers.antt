@@ -8,11 +8,6 @@ offer_graph-requires c =
     let parts = c.in_ok-nodes.field-0 in
     parts_within c.args.graph.now.packages c.args.graph.now.links c.link_rows-links.result.now (map edge_view parts.edges.items) (map edge_view c.deref-2.result.now) parts.nodes c.len-count.result c.in_ok-nodes.ensures.edges c.in_ok-nodes.ensures.nodes (search rules) (search rules) (search rules)
 
-pub offer_graph-requires-2 : goal.offer_graph-requires-2
-offer_graph-requires-2 c =
-    let parts = c.in_ok-nodes.field-0 in
-    parts_within c.args.graph.now.packages c.args.graph.now.links c.link_rows-links.result.now (map edge_view parts.edges.items) (map edge_view c.deref-3.result.now) parts.nodes c.len-count.result c.in_ok-nodes.ensures.edges c.in_ok-nodes.ensures.nodes (search rules) (search rules) (search rules)
-
 pub orders_of-requires : goal.orders_of-requires
 orders_of-requires c =
     let parts = c.in_ok-nodes.field-0 in

@@ -1,29 +1,11 @@
-use Rattle.std.proofs.Common.{◌≡◌, ◌∙◌, ◌↔◌, ◌&&◌, ◌||◌, IsTrue, ap, ap₂, is_some, subst, sym}
-use Rattle.guppy_package_graph.specs.Views.{graph_of, place_of}
-use Rattle.guppy_package_graph.proofs.PlaceFacts.{member_at}
-use Rattle.guppy_package_table.specs.Tables.{TableValue, member_path_at}
-use Rattle.guppy_feature_nodes.specs.Graphs.{FeatureGraphValue, feature_at}
-use Rattle.guppy_feature_views.specs.Links.{LinkValue, edge_of}
-use Rattle.guppy_feature_views.specs.Views.{link_view, metadata_graph_of, node_of}
-use Rattle.guppy_package_graph.specs.Finding.{IsAt}
-use Rattle.line_verdicts.specs.Verdicts.{HasCountingLine, starts_in_workspace, table_of}
+use Rattle.std.proofs.Common.{◌↔◌, IsTrue, subst, sym}
+use Rattle.guppy_feature_views.specs.Views.{link_view}
+use Rattle.line_verdicts.specs.Verdicts.{HasCountingLine, table_of}
 use Rattle.line_verdicts.proofs.Counting.{counting_iff}
 use Rattle.line_verdicts.proofs.line_verdict.LineVerdict.accepts.Goals as goal
 
 pub returns : goal.returns
 returns c =
-    let l : LinkValue = link_view c.args.link in
     let table = table_of c.args.self.now in
-    let from = c.from.result in
-    let graph : metadata_graph_of from ≡ l.graph = c.from.ensures.graph in
-    let at : IsAt l.graph.rows (feature_at l.graph (edge_of l).from).package_id (place_of c.package.result) =
-    subst (λ n. IsAt l.graph.rows (feature_at l.graph n).package_id (place_of c.package.result)) c.from.ensures.node
-    (subst (λ (g : FeatureGraphValue). IsAt g.rows (feature_at g (node_of from)).package_id (place_of c.package.result)) graph c.package.ensures.package) in
-    let rows : graph_of c.package.result ≡ l.graph.rows = c.package.ensures.graph ∙ ap (λ (g : FeatureGraphValue). g.rows) graph in
-    let member : c.in_workspace-in_workspace.result ≡ starts_in_workspace l =
-    c.in_workspace-in_workspace.ensures.member ∙ ap (λ (g : TableValue). is_some (member_path_at g (place_of c.package.result))) rows ∙ member_at l.graph.rows _ (place_of c.package.result) at in
-    let normal = c.is_in_force-normal.ensures _ c.normal.ensures.status in
-    let build = c.is_in_force-build.ensures _ c.build.ensures.status in
-    let dev = c.is_in_force-dev.ensures _ c.dev.ensures.status in
-    let value = c.some_counts.ensures ∙ ap₂ ◌||◌ (ap₂ ◌||◌ normal build) (ap₂ ◌&&◌ member dev) in
-    record { counting = subst (λ b. IsTrue b ↔ HasCountingLine table l) (sym value) (counting_iff table l) }
+    let l = link_view c.args.link in
+    record { counting = subst (λ b. IsTrue b ↔ HasCountingLine table l) (sym c.some_counts.ensures) (counting_iff table l) }

@@ -4,40 +4,34 @@ use Rattle.numbered_offers.specs.Graphs.{OfferGraphValue}
 use Rattle.numbered_offers.specs.OfferWalks.{OfferWalkValue}
 use Rattle.numbered_offers.specs.Runs.{Run}
 use Rattle.guppy_package_graph.specs.Visits.{Chain}
-use Rattle.guppy_feature_graph.specs.Resolves.{shown_to}
-use Rattle.guppy_feature_graph.proofs.ResolveFacts.{Chain-append, Chain-by, SameSteps-trans, offer_below, run_more, shown_more, walk_more}
-use Rattle.guppy_feature_graph.proofs.resolving.resolve_by_visitor.Goals as goal
+use Rattle.guppy_feature_graph.specs.Closures.{AsksClosure}
+use Rattle.guppy_feature_graph.proofs.ResolveFacts.{Chain-append, offer_below, run_more, walk_more}
+use Rattle.guppy_feature_graph.proofs.resolving.show_to_closure.Goals as goal
 
 pub loop-due-preserved : goal.loop-due-preserved
 loop-due-preserved g c =
-    let before = goal.FeatureLinkVisitor-dyn g c.args.visitor.now in
-    let here = goal.FeatureLinkVisitor-dyn g c.loop-due.visitor.now in
-    let after = goal.FeatureLinkVisitor-dyn g (c.loop-due.visitor.now.0, c.ask_due-first.new.visitor) in
     let q = c.args.query.now in
     let was = c.loop-due.invariant in
     let w = c.loop-due.walk in
     let taken = c.in-Some.ensures.kept in
     let answered = c.answer.ensures.answered in
     let due = c.in-Some.due in
-    let a = c.ask_due-first.result.0 in
-    let b = c.ask_due-first.result.1 in
+    let a = c.ask_closure_due-first.result.0 in
+    let b = c.ask_closure_due-first.result.1 in
     let more = asked_of (Some due) a b in
     let run : c.answer.new.self.run ≡ w.run ++ more = run_more q w c.take.new.self c.answer.new.self due a b taken answered in
-    let R = before.steps c.args.visitor.now.1 in
-    let first = before.state c.args.visitor.now.1 in
-    let mid = here.state c.loop-due.visitor.now.1 in
-    let last = after.state c.ask_due-first.new.visitor in
-    let step = Chain-by (here.steps c.loop-due.visitor.now.1) R (shown_to q more) mid last was.same.back c.ask_due-first.ensures.step in
+    let R = AsksClosure g.F.FnMut q in
+    let last = c.ask_closure_due-first.new.accepts in
     record {
       walk = walk_more q w c.take.new.self c.answer.new.self due a b was.walk taken answered;
-      chain = subst (λ (r : Run). Chain R first (shown_to q r) last) (sym run) (subst (λ xs. Chain R first xs last) (sym (shown_more q w.run more)) (Chain-append R (shown_to q w.run) (shown_to q more) first mid last was.chain step));
-      same = SameSteps-trans was.same c.ask_due-first.ensures.same;
+      chain = subst (λ (r : Run). Chain R c.args.accepts.now r last) (sym run) (Chain-append R w.run more c.args.accepts.now c.loop-due.accepts last was.chain c.ask_closure_due-first.ensures.asks);
+      callable = c.ask_closure_due-first.ensures.callable;
       looks = let looked = ap (λ (v : OfferWalkValue). v.looked) answered in let took = c.in-Some.ensures.looks in let so_far = was.looks in omega arith;
       bound = let looked = ap (λ (v : OfferWalkValue). v.looked) answered in let most = c.in-Some.ensures.bound in let of_graph = ap (λ (v : OfferWalkValue). v.graph) taken ∙ was.walk.graph in let nodes = ap (λ (x : OfferGraphValue). x.nodes) of_graph in omega arith;
     }
 
-pub ask_due-first-requires : goal.ask_due-first-requires
-ask_due-first-requires g c = λ o asked. offer_below c.args.query.now c.loop-due.walk c.loop-due.invariant.walk o (c.in-Some.ensures.due o asked).offered
+pub ask_closure_due-first-requires-clause-within : goal.ask_closure_due-first-requires-clause-within
+ask_closure_due-first-requires-clause-within g c = λ o asked. offer_below c.args.query.now c.loop-due.walk c.loop-due.invariant.walk o (c.in-Some.ensures.due o asked).offered
 
 pub returns-clause-looks : goal.returns-clause-looks
 returns-clause-looks g c =

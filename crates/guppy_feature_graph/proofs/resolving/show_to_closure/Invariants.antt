@@ -4,7 +4,7 @@ use Rattle.guppy_package_graph.specs.Visits.{Chain}
 use Rattle.guppy_feature_graph.specs.Closures.{AsksClosure}
 use Rattle.numbered_offers.specs.Edges.{is_weak}
 use Rattle.guppy_feature_graph.proofs.ResolveFacts.{IsWalkOf}
-use Rattle.guppy_feature_graph.proofs.resolving.resolve_by_closure.Given as goal
+use Rattle.guppy_feature_graph.proofs.resolving.show_to_closure.Given as goal
 
 abbrev pub invariant-loop-due : goal.invariant-loop-due
 invariant-loop-due g l = record {

@@ -3,7 +3,7 @@ use Rattle.guppy_package_graph.specs.Visits.{Chain, SameSteps}
 use Rattle.guppy_feature_graph.specs.Resolves.{shown_to}
 use Rattle.numbered_offers.specs.Edges.{is_weak}
 use Rattle.guppy_feature_graph.proofs.ResolveFacts.{IsWalkOf}
-use Rattle.guppy_feature_graph.proofs.resolving.resolve_by_visitor.Given as goal
+use Rattle.guppy_feature_graph.proofs.resolving.show_to_visitor.Given as goal
 
 abbrev pub invariant-loop-due : goal.invariant-loop-due
 invariant-loop-due g l =

@@ -1,0 +1,111 @@
+//! The links of the lines behind an edge.
+
+ghost use Rattle.std.specs.Prelude.{◌≡◌, ◌-◌, IfOk, OnOk, Some, length, nat_eq, slice_get, true, if◌then◌else◌};
+ghost use Rattle.std.specs.List.{list_any};
+ghost use Rattle.std.specs.List.Sorted.{IsStrictlySortedBy};
+ghost use Rattle.indexmap.specs.IndexSet.{insert_key};
+ghost use Rattle.guppy_feature_edges.specs.Joining.{place_cmp};
+ghost use Rattle.guppy_feature_nodes.specs.EdgeLinkViews.{AreEdgeLinks, shown_of};
+ghost use Rattle.guppy_feature_nodes.specs.Lines.{declares_at, links_shown};
+
+use crate::edge_lines::declares_at;
+use guppy_feature_ids::LinkDeclarations;
+use guppy_row_parts::LinkRow;
+use std::alloc::{AllocError, Global};
+
+/// The links of all lines behind an edge, of the required ones, and of the optional ones, each once, in
+/// the order of the record.
+#[derive(Debug)]
+pub(crate) struct EdgeLinks {
+    pub unsplit: Vec<usize>,
+    pub required: Vec<usize>,
+    pub optional: Vec<usize>,
+}
+
+// Written out, so that a function that lets one go takes one step.
+impl Drop for EdgeLinks {
+    fn drop(self) {
+        let EdgeLinks {
+            unsplit: _,
+            required: _,
+            optional: _,
+        } = self;
+    }
+}
+
+impl EdgeLinks {
+    /// The links of these lines, which ascend, each told by the number of its link and by its own there.
+    pub(crate) fn of(
+        alloc: Global,
+        links: &[LinkRow],
+        places: &[(usize, usize)],
+    ) -> Result<EdgeLinks, AllocError>
+        requires { IsStrictlySortedBy place_cmp places.now }
+        ensures { IfOk result (AreEdgeLinks links.now places.now) }
+    {
+        let unsplit = links_declaring(alloc, links, places, LinkDeclarations::Unsplit)?;
+        let required = links_declaring(alloc, links, places, LinkDeclarations::Required)?;
+        let optional = links_declaring(alloc, links, places, LinkDeclarations::Optional)?;
+        Ok(EdgeLinks {
+            unsplit,
+            required,
+            optional,
+        })
+    }
+
+    /// Those of the lines that declare what is shown.
+    pub(crate) fn shown(&self, shown: LinkDeclarations) -> &[usize]
+        ensures { result.now ≡ shown_of self.now shown }
+    {
+        match shown {
+            LinkDeclarations::Unsplit => &self.unsplit,
+            LinkDeclarations::Required => &self.required,
+            LinkDeclarations::Optional => &self.optional,
+        }
+    }
+}
+
+fn links_declaring(
+    alloc: Global,
+    links: &[LinkRow],
+    places: &[(usize, usize)],
+    shown: LinkDeclarations,
+) -> Result<Vec<usize>, AllocError>
+    requires { IsStrictlySortedBy place_cmp places.now }
+    ensures { IfOk result (λ v. v.items ≡ links_shown links.now shown places.now) }
+{
+    let mut numbers = Vec::new(alloc);
+    for place in places {
+        push_link(links, shown, *place, &mut numbers)?;
+    }
+    Ok(numbers)
+}
+
+// Adds the link of a line that declares what is shown, unless it is the last one, which it is where it is there.
+fn push_link(
+    links: &[LinkRow],
+    shown: LinkDeclarations,
+    place: (usize, usize),
+    numbers: &mut Vec<usize>,
+) -> Result<(), AllocError>
+    requires { list_any (nat_eq place.0) numbers.old.items ≡ true → slice_get numbers.old.items (length numbers.old.items - 1) ≡ Some place.0 }
+    ensures { OnOk result (numbers.new.items ≡ (if declares_at links.now shown place then insert_key nat_eq numbers.old.items place.0 else numbers.old.items)) }
+{
+    if declares_at(links, shown, place) {
+        push_new(place.0, numbers)?;
+    }
+    Ok(())
+}
+
+fn push_new(number: usize, numbers: &mut Vec<usize>) -> Result<(), AllocError>
+    requires { list_any (nat_eq number) numbers.old.items ≡ true → slice_get numbers.old.items (length numbers.old.items - 1) ≡ Some number }
+    ensures { OnOk result (numbers.new.items ≡ insert_key nat_eq numbers.old.items number) }
+{
+    match numbers.last() {
+        Some(last) if *last == number => Ok(()),
+        _ => {
+            numbers.push(number)?;
+            Ok(())
+        }
+    }
+}
