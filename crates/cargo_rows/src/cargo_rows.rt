@@ -1,12 +1,15 @@
-use crate::made::{
-    Made, choice_made, nextest_made, record_made, spec_told, table_made, terse_made,
-};
+use crate::made::{tell_made, tell_refused, tell_whole};
+use cargo_cfg::spec_holds;
 use cargo_choice::FeatureWords;
+use cargo_files::{
+    Refusal, add_listing, choice_file, listings_file, nextest_listings, record_file, settings_file,
+    table_file, tests_printed,
+};
 use cargo_record::Wanted;
 use record_files::read_record;
 use record_writing::record_text;
 use row_program::{Answers, Row, RowFault, RowRunner, file_text};
-use std::alloc::{AllocError, Global};
+use std::alloc::Global;
 
 /// Rows of conversions. A row's `kind` says what is made: `spec`, `table`, `record`, `choice`, or the
 /// listings of one binary by `terse` or `nextest`. What comes is the file that is `made`, or of a spec
@@ -40,51 +43,66 @@ impl RowRunner for CargoRows {
         row: Row<'_>,
         answers: &mut Answers,
     ) -> Result<(), RowFault> {
-        let made = made_of(alloc, row)?;
-        answers.push("made", made.text)?;
-        answers.push("refused", made.refused)
+        match row.text("kind")? {
+            "spec" => tell_spec(alloc, row, answers),
+            "table" => tell_table(alloc, row, answers),
+            "record" => tell_record(alloc, row, answers),
+            "choice" => tell_choice(alloc, row, answers),
+            "terse" => tell_terse(alloc, row, answers),
+            "nextest" => tell_nextest(alloc, row, answers),
+            _ => Err(RowFault::Key("kind")),
+        }
     }
 }
 
-fn made_of(alloc: Global, row: Row<'_>) -> Result<Made, RowFault> {
-    match row.text("kind")? {
-        "spec" => spec_of(alloc, row),
-        "table" => table_of(alloc, row),
-        "record" => record_of(alloc, row),
-        "choice" => choice_of(alloc, row),
-        "terse" => terse_of(alloc, row),
-        "nextest" => nextest_of(alloc, row),
-        _ => Err(RowFault::Key("kind")),
+/// Whether the platform of the settings has what the spec asks for.
+fn tell_spec(alloc: Global, row: Row<'_>, answers: &mut Answers) -> Result<(), RowFault> {
+    let (spec, triple) = (row.text("spec")?, row.text("triple")?);
+    match settings_file(alloc, row.text("cfg")?.as_bytes()) {
+        Ok(settings) => match spec_holds(spec, triple, &settings) {
+            Ok(holds) => tell_whole(&holds, answers),
+            Err(fault) => tell_refused(&fault, answers),
+        },
+        Err(refusal) => tell_made("cfg.txt", Err(refusal), answers),
     }
+    Ok(())
 }
 
-fn spec_of(alloc: Global, row: Row<'_>) -> Result<Made, RowFault> {
-    let printed = row.text("cfg")?.as_bytes();
-    Ok(spec_told(alloc, row.text("spec")?, row.text("triple")?, printed)?)
-}
-
-fn table_of(alloc: Global, row: Row<'_>) -> Result<Made, RowFault> {
+fn tell_table(alloc: Global, row: Row<'_>, answers: &mut Answers) -> Result<(), RowFault> {
+    let (triple, printed) = (row.text("triple")?, row.text("cfg")?);
     let record = file_in(alloc, row, "record")?;
-    let printed = row.text("cfg")?.as_bytes();
-    Ok(table_made(alloc, record.as_bytes(), row.text("triple")?, printed)?)
-}
-
-fn record_of(alloc: Global, row: Row<'_>) -> Result<Made, RowFault> {
-    let metadata = file_in(alloc, row, "metadata")?;
-    let names = row.texts(alloc, "packages")?;
-    let wanted = wanted_by(row.get("workspace").is_some(), &names);
-    let made = record_made(alloc, metadata.as_bytes(), wanted)?;
-    if made.refused.is_empty() && !reads_back(alloc, made.text.as_str())? {
-        return Err(RowFault::Key("made"));
+    match settings_file(alloc, printed.as_bytes()) {
+        Ok(settings) => {
+            let table = table_file(alloc, record.as_bytes(), triple, &settings);
+            tell_made("record.json", table, answers);
+        }
+        Err(refusal) => tell_made("cfg.txt", Err(refusal), answers),
     }
-    Ok(made)
+    Ok(())
 }
 
-/// Whether the file of a record is read as the record of which just this file is made.
-fn reads_back(alloc: Global, text: &str) -> Result<bool, AllocError> {
+/// The record, which has to be read as one of which just this file is made.
+fn tell_record(alloc: Global, row: Row<'_>, answers: &mut Answers) -> Result<(), RowFault> {
+    let names = row.texts(alloc, "packages")?;
+    let metadata = file_in(alloc, row, "metadata")?;
+    let wanted = wanted_by(row.get("workspace").is_some(), &names);
+    let made = record_file(alloc, metadata.as_bytes(), wanted);
+    let is_kept = match &made {
+        Ok(text) => reads_back(alloc, text.as_str()),
+        Err(_) => true,
+    };
+    tell_made("metadata.json", made, answers);
+    if is_kept {
+        Ok(())
+    } else {
+        Err(RowFault::Key("made"))
+    }
+}
+
+fn reads_back(alloc: Global, text: &str) -> bool {
     match read_record(alloc, text.as_bytes()) {
-        Ok(record) => Ok(record_text(alloc, &record)?.as_str() == text),
-        Err(_) => Ok(false),
+        Ok(record) => record_text(alloc, &record).is_ok_and(|again| again.as_str() == text),
+        Err(_) => false,
     }
 }
 
@@ -98,33 +116,63 @@ fn wanted_by<'m>(workspace: bool, names: &'m [&'m str]) -> Wanted<'m> {
     }
 }
 
-fn choice_of(alloc: Global, row: Row<'_>) -> Result<Made, RowFault> {
-    let record = file_in(alloc, row, "record")?;
-    let features = row.texts(alloc, "features")?;
+fn tell_choice(alloc: Global, row: Row<'_>, answers: &mut Answers) -> Result<(), RowFault> {
     let flags = row.texts(alloc, "flags")?;
+    let no_default_features = flags.contains(&"no-default-features");
+    let all_features = flags.contains(&"all-features");
+    let features = row.texts(alloc, "features")?;
+    let record = file_in(alloc, row, "record")?;
     let words = FeatureWords {
         features: &features,
-        no_default_features: flags.contains(&"no-default-features"),
-        all_features: flags.contains(&"all-features"),
+        no_default_features,
+        all_features,
     };
-    Ok(choice_made(alloc, record.as_bytes(), words)?)
+    let choice = choice_file(alloc, record.as_bytes(), words);
+    tell_made("record.json", choice, answers);
+    Ok(())
 }
 
-fn terse_of(alloc: Global, row: Row<'_>) -> Result<Made, RowFault> {
+/// The listings of one binary, of what it printed, if it printed something.
+fn tell_terse(alloc: Global, row: Row<'_>, answers: &mut Answers) -> Result<(), RowFault> {
+    let id = row.text("id")?;
     let built = row.get("built").is_some();
-    match row.get("printed") {
-        Some(_) => {
-            let printed = row.text("printed")?.as_bytes();
-            Ok(terse_made(alloc, row.text("id")?, Some(printed), built)?)
-        }
-        None => Ok(terse_made(alloc, row.text("id")?, None, built)?),
-    }
+    let printed = match row.get("printed") {
+        Some(_) => Some(row.text("printed")?.as_bytes()),
+        None => None,
+    };
+    tell_made("lists", terse_file(alloc, id, printed, built), answers);
+    Ok(())
 }
 
-fn nextest_of(alloc: Global, row: Row<'_>) -> Result<Made, RowFault> {
+fn terse_file(
+    alloc: Global,
+    id: &str,
+    printed: Option<&[u8]>,
+    built: bool,
+) -> Result<String, Refusal> {
+    let tests = match printed {
+        Some(printed) => Some(tests_printed(alloc, id, printed)?),
+        None => None,
+    };
+    let mut listings = Vec::new(alloc);
+    add_listing(alloc, &mut listings, id, tests, built)?;
+    listings_file(alloc, &listings)
+}
+
+/// The listings of one binary, of what nextest listed.
+fn tell_nextest(alloc: Global, row: Row<'_>, answers: &mut Answers) -> Result<(), RowFault> {
+    let id = row.text("id")?;
+    let built = row.get("built").is_some();
     let list = file_in(alloc, row, "list")?;
-    let built = row.get("built").is_some();
-    Ok(nextest_made(alloc, row.text("id")?, list.as_bytes(), built)?)
+    let file = nextest_file(alloc, id, list.as_bytes(), built);
+    tell_made("nextest.json", file, answers);
+    Ok(())
+}
+
+fn nextest_file(alloc: Global, id: &str, printed: &[u8], built: bool) -> Result<String, Refusal> {
+    let ids = [String::from_str(alloc, id)?];
+    let listings = nextest_listings(alloc, printed, &ids, built)?;
+    listings_file(alloc, &listings)
 }
 
 /// The file under a key: a text as it stands, and else the JSON.

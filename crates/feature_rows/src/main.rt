@@ -5,6 +5,7 @@
 mod accounts;
 mod graphs;
 mod nodes;
+mod records;
 
 use crate::accounts::AccountRows;
 use crate::graphs::GraphRows;

@@ -4,6 +4,7 @@
 
 mod compiled;
 mod matchers;
+mod spans;
 mod syntax;
 mod texts;
 

@@ -41,6 +41,14 @@ impl Answers {
         self.keep(key, format!(in self.alloc; "{value}"));
     }
 
+    /// Keeps what a value prints, for which there may have been no memory.
+    pub fn made<T: Display + Drop>(&mut self, key: &'static str, value: Result<T, AllocError>) {
+        match value {
+            Ok(value) => self.show(key, &value),
+            Err(_) => self.refused = true,
+        }
+    }
+
     /// Keeps what the items print, parted by spaces.
     pub fn list<T: Display + Drop>(
         &mut self,
@@ -53,7 +61,8 @@ impl Answers {
         }
     }
 
-    fn words<T: Display>(&mut self, key: &'static str, items: &[T]) {
+    /// As `list`, of items that there are.
+    pub fn words<T: Display>(&mut self, key: &'static str, items: &[T]) {
         self.begin(key);
         for item in items {
             self.part(" ", item);
@@ -87,21 +96,6 @@ impl Answers {
         if let Some(answer) = self.items.last_mut() {
             self.refused |= write!(answer.text, "{value}").is_err();
         }
-    }
-
-    /// As `keep`, of a text that there is.
-    pub fn push(&mut self, key: &'static str, text: String) -> Result<(), RowFault> {
-        self.items.push(Answer { key, text })?;
-        Ok(())
-    }
-
-    /// As `keep`, and ends the row where there is no memory.
-    pub fn tell(
-        &mut self,
-        key: &'static str,
-        text: Result<String, AllocError>,
-    ) -> Result<(), RowFault> {
-        self.push(key, text?)
     }
 }
 

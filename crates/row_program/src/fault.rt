@@ -1,5 +1,4 @@
 use std::alloc::{AllocError, AllocFailed};
-use std::string::FromUtf8Error;
 use thiserror::Error;
 
 /// Why a row was not run.
@@ -11,9 +10,6 @@ pub enum RowFault {
     /// What the row is run on could not be made, for this reason.
     #[error("{0}")]
     Refused(String),
-    /// What came is no text.
-    #[error("what came is not UTF-8")]
-    NoText,
     /// There was no memory to run the row.
     #[error("out of memory")]
     Memory,
@@ -28,11 +24,5 @@ impl From<AllocError> for RowFault {
 impl<T: Drop> From<AllocFailed<T>> for RowFault {
     fn from(_refused: AllocFailed<T>) -> RowFault {
         RowFault::Memory
-    }
-}
-
-impl From<FromUtf8Error> for RowFault {
-    fn from(_bytes: FromUtf8Error) -> RowFault {
-        RowFault::NoText
     }
 }

@@ -1,11 +1,9 @@
-use crate::accounts::rule_texts::{conclusions_text, rules_text};
+use crate::accounts::rule_texts::{tell_conclusions, tell_rules};
 use crate::accounts::switching::tell_switching;
-use feature_account::{
-    FeatureChoice, Rule, Verdict, WorkspaceRecord, check_account, check_explanation, rules,
-};
+use feature_account::{Verdict, check_account, check_explanation, rules};
 use record_files::AccountFile;
 use row_program::{Answers, Row, RowFault, RowRunner};
-use row_records::{Question, account_in, choice_in, record_in, table_in};
+use row_records::{Question, account_in, question_in};
 use std::alloc::{AllocError, Global};
 
 /// Rows of rules, accounts and explanations. A row's `files` are `record.json`, and where it has them
@@ -27,35 +25,9 @@ impl RowRunner for AccountRows {
         row: Row<'_>,
         answers: &mut Answers,
     ) -> Result<(), RowFault> {
-        let record = record_in(alloc, row, "record.json")?;
-        run_on_record(alloc, row, &record, answers)
+        let question = question_in(alloc, row)?;
+        tell_question(alloc, row, question.lent(), answers)
     }
-}
-
-fn run_on_record(
-    alloc: Global,
-    row: Row<'_>,
-    record: &WorkspaceRecord,
-    answers: &mut Answers,
-) -> Result<(), RowFault> {
-    let choice = choice_in(alloc, row)?;
-    run_on_choice(alloc, row, record, &choice, answers)
-}
-
-fn run_on_choice(
-    alloc: Global,
-    row: Row<'_>,
-    record: &WorkspaceRecord,
-    choice: &FeatureChoice,
-    answers: &mut Answers,
-) -> Result<(), RowFault> {
-    let table = table_in(alloc, row)?;
-    let question = Question {
-        record,
-        choice,
-        table: &table,
-    };
-    tell_question(alloc, row, question, answers)
 }
 
 fn tell_question(
@@ -64,67 +36,31 @@ fn tell_question(
     question: Question<'_>,
     answers: &mut Answers,
 ) -> Result<(), RowFault> {
-    tell_rules(alloc, row, question, answers)?;
-    tell_verdict(alloc, row, question, answers)
+    let numbers = row.numbers(alloc, "account")?;
+    tell_listed(alloc, question, &numbers, answers);
+    let account = account_in(alloc, row)?;
+    match verdict_on(alloc, question, &account) {
+        Ok(verdict) => answers.keep("verdict", format!(in alloc; "{verdict:?}")),
+        Err(refused) => answers.keep("verdict", Err(refused)),
+    }
+    Ok(())
 }
 
-fn tell_rules(
-    alloc: Global,
-    row: Row<'_>,
-    question: Question<'_>,
-    answers: &mut Answers,
-) -> Result<(), RowFault> {
+/// Tells the rules, what is on by them, and what those of the account conclude.
+fn tell_listed(alloc: Global, question: Question<'_>, account: &[usize], answers: &mut Answers) {
     let Question {
         record,
         choice,
         table,
     } = question;
-    let rules = rules(alloc, record, choice, table)?;
-    tell_listed(alloc, row, question, rules.as_slice(), answers)
-}
-
-fn tell_listed(
-    alloc: Global,
-    row: Row<'_>,
-    question: Question<'_>,
-    rules: &[Rule],
-    answers: &mut Answers,
-) -> Result<(), RowFault> {
-    answers.tell("rules", rules_text(alloc, rules))?;
-    tell_switching(alloc, question, rules, answers)?;
-    tell_conclusions(alloc, row, rules, answers)
-}
-
-fn tell_conclusions(
-    alloc: Global,
-    row: Row<'_>,
-    rules: &[Rule],
-    answers: &mut Answers,
-) -> Result<(), RowFault> {
-    let account = row.numbers(alloc, "account")?;
-    answers.tell(
-        "concludes",
-        conclusions_text(alloc, rules, account.as_slice()),
-    )
-}
-
-fn tell_verdict(
-    alloc: Global,
-    row: Row<'_>,
-    question: Question<'_>,
-    answers: &mut Answers,
-) -> Result<(), RowFault> {
-    let account = account_in(alloc, row)?;
-    answers.tell("verdict", verdict_text(alloc, question, &account))
-}
-
-fn verdict_text(
-    alloc: Global,
-    question: Question<'_>,
-    account: &AccountFile,
-) -> Result<String, AllocError> {
-    let verdict = verdict_on(alloc, question, account)?;
-    format!(in alloc; "{verdict:?}")
+    match rules(alloc, record, choice, table) {
+        Ok(rules) => {
+            tell_rules(&rules, answers);
+            tell_switching(alloc, question, &rules, answers);
+            tell_conclusions(&rules, account, answers);
+        }
+        Err(refused) => answers.keep("rules", Err(refused)),
+    }
 }
 
 fn verdict_on(

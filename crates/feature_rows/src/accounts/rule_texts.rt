@@ -1,68 +1,47 @@
-//! Features and rules as texts: `app/full`, `app/fast & app/dep:util -> util/simd`.
+//! Rules as texts: `app/fast & app/dep:util -> util/simd`.
 
-use feature_account::{Feature, Label, Premises, Rule};
-use std::alloc::{AllocError, Global};
+use feature_account::{Premises, Rule};
+use row_program::Answers;
+use row_records::add_feature;
 
-/// Adds a feature: `app`, `app/full` or `app/dep:util`.
-pub(crate) fn push_feature(text: &mut String, feature: &Feature) -> Result<(), AllocError> {
-    text.push_str(feature.package.as_str())?;
-    match &feature.label {
-        Label::Base => Ok(()),
-        Label::Named(name) => {
-            text.push('/')?;
-            text.push_str(name.as_str())
-        }
-        Label::Dep(name) => {
-            text.push_str("/dep:")?;
-            text.push_str(name.as_str())
-        }
+/// Tells a line for each rule.
+pub(crate) fn tell_rules(rules: &[Rule], answers: &mut Answers) {
+    answers.begin("rules");
+    for rule in rules {
+        add_premises(&rule.premises, answers);
+        answers.add(&"-> ");
+        add_feature(&rule.conclusion, answers);
+        answers.add(&"\n");
     }
 }
 
-fn push_rule(text: &mut String, rule: &Rule) -> Result<(), AllocError> {
-    match &rule.premises {
+fn add_premises(premises: &Premises, answers: &mut Answers) {
+    match premises {
         Premises::None => {}
         Premises::One(premise) => {
-            push_feature(text, premise)?;
-            text.push(' ')?;
+            add_feature(premise, answers);
+            answers.add(&" ");
         }
         Premises::Two(first, second) => {
-            push_feature(text, first)?;
-            text.push_str(" & ")?;
-            push_feature(text, second)?;
-            text.push(' ')?;
+            add_feature(first, answers);
+            answers.add(&" & ");
+            add_feature(second, answers);
+            answers.add(&" ");
         }
     }
-    text.push_str("-> ")?;
-    push_feature(text, &rule.conclusion)
 }
 
-/// A line for each rule.
-pub(crate) fn rules_text(alloc: Global, rules: &[Rule]) -> Result<String, AllocError> {
-    let mut text = String::new(alloc);
-    for rule in rules {
-        push_rule(&mut text, rule)?;
-        text.push('\n')?;
-    }
-    Ok(text)
-}
-
-/// What the rules with these numbers conclude, parted by spaces. A number that no rule has concludes
+/// Tells what the rules with these numbers conclude, parted by spaces. A number that no rule has concludes
 /// `?`.
-pub(crate) fn conclusions_text(
-    alloc: Global,
-    rules: &[Rule],
-    account: &[usize],
-) -> Result<String, AllocError> {
-    let mut text = String::new(alloc);
-    for (place, number) in account.iter().enumerate() {
-        if place > 0 {
-            text.push(' ')?;
-        }
+pub(crate) fn tell_conclusions(rules: &[Rule], account: &[usize], answers: &mut Answers) {
+    answers.begin("concludes");
+    for number in account {
         match rules.get(*number) {
-            Some(rule) => push_feature(&mut text, &rule.conclusion)?,
-            None => text.push('?')?,
+            Some(rule) => {
+                answers.part(" ", &"");
+                add_feature(&rule.conclusion, answers);
+            }
+            None => answers.part(" ", &"?"),
         }
     }
-    Ok(text)
 }

@@ -2,6 +2,7 @@
 
 use crate::graphs::link_texts::link_text;
 use guppy_feature_graph::{ConditionalLink, FeatureLinkContext, FeatureLinkVisitor};
+use row_program::Answers;
 use std::alloc::{AllocError, Global};
 
 /// What is accepted.
@@ -89,24 +90,19 @@ impl Chooser {
         accepted
     }
 
-    /// How many links were shown.
-    pub(crate) fn asked(&self) -> usize {
-        self.asked
-    }
-
-    /// What the links said, in the order in which they were shown.
-    pub(crate) fn into_text(self, alloc: Global) -> Result<String, AllocError> {
-        let mut text = String::new(alloc);
-        for part in self.texts {
-            if !text.is_empty() {
-                text.push_str("; ")?;
+    /// Tells how many links were shown, and what they said, in the order in which they were shown.
+    pub(crate) fn tell(self, answers: &mut Answers) {
+        answers.show("offers", &self.asked);
+        answers.begin("offered");
+        for text in self.texts {
+            match text {
+                Ok(text) => answers.part("; ", &text),
+                Err(refused) => answers.keep("offered", Err(refused)),
             }
-            text.push_str(part?.as_str())?;
         }
         if self.lost {
-            text.push_str("; and more")?;
+            answers.part("; ", &"and more");
         }
-        Ok(text)
     }
 }
 

@@ -1,10 +1,10 @@
 //! Features named by rows, as `package/name`, `package/dep:name` or `package/[base]`.
 
-use guppy_feature_graph::{FeatureId, FeatureLabel, FeatureSet};
-use guppy_package_graph::{Error, PackageId};
-use row_program::{Row, RowFault};
-use serde_json::Value;
+use guppy_feature_graph::{FeatureGraph, FeatureId, FeatureLabel, FeatureList, FeatureSet};
+use guppy_package_graph::PackageId;
+use row_program::{Answers, Row, RowFault};
 use std::alloc::{AllocError, Global};
+use std::fmt::Display;
 
 /// A package's id, and what its feature is called.
 #[derive(Drop)]
@@ -19,7 +19,8 @@ impl Named<'_> {
     }
 }
 
-fn read_feature<'a>(alloc: Global, text: &'a str) -> Result<Named<'a>, AllocError> {
+/// The feature that a text names.
+pub(crate) fn read_feature<'a>(alloc: Global, text: &'a str) -> Result<Named<'a>, AllocError> {
     let (package, name) = text.split_once('/').unwrap_or((text, "[base]"));
     let package_id = PackageId::new(String::from_str(alloc, package)?);
     let label = match name.strip_prefix("dep:") {
@@ -28,14 +29,6 @@ fn read_feature<'a>(alloc: Global, text: &'a str) -> Result<Named<'a>, AllocErro
         None => FeatureLabel::Named(name),
     };
     Ok(Named { package_id, label })
-}
-
-/// The feature under `find`.
-pub(crate) fn find_in<'a>(alloc: Global, row: Row<'a>) -> Result<Option<Named<'a>>, AllocError> {
-    match row.get("find").and_then(Value::as_str) {
-        Some(text) => Ok(Some(read_feature(alloc, text)?)),
-        None => Ok(None),
-    }
 }
 
 /// The features under a key.
@@ -63,41 +56,65 @@ pub(crate) fn ids_of<'b>(
     Ok(ids)
 }
 
-/// Those of these features that are in a set.
-pub(crate) fn members_text(
-    alloc: Global,
+/// A graph, and its features in the order of their numbers.
+#[derive(Clone, Copy)]
+pub(crate) struct Asked<'a, 'g> {
+    pub graph: FeatureGraph<'g>,
+    pub features: &'a [FeatureId<'g>],
+}
+
+/// Tells those of these features that are in a set which was made, or why it was not.
+pub(crate) fn tell_members<E: Display + Drop>(
+    key: &'static str,
+    set: Result<FeatureSet<'_>, E>,
+    features: &[FeatureId<'_>],
+    answers: &mut Answers,
+) {
+    match set {
+        Ok(set) => tell_set(key, &set, features, answers),
+        Err(error) => answers.show(key, &error),
+    }
+}
+
+/// Tells those of these features that are in a set.
+pub(crate) fn tell_set(
+    key: &'static str,
     set: &FeatureSet<'_>,
     features: &[FeatureId<'_>],
-) -> Result<String, AllocError> {
-    let mut text = String::new(alloc);
+    answers: &mut Answers,
+) {
+    answers.begin(key);
+    add_members(set, features, answers);
+}
+
+/// Adds those of these features that are in a set, parted by spaces.
+pub(crate) fn add_members(set: &FeatureSet<'_>, features: &[FeatureId<'_>], answers: &mut Answers) {
+    let mut is_first = true;
     for id in features {
         if let Ok(true) = set.contains(*id) {
-            push_id(alloc, &mut text, *id)?;
+            if !is_first {
+                answers.add(&" ");
+            }
+            answers.add(id);
+            is_first = false;
         }
     }
-    Ok(text)
 }
 
-/// What an error says.
-pub(crate) fn error_text(alloc: Global, error: &Error) -> Result<String, AllocError> {
-    format!(in alloc; "{error}")
+/// The features of a list, as it prints them.
+pub(crate) fn shown_text(alloc: Global, list: &FeatureList<'_>) -> Result<String, AllocError> {
+    let shown = list.display_features();
+    format!(in alloc; "{shown}")
 }
 
-/// Adds what a feature is called, as a word.
-pub(crate) fn push_id(
-    alloc: Global,
-    text: &mut String,
-    id: FeatureId<'_>,
-) -> Result<(), AllocError> {
-    let word = format!(in alloc; "{id}")?;
-    push_word(text, word.as_str())
-}
-
-/// Adds a word, with a space before each but the first.
-pub(crate) fn push_word(text: &mut String, word: &str) -> Result<(), AllocError> {
-    if !text.is_empty() {
-        text.push(' ')?;
+/// Adds what is answered, or why nothing is.
+pub(crate) fn add_answer<T: Display + Drop, E: Display + Drop>(
+    between: &str,
+    answer: Result<T, E>,
+    answers: &mut Answers,
+) {
+    match answer {
+        Ok(answer) => answers.part(between, &answer),
+        Err(error) => answers.part(between, &error),
     }
-    text.push_str(word)?;
-    Ok(())
 }

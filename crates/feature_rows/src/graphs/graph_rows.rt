@@ -1,12 +1,13 @@
-use crate::graphs::features::{Named, find_in};
+use crate::graphs::features::{Asked, ids_of, named_in, read_feature};
 use crate::graphs::lists::tell_lists;
-use crate::graphs::resolves::{Asked, tell_resolves};
+use crate::graphs::resolves::tell_resolves;
 use crate::graphs::sets::tell_sets;
+use crate::records::graph_under;
 use guppy_feature_graph::{FeatureGraph, FeatureGraphData, FeatureMetadata};
-use guppy_package_graph::{PackageGraph, PackageGraphError};
+use guppy_package_graph::PackageGraph;
 use row_program::{Answers, Row, RowFault, RowRunner};
-use row_records::record_under;
-use std::alloc::{AllocError, Global};
+use serde_json::Value;
+use std::alloc::Global;
 
 /// Rows of feature graphs. A row has a `record`, a feature to `find`, and features to start from
 /// (`starts`), a `direction`, what a visitor `accepts` (a word of `Rule`), two sets of features
@@ -34,21 +35,14 @@ impl RowRunner for GraphRows {
         row: Row<'_>,
         answers: &mut Answers,
     ) -> Result<(), RowFault> {
-        let record = record_under(alloc, row)?;
-        let (packages, links, workspace) = (record.packages, record.links, record.workspace);
-        match PackageGraph::from_records(alloc, packages, links, workspace) {
+        match graph_under(alloc, row)? {
             Ok(graph) => tell_graph(alloc, row, &graph, answers),
-            Err(error) => tell_refused(alloc, &error, answers),
+            Err(error) => {
+                answers.show("refused", &error);
+                Ok(())
+            }
         }
     }
-}
-
-fn tell_refused(
-    alloc: Global,
-    error: &PackageGraphError,
-    answers: &mut Answers,
-) -> Result<(), RowFault> {
-    answers.tell("refused", format!(in alloc; "{error}"))
 }
 
 fn tell_graph(
@@ -58,54 +52,67 @@ fn tell_graph(
     answers: &mut Answers,
 ) -> Result<(), RowFault> {
     let data = FeatureGraphData::build(alloc, graph)?;
-    tell_features(alloc, row, &data, answers)
+    tell_data(alloc, row, &data, answers)
 }
 
-fn tell_features(
+fn tell_data(
     alloc: Global,
     row: Row<'_>,
     data: &FeatureGraphData<'_>,
     answers: &mut Answers,
 ) -> Result<(), RowFault> {
-    let graph = FeatureGraph::of(data);
-    answers.tell("counts", counts_text(alloc, graph))?;
-    if let Some(named) = find_in(alloc, row)? {
-        answers.tell("found", found_text(alloc, graph, &named))?;
-    }
-    let features = data.feature_ids();
-    let asked = Asked { graph, features };
-    tell_lists(alloc, row, asked, answers)?;
-    tell_sets(alloc, row, asked, answers)?;
-    tell_resolves(alloc, row, asked, answers)
+    let (graph, features) = (FeatureGraph::of(data), data.feature_ids());
+    tell_counts(alloc, graph, answers);
+    tell_asked(alloc, row, Asked { graph, features }, answers)
 }
 
-fn counts_text(alloc: Global, graph: FeatureGraph<'_>) -> Result<String, AllocError> {
+fn tell_counts(alloc: Global, graph: FeatureGraph<'_>, answers: &mut Answers) {
     let packages = graph.package_graph().package_count();
     let (features, links) = (graph.feature_count(), graph.link_count());
     let warnings = graph.build_warnings().len();
-    format!(in alloc;
-        "{packages} packages, {features} features, {links} links, {warnings} warnings"
-    )
+    answers.keep(
+        "counts",
+        format!(in alloc;
+            "{packages} packages, {features} features, {links} links, {warnings} warnings"
+        ),
+    );
 }
 
-fn found_text(
+fn tell_asked(
     alloc: Global,
-    graph: FeatureGraph<'_>,
-    named: &Named<'_>,
-) -> Result<String, AllocError> {
-    let is_there = graph.contains(named.id());
-    match graph.metadata(named.id()) {
-        Ok(feature) => {
-            let text = feature_text(alloc, feature)?;
-            format!(in alloc; "{is_there}, {text}")
-        }
-        Err(error) => format!(in alloc; "{is_there}, {error}"),
-    }
+    row: Row<'_>,
+    asked: Asked<'_, '_>,
+    answers: &mut Answers,
+) -> Result<(), RowFault> {
+    tell_found(alloc, row, asked.graph, answers)?;
+    tell_sets(alloc, row, asked, answers)?;
+    let named = named_in(alloc, row, "starts")?;
+    let starts = ids_of(alloc, &named)?;
+    tell_lists(alloc, row, asked, &starts, answers)?;
+    tell_resolves(alloc, row, asked, &starts, answers)
 }
 
-fn feature_text(alloc: Global, feature: FeatureMetadata<'_>) -> Result<String, AllocError> {
-    let (id, label) = (feature.feature_id(), feature.label());
-    let package_id = feature.package_id();
-    let name = feature.package().name();
-    format!(in alloc; "{id} is {label} of {package_id}, called {name}")
+/// Tells what the feature under `find` says of itself.
+fn tell_found(
+    alloc: Global,
+    row: Row<'_>,
+    graph: FeatureGraph<'_>,
+    answers: &mut Answers,
+) -> Result<(), RowFault> {
+    if let Some(text) = row.get("find").and_then(Value::as_str) {
+        let named = read_feature(alloc, text)?;
+        answers.show("found", &graph.contains(named.id()));
+        match graph.metadata(named.id()) {
+            Ok(feature) => add_feature(feature, answers),
+            Err(error) => answers.part(", ", &error),
+        }
+    }
+    Ok(())
+}
+
+fn add_feature(feature: FeatureMetadata<'_>, answers: &mut Answers) {
+    answers.part(", ", &feature.feature_id());
+    answers.part(" is ", &feature.label());
+    answers.part(" of ", feature.package_id());
+    answers.part(", called ", &feature.package().name());
 }

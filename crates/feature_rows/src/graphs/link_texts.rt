@@ -1,6 +1,5 @@
 //! What a link says of itself.
 
-use crate::graphs::features::push_word;
 use guppy_feature_graph::{ConditionalLink, FeatureLinkContext, LinkDeclarations};
 use guppy_package_graph::{DependencyDirection, DependencyKind, PlatformStatus};
 use std::alloc::{AllocError, Global};
@@ -29,20 +28,14 @@ fn declared_text(declarations: LinkDeclarations) -> &'static str {
 
 fn kinds_text(alloc: Global, link: ConditionalLink<'_>) -> Result<String, AllocError> {
     let mut text = String::new(alloc);
-    push_status(&mut text, "normal ", link.normal())?;
-    push_status(&mut text, ", build ", link.build())?;
-    push_status(
-        &mut text,
-        ", dev ",
-        link.status_for_kind(DependencyKind::Development),
-    )?;
-    text.push_str(if link.dev_only() {
-        ", dev only, links"
-    } else {
-        ", links"
-    })?;
+    push_status(&mut text, "normal", link.normal())?;
+    push_status(&mut text, ", build", link.build())?;
+    let dev = link.status_for_kind(DependencyKind::Development);
+    push_status(&mut text, ", dev", dev)?;
+    let only = if link.dev_only() { ", dev only" } else { "" };
+    write!(text, "{only}, links")?;
     for package_link in link.package_links() {
-        push_number(alloc, &mut text, package_link.number())?;
+        write!(text, " {}", package_link.number())?;
     }
     Ok(text)
 }
@@ -52,23 +45,17 @@ fn push_status(
     kind: &str,
     status: PlatformStatus<'_>,
 ) -> Result<(), AllocError> {
-    text.push_str(kind)?;
     match status {
-        PlatformStatus::Never => text.push_str("never"),
-        PlatformStatus::Always => text.push_str("always"),
+        PlatformStatus::Never => write!(text, "{kind} never")?,
+        PlatformStatus::Always => write!(text, "{kind} always")?,
         PlatformStatus::PlatformDependent { eval } => {
-            text.push_str("on")?;
+            write!(text, "{kind} on")?;
             for spec in eval.target_specs() {
-                push_word(text, spec)?;
+                write!(text, " {spec}")?;
             }
-            Ok(())
         }
     }
-}
-
-fn push_number(alloc: Global, text: &mut String, number: usize) -> Result<(), AllocError> {
-    let word = format!(in alloc; "{number}")?;
-    push_word(text, word.as_str())
+    Ok(())
 }
 
 fn start_text(cx: &FeatureLinkContext<'_>, link: ConditionalLink<'_>) -> &'static str {

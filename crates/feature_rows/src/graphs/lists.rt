@@ -1,174 +1,112 @@
 //! The features of packages, default features, cycles, and what filters take.
 
-use crate::graphs::features::{
-    Named, error_text, ids_of, members_text, named_in, push_id, push_word,
-};
-use crate::graphs::resolves::Asked;
+use crate::graphs::features::{Asked, add_answer, add_members, shown_text, tell_members};
 use guppy_feature_graph::{
-    Cycles, FeatureFilter, FeatureGraph, FeatureId, FeatureList, FeatureSet, StandardFeatures,
-    default_feature_id, package_to_feature_set,
+    FeatureFilter, FeatureGraph, FeatureId, FeatureList, StandardFeatures, default_feature_id,
+    package_to_feature_set,
 };
-use guppy_package_graph::{Error, PackageId};
+use guppy_package_graph::PackageId;
 use row_program::{Answers, Row, RowFault};
 use serde_json::Value;
-use std::alloc::{AllocError, Global};
+use std::alloc::Global;
 
 pub(crate) fn tell_lists(
     alloc: Global,
     row: Row<'_>,
     asked: Asked<'_, '_>,
+    starts: &[FeatureId<'_>],
     answers: &mut Answers,
 ) -> Result<(), RowFault> {
-    tell_package(alloc, row, asked, answers)?;
-    answers.tell("defaults", defaults_text(alloc, asked))?;
-    answers.tell("cycles", cycles_text(alloc, asked.graph))?;
-    answers.tell("workspace", workspace_text(alloc, asked))?;
-    answers.tell("standard", standard_text(alloc, asked))?;
-    let is_kept = asked.graph.verify().is_ok();
-    answers.tell("verified", format!(in alloc; "{is_kept}"))?;
-    tell_pair(alloc, row, asked.graph, answers)
+    if let Some(text) = row.get("package").and_then(Value::as_str) {
+        let id = PackageId::new(String::from_str(alloc, text)?);
+        tell_package(alloc, asked, starts, &id, answers);
+    }
+    tell_defaults(asked, answers);
+    tell_cycles(alloc, asked.graph, answers);
+    tell_workspace(alloc, asked, answers);
+    tell_standard(alloc, asked.graph, answers);
+    answers.show("verified", &asked.graph.verify().is_ok());
+    if let [a, b, ..] = starts {
+        tell_pair(alloc, asked.graph, *a, *b, answers);
+    }
+    Ok(())
 }
 
-// The features of the package under `package`.
+/// Tells the features of a package, and which of the starts are among them.
 fn tell_package(
     alloc: Global,
-    row: Row<'_>,
     asked: Asked<'_, '_>,
-    answers: &mut Answers,
-) -> Result<(), RowFault> {
-    let Some(text) = row.get("package").and_then(Value::as_str) else {
-        return Ok(());
-    };
-    let id = PackageId::new(String::from_str(alloc, text)?);
-    tell_features_of(alloc, row, asked, &id, answers)
-}
-
-fn tell_features_of(
-    alloc: Global,
-    row: Row<'_>,
-    asked: Asked<'_, '_>,
+    starts: &[FeatureId<'_>],
     id: &PackageId,
     answers: &mut Answers,
-) -> Result<(), RowFault> {
+) {
     match asked.graph.all_features_for(alloc, id) {
-        Ok(list) => tell_list(alloc, row, asked, &list, answers),
-        Err(error) => answers.tell("features", error_text(alloc, &error)),
+        Ok(list) => {
+            tell_list(alloc, asked, &list, answers);
+            tell_kept(alloc, asked.graph, starts, id, answers);
+        }
+        Err(error) => answers.show("features", &error),
     }
 }
 
-fn tell_list(
-    alloc: Global,
-    row: Row<'_>,
-    asked: Asked<'_, '_>,
-    list: &FeatureList<'_>,
-    answers: &mut Answers,
-) -> Result<(), RowFault> {
-    answers.tell("features", shown_text(alloc, list))?;
-    answers.tell("default", default_text(alloc, list))?;
-    let id = list.package().id();
-    answers.tell("own", own_text(alloc, asked, id))?;
-    answers.push("kept", kept_text(alloc, row, asked.graph, id)?)
-}
-
-fn shown_text(alloc: Global, list: &FeatureList<'_>) -> Result<String, AllocError> {
-    let shown = list.display_features();
-    format!(in alloc; "{shown}")
-}
-
-fn default_text(alloc: Global, list: &FeatureList<'_>) -> Result<String, AllocError> {
-    let default = default_feature_id(list.package());
-    format!(in alloc; "{default}")
-}
-
-fn own_text(alloc: Global, asked: Asked<'_, '_>, id: &PackageId) -> Result<String, AllocError> {
-    match asked.graph.package_graph().metadata(id) {
+fn tell_list(alloc: Global, asked: Asked<'_, '_>, list: &FeatureList<'_>, answers: &mut Answers) {
+    answers.keep("features", shown_text(alloc, list));
+    answers.show("default", &default_feature_id(list.package()));
+    match asked.graph.package_graph().metadata(list.package().id()) {
         Ok(package) => {
-            let set = package_to_feature_set(alloc, &asked.graph, &package)?;
-            members_text(alloc, &set, asked.features)
+            let own = package_to_feature_set(alloc, &asked.graph, &package);
+            tell_members("own", own, asked.features, answers);
         }
-        Err(error) => error_text(alloc, &error),
+        Err(error) => answers.show("own", &error),
     }
 }
 
-// Those of them that are under `starts`.
-fn kept_text(
-    alloc: Global,
-    row: Row<'_>,
-    graph: FeatureGraph<'_>,
-    id: &PackageId,
-) -> Result<String, RowFault> {
-    let named = named_in(alloc, row, "starts")?;
-    kept_of(alloc, graph, &named, id)
-}
-
-fn kept_of(
+fn tell_kept(
     alloc: Global,
     graph: FeatureGraph<'_>,
-    named: &[Named<'_>],
+    starts: &[FeatureId<'_>],
     id: &PackageId,
-) -> Result<String, RowFault> {
-    let ids = ids_of(alloc, named)?;
-    match graph.resolve_ids(alloc, &ids) {
-        Ok(set) => kept_in(alloc, &set, id),
-        Err(_) => Err(RowFault::Key("starts")),
+    answers: &mut Answers,
+) {
+    answers.begin("kept");
+    match graph.resolve_ids(alloc, starts) {
+        Ok(set) => {
+            add_answer("", set.contains_package(id), answers);
+            match set.features_for(alloc, id) {
+                Ok(Some(list)) => add_answer(": ", shown_text(alloc, &list), answers),
+                Ok(None) => answers.part(": ", &"none"),
+                Err(error) => answers.part(": ", &error),
+            }
+        }
+        Err(error) => answers.add(&error),
     }
 }
 
-fn kept_in(alloc: Global, set: &FeatureSet<'_>, id: &PackageId) -> Result<String, RowFault> {
-    let Ok(has_package) = set.contains_package(id) else {
-        return Err(RowFault::Key("package"));
-    };
-    let kept = kept_list(alloc, set, id)?;
-    Ok(format!(in alloc; "{has_package}: {kept}")?)
-}
-
-fn kept_list(alloc: Global, set: &FeatureSet<'_>, id: &PackageId) -> Result<String, AllocError> {
-    match set.features_for(alloc, id) {
-        Ok(Some(list)) => shown_text(alloc, &list),
-        Ok(None) => String::from_str(alloc, "none"),
-        Err(error) => error_text(alloc, &error),
-    }
-}
-
-fn defaults_text(alloc: Global, asked: Asked<'_, '_>) -> Result<String, AllocError> {
-    let mut text = String::new(alloc);
+fn tell_defaults(asked: Asked<'_, '_>, answers: &mut Answers) {
+    answers.begin("defaults");
     for id in asked.features {
-        if asked.graph.is_default_feature(*id) == Ok(true) {
-            push_id(alloc, &mut text, *id)?;
+        if let Ok(true) = asked.graph.is_default_feature(*id) {
+            answers.part(" ", id);
         }
     }
-    Ok(text)
 }
 
-fn cycles_text(alloc: Global, graph: FeatureGraph<'_>) -> Result<String, AllocError> {
-    let cycles = graph.cycles(alloc)?;
-    listed_cycles_text(alloc, &cycles)
-}
-
-fn listed_cycles_text(alloc: Global, cycles: &Cycles<'_>) -> Result<String, AllocError> {
-    let mut text = String::new(alloc);
-    for cycle in cycles.all_cycles() {
-        if !text.is_empty() {
-            text.push(';')?;
+fn tell_cycles(alloc: Global, graph: FeatureGraph<'_>, answers: &mut Answers) {
+    match graph.cycles(alloc) {
+        Ok(cycles) => {
+            answers.begin("cycles");
+            for cycle in cycles.all_cycles() {
+                answers.part(";", &"");
+                for id in cycle {
+                    answers.part(" ", &id);
+                }
+            }
         }
-        for id in cycle {
-            push_id(alloc, &mut text, id)?;
-        }
+        Err(refused) => answers.keep("cycles", Err(refused)),
     }
-    Ok(text)
 }
 
-fn cyclic_in(
-    alloc: Global,
-    graph: FeatureGraph<'_>,
-    a: FeatureId<'_>,
-    b: FeatureId<'_>,
-) -> Result<Result<bool, Error>, AllocError> {
-    let cycles = graph.cycles(alloc)?;
-    Ok(cycles.is_cyclic(a, b))
-}
-
-// Takes each feature, and counts.
+/// Takes each feature, and counts.
 #[derive(Drop)]
 struct Counter {
     calls: usize,
@@ -189,63 +127,49 @@ impl FeatureFilter for Counter {
     }
 }
 
-// How often a filter is asked, and what is taken.
-fn workspace_text(alloc: Global, asked: Asked<'_, '_>) -> Result<String, AllocError> {
+/// Tells how often a filter is asked, and what is taken.
+fn tell_workspace(alloc: Global, asked: Asked<'_, '_>, answers: &mut Answers) {
     let mut counter = Counter { calls: 0 };
-    let query = asked.graph.query_workspace(alloc, &mut counter)?;
-    let taken = members_text(alloc, query.initials(), asked.features)?;
-    let calls = counter.calls;
-    format!(in alloc; "{calls} calls: {taken}")
+    match asked.graph.query_workspace(alloc, &mut counter) {
+        Ok(query) => {
+            answers.show("workspace", &counter.calls);
+            answers.add(&" calls: ");
+            add_members(query.initials(), asked.features, answers);
+        }
+        Err(refused) => answers.keep("workspace", Err(refused)),
+    }
 }
 
-// How many features of the workspace each standard choice takes.
-fn standard_text(alloc: Global, asked: Asked<'_, '_>) -> Result<String, AllocError> {
-    let mut text = String::new(alloc);
+/// Tells how many features of the workspace each standard choice takes.
+fn tell_standard(alloc: Global, graph: FeatureGraph<'_>, answers: &mut Answers) {
+    answers.begin("standard");
     for standard in StandardFeatures::VALUES {
-        let word = taken_text(alloc, asked.graph, *standard)?;
-        push_word(&mut text, word.as_str())?;
+        let mut filter = *standard;
+        match graph.query_workspace(alloc, &mut filter) {
+            Ok(query) => answers.part(" ", &query.initials().len()),
+            Err(refused) => answers.keep("standard", Err(refused)),
+        }
     }
-    Ok(text)
 }
 
-fn taken_text(
-    alloc: Global,
-    graph: FeatureGraph<'_>,
-    mut filter: StandardFeatures,
-) -> Result<String, AllocError> {
-    let query = graph.query_workspace(alloc, &mut filter)?;
-    let count = query.initials().len();
-    format!(in alloc; "{count}")
-}
-
-// How the first two features under `starts` stand to each other.
+/// Tells how the first two of the starts stand to each other.
 fn tell_pair(
-    alloc: Global,
-    row: Row<'_>,
-    graph: FeatureGraph<'_>,
-    answers: &mut Answers,
-) -> Result<(), RowFault> {
-    let named = named_in(alloc, row, "starts")?;
-    match named.as_slice() {
-        [a, b, ..] => answers.tell("pair", pair_text(alloc, graph, a.id(), b.id())),
-        _ => Ok(()),
-    }
-}
-
-fn pair_text(
     alloc: Global,
     graph: FeatureGraph<'_>,
     a: FeatureId<'_>,
     b: FeatureId<'_>,
-) -> Result<String, AllocError> {
-    let depends = graph.depends_on(alloc, a, b);
-    let cyclic = cyclic_in(alloc, graph, a, b)?;
-    match (depends, graph.directly_depends_on(a, b), cyclic) {
-        (Ok(depends), Ok(directly), Ok(cyclic)) => {
-            format!(in alloc; "depends {depends}, directly {directly}, cyclic {cyclic}")
+    answers: &mut Answers,
+) {
+    match graph.depends_on(alloc, a, b) {
+        Ok(depends) => {
+            answers.show("pair", &"depends");
+            answers.part(" ", &depends);
+            add_answer(", directly ", graph.directly_depends_on(a, b), answers);
+            match graph.cycles(alloc) {
+                Ok(cycles) => add_answer(", cyclic ", cycles.is_cyclic(a, b), answers),
+                Err(refused) => answers.keep("pair", Err(refused)),
+            }
         }
-        (Err(error), _, _) | (_, Err(error), _) | (_, _, Err(error)) => {
-            format!(in alloc; "{error}")
-        }
+        Err(error) => answers.show("pair", &error),
     }
 }

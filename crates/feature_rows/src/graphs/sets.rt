@@ -1,12 +1,11 @@
 //! Sets of the features under `one` and `two`: joined, listed, with their roots and links.
 
-use crate::graphs::features::{error_text, ids_of, members_text, named_in, push_id, push_word};
+use crate::graphs::features::{Asked, ids_of, named_in, tell_members};
 use crate::graphs::packages::tell_packages;
-use crate::graphs::resolves::Asked;
 use guppy_feature_graph::{FeatureId, FeatureSet};
 use guppy_package_graph::{DependencyDirection, Error};
 use row_program::{Answers, Row, RowFault};
-use std::alloc::{AllocError, Global};
+use std::alloc::Global;
 
 pub(crate) fn tell_sets(
     alloc: Global,
@@ -17,26 +16,30 @@ pub(crate) fn tell_sets(
     if row.get("one").is_none() {
         return Ok(());
     }
-    match (
-        set_in(alloc, row, asked, "one")?,
-        set_in(alloc, row, asked, "two")?,
-    ) {
-        (Ok(one), Ok(two)) => tell_both(alloc, asked, &one, &two, answers),
-        (Err(error), _) | (_, Err(error)) => answers.tell("unknown", error_text(alloc, &error)),
+    match set_in(alloc, row, asked, "one")? {
+        Ok(one) => tell_one(alloc, row, asked, &one, answers),
+        Err(error) => {
+            answers.show("unknown", &error);
+            Ok(())
+        }
     }
 }
 
-fn tell_both(
+fn tell_one(
     alloc: Global,
+    row: Row<'_>,
     asked: Asked<'_, '_>,
     one: &FeatureSet<'_>,
-    two: &FeatureSet<'_>,
     answers: &mut Answers,
 ) -> Result<(), RowFault> {
-    tell_joined(alloc, asked, one, two, answers)?;
-    tell_parts(alloc, one, answers)?;
-    tell_packages(alloc, one, answers)?;
-    tell_links(alloc, one, answers)
+    match set_in(alloc, row, asked, "two")? {
+        Ok(two) => tell_joined(alloc, one, &two, asked.features, answers),
+        Err(error) => answers.show("unknown", &error),
+    }
+    tell_listed(alloc, one, answers);
+    tell_packages(alloc, one, answers);
+    tell_links(alloc, one, answers);
+    Ok(())
 }
 
 fn set_in<'g>(
@@ -52,103 +55,62 @@ fn set_in<'g>(
 
 fn tell_joined(
     alloc: Global,
-    asked: Asked<'_, '_>,
     one: &FeatureSet<'_>,
     two: &FeatureSet<'_>,
-    answers: &mut Answers,
-) -> Result<(), RowFault> {
-    if !one.same_features(two) {
-        return Err(RowFault::Key("two"));
-    }
-    let features = asked.features;
-    tell_set(alloc, "union", one.union(alloc, two)?, features, answers)?;
-    let intersection = one.intersection(alloc, two)?;
-    tell_set(alloc, "intersection", intersection, features, answers)?;
-    let difference = one.difference(alloc, two)?;
-    tell_set(alloc, "difference", difference, features, answers)?;
-    let either = one.symmetric_difference(alloc, two)?;
-    tell_set(alloc, "either", either, features, answers)
-}
-
-fn tell_set(
-    alloc: Global,
-    key: &'static str,
-    set: FeatureSet<'_>,
     features: &[FeatureId<'_>],
     answers: &mut Answers,
-) -> Result<(), RowFault> {
-    answers.tell(key, members_text(alloc, &set, features))
+) {
+    if !one.same_features(two) {
+        return answers.show("union", &"two graphs");
+    }
+    tell_members("union", one.union(alloc, two), features, answers);
+    let intersection = one.intersection(alloc, two);
+    tell_members("intersection", intersection, features, answers);
+    let difference = one.difference(alloc, two);
+    tell_members("difference", difference, features, answers);
+    let either = one.symmetric_difference(alloc, two);
+    tell_members("either", either, features, answers);
 }
 
-fn tell_parts(alloc: Global, one: &FeatureSet<'_>, answers: &mut Answers) -> Result<(), RowFault> {
+fn tell_listed(alloc: Global, one: &FeatureSet<'_>, answers: &mut Answers) {
     let (forward, reverse) = (DependencyDirection::Forward, DependencyDirection::Reverse);
-    answers.tell("listed", listed_text(alloc, one, forward))?;
-    answers.tell("reversed", listed_text(alloc, one, reverse))?;
-    answers.tell("roots", roots_text(alloc, one, forward))?;
-    answers.tell("ends", roots_text(alloc, one, reverse))
+    tell_ids("listed", one, forward, answers);
+    tell_ids("reversed", one, reverse, answers);
+    answers.list("roots", one.root_ids(alloc, forward));
+    answers.list("ends", one.root_ids(alloc, reverse));
 }
 
-fn roots_text(
-    alloc: Global,
+fn tell_ids(
+    key: &'static str,
     set: &FeatureSet<'_>,
     direction: DependencyDirection,
-) -> Result<String, AllocError> {
-    let roots = set.root_ids(alloc, direction)?;
-    ids_text(alloc, &roots)
-}
-
-fn listed_text(
-    alloc: Global,
-    set: &FeatureSet<'_>,
-    direction: DependencyDirection,
-) -> Result<String, AllocError> {
-    let mut text = String::new(alloc);
+    answers: &mut Answers,
+) {
+    answers.begin(key);
     for id in set.feature_ids(direction) {
-        push_id(alloc, &mut text, id)?;
+        answers.part(" ", &id);
     }
-    Ok(text)
 }
 
-fn ids_text(alloc: Global, ids: &[FeatureId<'_>]) -> Result<String, AllocError> {
-    let mut text = String::new(alloc);
-    for id in ids {
-        push_id(alloc, &mut text, *id)?;
+fn tell_links(alloc: Global, one: &FeatureSet<'_>, answers: &mut Answers) {
+    match one.links(alloc) {
+        Ok(links) => {
+            answers.begin("inside");
+            for (from, to, _) in &links {
+                answers.part(" ", from);
+                answers.part(">", to);
+            }
+        }
+        Err(refused) => answers.keep("inside", Err(refused)),
     }
-    Ok(text)
-}
-
-fn tell_links(alloc: Global, one: &FeatureSet<'_>, answers: &mut Answers) -> Result<(), RowFault> {
-    answers.tell("inside", inside_text(alloc, one))?;
-    answers.tell("conditional", conditional_text(alloc, one))
-}
-
-fn inside_text(alloc: Global, one: &FeatureSet<'_>) -> Result<String, AllocError> {
-    let mut text = String::new(alloc);
-    for (from, to, _) in one.links(alloc)? {
-        push_ends(alloc, &mut text, from, to)?;
+    match one.conditional_links(alloc) {
+        Ok(links) => {
+            answers.begin("conditional");
+            for link in &links {
+                answers.part(" ", &link.from().feature_id());
+                answers.part(">", &link.to().feature_id());
+            }
+        }
+        Err(refused) => answers.keep("conditional", Err(refused)),
     }
-    Ok(text)
-}
-
-fn conditional_text(alloc: Global, one: &FeatureSet<'_>) -> Result<String, AllocError> {
-    let mut text = String::new(alloc);
-    for link in one.conditional_links(alloc)? {
-        push_ends(
-            alloc,
-            &mut text,
-            link.from().feature_id(),
-            link.to().feature_id(),
-        )?;
-    }
-    Ok(text)
-}
-
-fn push_ends(
-    alloc: Global,
-    text: &mut String,
-    from: FeatureId<'_>,
-    to: FeatureId<'_>,
-) -> Result<(), AllocError> {
-    let word = format!(in alloc; "{from}>{to}")?;
-    push_word(text, word.as_str())
 }

@@ -1,9 +1,9 @@
-use crate::nodes::texts::{edges_text, nodes_text, place_text, warnings_text};
-use guppy_feature_nodes::FeatureGraphData;
+use crate::nodes::texts::{tell_edges, tell_nodes, tell_warnings};
+use crate::records::graph_under;
+use guppy_feature_nodes::{FeatureGraphData, FeatureName};
 use guppy_package_graph::PackageGraph;
 use row_program::{Answers, Row, RowFault, RowRunner};
-use row_records::record_under;
-use std::alloc::{AllocError, Global};
+use std::alloc::Global;
 
 /// Rows of feature graphs. A row has a `record`, and a feature to `find` by a package and a name.
 #[derive(Drop)]
@@ -20,11 +20,12 @@ impl RowRunner for NodeRows {
         row: Row<'_>,
         answers: &mut Answers,
     ) -> Result<(), RowFault> {
-        let record = record_under(alloc, row)?;
-        let (packages, links, workspace) = (record.packages, record.links, record.workspace);
-        match PackageGraph::from_records(alloc, packages, links, workspace) {
+        match graph_under(alloc, row)? {
             Ok(graph) => tell_graph(alloc, row, &graph, answers),
-            Err(error) => answers.tell("refused", format!(in alloc; "{error}")),
+            Err(error) => {
+                answers.show("refused", &error);
+                Ok(())
+            }
         }
     }
 }
@@ -36,28 +37,17 @@ fn tell_graph(
     answers: &mut Answers,
 ) -> Result<(), RowFault> {
     let data = FeatureGraphData::build(alloc, graph)?;
-    tell_data(alloc, row, &data, answers)
+    tell_nodes(&data, answers);
+    tell_edges(&data, answers);
+    tell_warnings(&data, answers);
+    answers.show("counts", &graph.package_count());
+    answers.part(" packages, ", &data.feature_count());
+    answers.part(" nodes, ", &data.link_count());
+    answers.add(&" edges");
+    tell_place(alloc, row, &data, answers)
 }
 
-fn tell_data(
-    alloc: Global,
-    row: Row<'_>,
-    data: &FeatureGraphData<'_>,
-    answers: &mut Answers,
-) -> Result<(), RowFault> {
-    answers.tell("nodes", nodes_text(alloc, data))?;
-    answers.tell("edges", edges_text(alloc, data))?;
-    answers.tell("warnings", warnings_text(alloc, data))?;
-    answers.tell("counts", counts_text(alloc, data))?;
-    tell_place(alloc, row, data, answers)
-}
-
-fn counts_text(alloc: Global, data: &FeatureGraphData<'_>) -> Result<String, AllocError> {
-    let packages = data.package_graph().package_count();
-    let (nodes, edges) = (data.feature_count(), data.link_count());
-    format!(in alloc; "{packages} packages, {nodes} nodes, {edges} edges")
-}
-
+/// Tells whether a package names a feature, and its number.
 fn tell_place(
     alloc: Global,
     row: Row<'_>,
@@ -66,7 +56,9 @@ fn tell_place(
 ) -> Result<(), RowFault> {
     let words = row.texts(alloc, "find")?;
     if let [package, name] = words.as_slice() {
-        answers.tell("found", place_text(alloc, data, *package, *name))?;
+        let feature = FeatureName::named(*package, *name);
+        answers.show("found", &data.contains(feature));
+        answers.part(", ", &data.number_of(feature));
     }
     Ok(())
 }

@@ -1,152 +1,94 @@
 //! What a feature graph holds, as texts.
 
-use guppy_feature_nodes::{FeatureEdge, FeatureGraphData, FeatureId, FeatureName, SlashForm};
+use guppy_feature_nodes::{FeatureEdge, FeatureGraphData, FeatureId, SlashForm};
 use guppy_package_graph::{FeatureBuildStage, FeatureGraphWarning};
-use std::alloc::{AllocError, Global};
+use row_program::Answers;
 
-/// The features, in the order of their numbers.
-pub(crate) fn nodes_text(alloc: Global, data: &FeatureGraphData<'_>) -> Result<String, AllocError> {
-    let mut text = String::new(alloc);
+/// Tells the features, in the order of their numbers.
+pub(crate) fn tell_nodes(data: &FeatureGraphData<'_>, answers: &mut Answers) {
+    answers.begin("nodes");
     for id in data.feature_ids() {
-        let part = format!(in alloc; "{id}")?;
-        push_part(&mut text, part.as_str())?;
+        answers.part("; ", id);
     }
-    Ok(text)
 }
 
-/// The edges: both ends, why, and the lines behind.
-pub(crate) fn edges_text(alloc: Global, data: &FeatureGraphData<'_>) -> Result<String, AllocError> {
-    let mut text = String::new(alloc);
+/// Tells the edges: both ends, why, and the lines behind.
+pub(crate) fn tell_edges(data: &FeatureGraphData<'_>, answers: &mut Answers) {
     let ids = data.feature_ids();
+    answers.begin("edges");
     for edge in data.edges() {
-        let part = edge_text(alloc, ids, edge.from, edge.to, &edge.edge)?;
-        push_part(&mut text, part.as_str())?;
+        add_end("; ", ids, edge.from, answers);
+        add_end(" > ", ids, edge.to, answers);
+        add_form(ids, &edge.edge, answers);
+        for (link, line) in edge.edge.lines() {
+            answers.part(" ", link);
+            answers.part(".", line);
+        }
     }
-    Ok(text)
 }
 
-fn edge_text(
-    alloc: Global,
-    ids: &[FeatureId<'_>],
-    from: usize,
-    to: usize,
-    edge: &FeatureEdge,
-) -> Result<String, AllocError> {
-    let ends = ends_text(alloc, ids, from, to)?;
-    let form = form_text(alloc, ids, edge)?;
-    let lines = lines_text(alloc, edge.lines())?;
-    format!(in alloc; "{ends} {form}{lines}")
-}
-
-fn ends_text(
-    alloc: Global,
-    ids: &[FeatureId<'_>],
-    from: usize,
-    to: usize,
-) -> Result<String, AllocError> {
-    let from = id_text(alloc, ids, from)?;
-    let to = id_text(alloc, ids, to)?;
-    format!(in alloc; "{from} > {to}")
-}
-
-fn id_text(alloc: Global, ids: &[FeatureId<'_>], number: usize) -> Result<String, AllocError> {
+fn add_end(between: &str, ids: &[FeatureId<'_>], number: usize, answers: &mut Answers) {
     match ids.get(number) {
-        Some(id) => format!(in alloc; "{id}"),
-        None => String::from_str(alloc, "nothing"),
+        Some(id) => answers.part(between, id),
+        None => answers.part(between, &"nothing"),
     }
 }
 
-fn form_text(
-    alloc: Global,
-    ids: &[FeatureId<'_>],
-    edge: &FeatureEdge,
-) -> Result<String, AllocError> {
+fn add_form(ids: &[FeatureId<'_>], edge: &FeatureEdge, answers: &mut Answers) {
     match edge {
-        FeatureEdge::FeatureToBase => String::from_str(alloc, "to base"),
-        FeatureEdge::DependenciesSection(_) => String::from_str(alloc, "dependency"),
-        FeatureEdge::NamedFeature => String::from_str(alloc, "feature"),
-        FeatureEdge::NamedFeatureDepColon => String::from_str(alloc, "dep"),
-        FeatureEdge::NamedFeatureWithSlash(SlashForm::Strong(_)) => {
-            String::from_str(alloc, "strong")
-        }
+        FeatureEdge::FeatureToBase => answers.add(&" to base"),
+        FeatureEdge::DependenciesSection(_) => answers.add(&" dependency"),
+        FeatureEdge::NamedFeature => answers.add(&" feature"),
+        FeatureEdge::NamedFeatureDepColon => answers.add(&" dep"),
+        FeatureEdge::NamedFeatureWithSlash(SlashForm::Strong(_)) => answers.add(&" strong"),
         FeatureEdge::NamedFeatureWithSlash(SlashForm::Weak(weak)) => {
-            let dep = id_text(alloc, ids, weak.index().node())?;
-            format!(in alloc; "weak ({dep})")
+            add_end(" weak (", ids, weak.index().node(), answers);
+            answers.add(&")");
         }
     }
 }
 
-fn lines_text(alloc: Global, lines: &[(usize, usize)]) -> Result<String, AllocError> {
-    let mut text = String::new(alloc);
-    for place in lines {
-        let (link, line) = *place;
-        let part = format!(in alloc; " {link}.{line}")?;
-        text.push_str(part.as_str())?;
-    }
-    Ok(text)
-}
-
-/// The warnings, each with the stage at which it came.
-pub(crate) fn warnings_text(
-    alloc: Global,
-    data: &FeatureGraphData<'_>,
-) -> Result<String, AllocError> {
-    let mut text = String::new(alloc);
+/// Tells the warnings, each with the stage at which it came.
+pub(crate) fn tell_warnings(data: &FeatureGraphData<'_>, answers: &mut Answers) {
+    answers.begin("warnings");
     for warning in data.build_warnings() {
-        let part = warning_text(alloc, warning)?;
-        push_part(&mut text, part.as_str())?;
-    }
-    Ok(text)
-}
-
-fn warning_text(alloc: Global, warning: &FeatureGraphWarning) -> Result<String, AllocError> {
-    match warning {
-        FeatureGraphWarning::MissingFeature {
-            stage,
-            package_id,
-            feature_name,
-        } => {
-            let stage = stage_text(alloc, stage)?;
-            format!(in alloc; "{package_id} lacks {feature_name} for {stage}")
+        match warning {
+            FeatureGraphWarning::MissingFeature {
+                stage,
+                package_id,
+                feature_name,
+            } => {
+                answers.part("; ", package_id);
+                answers.part(" lacks ", feature_name);
+                add_stage(stage, answers);
+            }
+            FeatureGraphWarning::SelfLoop {
+                package_id,
+                feature_name,
+            } => {
+                answers.part("; ", package_id);
+                answers.part("/", feature_name);
+                answers.add(&" names itself");
+            }
         }
-        FeatureGraphWarning::SelfLoop {
-            package_id,
-            feature_name,
-        } => format!(in alloc; "{package_id}/{feature_name} names itself"),
     }
 }
 
-fn stage_text(alloc: Global, stage: &FeatureBuildStage) -> Result<String, AllocError> {
+fn add_stage(stage: &FeatureBuildStage, answers: &mut Answers) {
     match stage {
         FeatureBuildStage::AddNamedFeatureEdges {
             package_id,
             from_feature,
-        } => format!(in alloc; "feature {package_id}/{from_feature}"),
+        } => {
+            answers.part(" for feature ", package_id);
+            answers.part("/", from_feature);
+        }
         FeatureBuildStage::AddDependencyEdges {
             package_id,
             dep_name,
-        } => format!(in alloc; "dependency {package_id}:{dep_name}"),
+        } => {
+            answers.part(" for dependency ", package_id);
+            answers.part(":", dep_name);
+        }
     }
-}
-
-/// Whether a package names a feature, and its number.
-pub(crate) fn place_text(
-    alloc: Global,
-    data: &FeatureGraphData<'_>,
-    package: &str,
-    name: &str,
-) -> Result<String, AllocError> {
-    let feature = FeatureName::named(package, name);
-    let is_there = data.contains(feature);
-    let number = data.number_of(feature);
-    format!(in alloc; "{is_there}, {number}")
-}
-
-/// Adds a part, with a semicolon and a space before each but the first.
-fn push_part(text: &mut String, part: &str) -> Result<(), AllocError> {
-    if !text.is_empty() {
-        text.push_str("; ")?;
-    }
-    text.push_str(part)?;
-    Ok(())
 }

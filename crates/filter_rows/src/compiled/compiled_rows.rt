@@ -4,15 +4,16 @@ ghost use Rattle.nextest_filter_queries.specs.Groups.{AreKnown};
 use crate::compiled::contexts::{context_in, graph_in};
 use crate::compiled::queries::tell_answers;
 use crate::compiled::row_groups::known_groups;
-use crate::compiled::surface::{tell_filter_calls, tell_group_calls};
+use crate::compiled::surface::{tell_filter_calls, tell_groups};
+use crate::spans::add_span;
 use guppy_package_graph::PackageGraph;
-use nextest_filtering::errors::{FiltersetError, FiltersetParseErrors, ParseSingleError};
+use nextest_filtering::errors::{FiltersetError, ParseSingleError};
 use nextest_filtering::{
     CompiledExpr, EvalContext, Filterset, FiltersetKind, KnownGroups, ParseContext,
 };
 use row_program::{Answers, Row, RowFault, RowRunner};
 use serde_json::Value;
-use std::alloc::{AllocError, Global};
+use std::alloc::Global;
 
 /// Rows of one filter each: its `text` and its `kind` (test, archive, override or default), over the
 /// `record`, and over the packages under `context`, with the features under `on`; `groups` are known, and `default` is the filter
@@ -67,17 +68,12 @@ fn tell_graph(
     answers: &mut Answers,
 ) -> Result<(), RowFault> {
     let cx = context_in(alloc, row, graph)?;
-    tell_context(alloc, row, &cx, answers)
-}
-
-fn tell_context(
-    alloc: Global,
-    row: Row<'_>,
-    cx: &ParseContext<'_>,
-    answers: &mut Answers,
-) -> Result<(), RowFault> {
     let groups = groups_in(alloc, row)?;
-    tell_groups(alloc, row, cx, &groups, answers)
+    tell_groups(alloc, row, &groups, answers);
+    match row.get("default").and_then(Value::as_str) {
+        Some(text) => tell_with_default(alloc, row, &cx, &groups, text, answers),
+        None => tell_filter(alloc, row, &cx, &groups, &CompiledExpr::ALL, answers),
+    }
 }
 
 /// The groups under `groups`.
@@ -88,26 +84,26 @@ fn groups_in(alloc: Global, row: Row<'_>) -> Result<KnownGroups, RowFault>
     Ok(known_groups(alloc, &names)?)
 }
 
-fn tell_groups(
+/// Tells of the row's filter where the one of this text stands for `default()`.
+fn tell_with_default(
     alloc: Global,
     row: Row<'_>,
     cx: &ParseContext<'_>,
     groups: &KnownGroups,
+    text: &str,
     answers: &mut Answers,
 ) -> Result<(), RowFault>
     requires known { AreKnown groups.now }
 {
-    tell_group_calls(alloc, row, groups, answers)?;
-    match row.get("default").and_then(Value::as_str) {
-        Some(text) => {
-            let default = default_of(alloc, text, cx, groups)?;
-            tell_with_default(alloc, row, cx, groups, &default.compiled, answers)
-        }
-        None => tell_with_default(alloc, row, cx, groups, &CompiledExpr::ALL, answers),
+    let input = String::from_str(alloc, text)?;
+    match Filterset::parse(alloc, input, cx, FiltersetKind::DefaultFilter, groups) {
+        Ok(default) => tell_filter(alloc, row, cx, groups, &default.compiled, answers),
+        Err(FiltersetError::Parse(_)) => Err(RowFault::Key("default")),
+        Err(FiltersetError::Memory) => Err(RowFault::Memory),
     }
 }
 
-fn tell_with_default(
+fn tell_filter(
     alloc: Global,
     row: Row<'_>,
     cx: &ParseContext<'_>,
@@ -117,26 +113,16 @@ fn tell_with_default(
 ) -> Result<(), RowFault>
     requires known { AreKnown groups.now }
 {
-    match EvalContext::new(default) {
-        Some(eval) => tell_filter(alloc, row, cx, groups, &eval, answers),
-        None => Err(RowFault::Key("default")),
-    }
-}
-
-fn tell_filter(
-    alloc: Global,
-    row: Row<'_>,
-    cx: &ParseContext<'_>,
-    groups: &KnownGroups,
-    eval: &EvalContext<'_>,
-    answers: &mut Answers,
-) -> Result<(), RowFault>
-    requires known { AreKnown groups.now }
-{
+    let Some(eval) = EvalContext::new(default) else {
+        return Err(RowFault::Key("default"));
+    };
     let input = String::from_str(alloc, row.text("text")?)?;
     match Filterset::parse(alloc, input, cx, kind_in(row), groups) {
-        Ok(filter) => tell_parsed(alloc, row, &filter, eval, answers),
-        Err(FiltersetError::Parse(refused)) => answers.tell("faults", faults_text(alloc, &refused)),
+        Ok(filter) => tell_parsed(alloc, row, &filter, &eval, answers),
+        Err(FiltersetError::Parse(refused)) => {
+            tell_faults(&refused.errors, answers);
+            Ok(())
+        }
         Err(FiltersetError::Memory) => Err(RowFault::Memory),
     }
 }
@@ -149,25 +135,10 @@ fn tell_parsed(
     eval: &EvalContext<'_>,
     answers: &mut Answers,
 ) -> Result<(), RowFault> {
-    answers.push("faults", String::new(alloc))?;
     let filter = filter.copy(alloc)?;
-    tell_filter_calls(alloc, row, &filter, answers)?;
+    answers.begin("faults");
+    tell_filter_calls(row, &filter, answers);
     tell_answers(alloc, row, &filter, eval, answers)
-}
-
-/// The filter that stands for `default()`.
-fn default_of(
-    alloc: Global,
-    text: &str,
-    cx: &ParseContext<'_>,
-    groups: &KnownGroups,
-) -> Result<Filterset, RowFault> {
-    let input = String::from_str(alloc, text)?;
-    match Filterset::parse(alloc, input, cx, FiltersetKind::DefaultFilter, groups) {
-        Ok(filter) => Ok(filter),
-        Err(FiltersetError::Parse(_)) => Err(RowFault::Key("default")),
-        Err(FiltersetError::Memory) => Err(RowFault::Memory),
-    }
 }
 
 fn kind_in(row: Row<'_>) -> FiltersetKind {
@@ -179,25 +150,14 @@ fn kind_in(row: Row<'_>) -> FiltersetKind {
     }
 }
 
-fn faults_text(alloc: Global, refused: &FiltersetParseErrors) -> Result<String, AllocError> {
-    let mut came = String::new(alloc);
-    for fault in &refused.errors {
-        if !came.is_empty() {
-            came.push_str("; ")?;
+fn tell_faults(faults: &[ParseSingleError], answers: &mut Answers) {
+    answers.begin("faults");
+    for fault in faults {
+        answers.part("; ", fault);
+        if let ParseSingleError::BannedPredicate { reason, .. } = fault {
+            answers.part(": ", reason);
         }
-        let told = fault_text(alloc, fault)?;
-        came.push_str(told.as_str())?;
-    }
-    Ok(came)
-}
-
-fn fault_text(alloc: Global, fault: &ParseSingleError) -> Result<String, AllocError> {
-    let span = fault.span();
-    let (offset, len) = (span.offset, span.len);
-    match fault {
-        ParseSingleError::BannedPredicate { reason, .. } => {
-            format!(in alloc; "{fault}: {reason} ({offset}, {len})")
-        }
-        _ => format!(in alloc; "{fault} ({offset}, {len})"),
+        answers.add(&" ");
+        add_span(fault.span(), answers);
     }
 }

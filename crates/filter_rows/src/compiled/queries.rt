@@ -40,78 +40,102 @@ pub(crate) fn tell_answers(
     cx: &EvalContext<'_>,
     answers: &mut Answers,
 ) -> Result<(), RowFault> {
-    let questions = questions_in(alloc, row)?;
+    let asked = asked_in(alloc, row)?;
     let group = text_or(row, "member_of", "@global");
-    answers.tell("holds", holds_text(alloc, &questions, group, filter, cx))?;
+    tell_holds(&asked, &OneGroup { alloc, group }, filter, cx, answers);
     if !filter.compiled.has_group_matchers() {
-        answers.tell("alone", alone_text(alloc, &questions, filter, cx))?;
+        tell_alone(alloc, &asked, filter, cx, answers);
     }
-    answers.tell("known", known_text(alloc, &questions, filter, cx))
+    tell_known(alloc, &asked, filter, cx, answers);
+    Ok(())
 }
 
-/// Whether the filter holds of each test, which is in the group.
-fn holds_text(
-    alloc: Global,
-    questions: &[Question<'_>],
-    group: &str,
+/// Tells whether the filter holds of each test, which is in the group.
+fn tell_holds(
+    asked: &[Asked<'_>],
+    group: &OneGroup<'_>,
     filter: &Filterset,
     cx: &EvalContext<'_>,
-) -> Result<String, AllocError> {
-    let mut holds = String::new(alloc);
-    for question in questions {
-        let is_true = holds_of(alloc, *question, group, filter, cx)?;
-        push_word(&mut holds, if is_true { "true" } else { "false" })?;
+    answers: &mut Answers,
+) {
+    answers.begin("holds");
+    for one in asked {
+        match filter.matches_test_with_groups(group.alloc, &one.test(), cx, group) {
+            Ok(holds) => answers.part(" ", &holds),
+            Err(refused) => answers.keep("holds", Err(refused)),
+        }
     }
-    Ok(holds)
 }
 
 /// The same, asked without groups.
-fn alone_text(
+fn tell_alone(
     alloc: Global,
-    questions: &[Question<'_>],
+    asked: &[Asked<'_>],
     filter: &Filterset,
     cx: &EvalContext<'_>,
-) -> Result<String, AllocError>
+    answers: &mut Answers,
+)
     requires groups { has_leaf is_group (compiled_of filter.now.compiled) ≡ false }
 {
-    let mut holds = String::new(alloc);
-    for question in questions {
-        let is_true = alone_of(alloc, *question, filter, cx)?;
-        push_word(&mut holds, if is_true { "true" } else { "false" })?;
+    answers.begin("alone");
+    for one in asked {
+        match filter.matches_test(alloc, &one.test(), cx) {
+            Ok(holds) => answers.part(" ", &holds),
+            Err(refused) => answers.keep("alone", Err(refused)),
+        }
     }
-    Ok(holds)
 }
 
-/// What is known of each binary.
-fn known_text(
+/// Tells what is known of each binary.
+fn tell_known(
     alloc: Global,
-    questions: &[Question<'_>],
+    asked: &[Asked<'_>],
     filter: &Filterset,
     cx: &EvalContext<'_>,
-) -> Result<String, AllocError> {
-    let mut known = String::new(alloc);
-    for question in questions {
-        push_word(
-            &mut known,
-            value_text(known_of(alloc, *question, filter, cx)?),
-        )?;
-    }
-    Ok(known)
-}
-
-fn value_text(value: Option<bool>) -> &'static str {
-    match value {
-        Some(true) => "true",
-        Some(false) => "false",
-        None => "unknown",
+    answers: &mut Answers,
+) {
+    answers.begin("known");
+    for one in asked {
+        match filter.matches_binary(alloc, &one.binary(), cx) {
+            Ok(Some(holds)) => answers.part(" ", &holds),
+            Ok(None) => answers.part(" ", &"unknown"),
+            Err(refused) => answers.keep("known", Err(refused)),
+        }
     }
 }
 
-fn push_word(text: &mut String, word: &str) -> Result<(), AllocError> {
-    if !text.is_empty() {
-        text.push(' ')?;
+/// What is asked: each of the lists of the row goes on from the row's own parts.
+fn asked_in<'a>(alloc: Global, row: Row<'a>) -> Result<Vec<Asked<'a>>, RowFault> {
+    let mut asked = Vec::new(alloc);
+    for question in &questions_in(alloc, row)? {
+        asked.push(Asked::of(alloc, *question)?)?;
     }
-    text.push_str(word)
+    Ok(asked)
+}
+
+const LISTS: [&str; 5] = [
+    "owners",
+    "binary_names",
+    "binary_kinds",
+    "platforms",
+    "test_names",
+];
+
+fn questions_in<'a>(alloc: Global, row: Row<'a>) -> Result<Vec<Question<'a>>, RowFault> {
+    let base = question_in(row);
+    let mut questions = Vec::new(alloc);
+    for key in LISTS {
+        for value in row.list(key)? {
+            let Some(text) = value.as_str() else {
+                return Err(RowFault::Key(key));
+            };
+            questions.push(base.with(key, text))?;
+        }
+    }
+    if questions.is_empty() {
+        questions.push(base)?;
+    }
+    Ok(questions)
 }
 
 fn question_in<'a>(row: Row<'a>) -> Question<'a> {
@@ -124,46 +148,46 @@ fn question_in<'a>(row: Row<'a>) -> Question<'a> {
     }
 }
 
-fn questions_in<'a>(alloc: Global, row: Row<'a>) -> Result<Vec<Question<'a>>, RowFault> {
-    let base = question_in(row);
-    let mut questions = Vec::new(alloc);
-    for owner in row.texts(alloc, "owners")? {
-        questions.push(Question { owner, ..base })?;
+impl<'a> Question<'a> {
+    /// The same question, but for the part that this list names.
+    fn with(self, list: &str, text: &'a str) -> Question<'a> {
+        match list {
+            "owners" => Question {
+                owner: text,
+                ..self
+            },
+            "binary_names" => Question { name: text, ..self },
+            "binary_kinds" => Question { kind: text, ..self },
+            "platforms" => Question {
+                platform: text,
+                ..self
+            },
+            _ => Question {
+                test_name: text,
+                ..self
+            },
+        }
     }
-    for name in row.texts(alloc, "binary_names")? {
-        questions.push(Question { name, ..base })?;
-    }
-    for kind in row.texts(alloc, "binary_kinds")? {
-        questions.push(Question { kind, ..base })?;
-    }
-    for platform in row.texts(alloc, "platforms")? {
-        questions.push(Question { platform, ..base })?;
-    }
-    for test_name in row.texts(alloc, "test_names")? {
-        questions.push(Question { test_name, ..base })?;
-    }
-    if questions.is_empty() {
-        questions.push(base)?;
-    }
-    Ok(questions)
 }
 
-/// What a question names, as its binary's parts own it.
+/// A question, and what its binary's parts own.
 #[derive(Drop)]
-struct Parts {
+struct Asked<'a> {
+    question: Question<'a>,
     package_id: PackageId,
     kind: RustTestBinaryKind,
     binary_id: RustBinaryId,
     test_name: TestCaseName,
 }
 
-impl Parts {
-    fn of(alloc: Global, question: Question<'_>) -> Result<Parts, AllocError> {
+impl Asked<'_> {
+    fn of<'a>(alloc: Global, question: Question<'a>) -> Result<Asked<'a>, AllocError> {
         let kind = RustTestBinaryKind::new(String::from_str(alloc, question.kind)?);
         let binary_id = RustBinaryId::from_parts(alloc, question.owner, &kind, question.name)?;
         let package_id = PackageId::new(String::from_str(alloc, question.owner)?);
         let test_name = TestCaseName::new(String::from_str(alloc, question.test_name)?);
-        Ok(Parts {
+        Ok(Asked {
+            question,
             package_id,
             kind,
             binary_id,
@@ -171,56 +195,22 @@ impl Parts {
         })
     }
 
-    fn query<'a>(&'a self, question: Question<'a>) -> BinaryQuery<'a> {
+    fn binary(&self) -> BinaryQuery<'_> {
         BinaryQuery {
             package_id: &self.package_id,
             binary_id: &self.binary_id,
-            binary_name: question.name,
+            binary_name: self.question.name,
             kind: &self.kind,
-            platform: platform_of(question.platform),
+            platform: platform_of(self.question.platform),
         }
     }
-}
 
-fn holds_of(
-    alloc: Global,
-    question: Question<'_>,
-    group: &str,
-    filter: &Filterset,
-    cx: &EvalContext<'_>,
-) -> Result<bool, AllocError> {
-    let parts = Parts::of(alloc, question)?;
-    let query = TestQuery {
-        binary_query: parts.query(question),
-        test_name: &parts.test_name,
-    };
-    filter.matches_test_with_groups(alloc, &query, cx, &OneGroup { alloc, group })
-}
-
-fn alone_of(
-    alloc: Global,
-    question: Question<'_>,
-    filter: &Filterset,
-    cx: &EvalContext<'_>,
-) -> Result<bool, AllocError>
-    requires groups { has_leaf is_group (compiled_of filter.now.compiled) ≡ false }
-{
-    let parts = Parts::of(alloc, question)?;
-    let query = TestQuery {
-        binary_query: parts.query(question),
-        test_name: &parts.test_name,
-    };
-    filter.matches_test(alloc, &query, cx)
-}
-
-fn known_of(
-    alloc: Global,
-    question: Question<'_>,
-    filter: &Filterset,
-    cx: &EvalContext<'_>,
-) -> Result<Option<bool>, AllocError> {
-    let parts = Parts::of(alloc, question)?;
-    filter.matches_binary(alloc, &parts.query(question), cx)
+    fn test(&self) -> TestQuery<'_> {
+        TestQuery {
+            binary_query: self.binary(),
+            test_name: &self.test_name,
+        }
+    }
 }
 
 fn platform_of(text: &str) -> BuildPlatform {

@@ -1,6 +1,6 @@
+use crate::spans::add_span;
 use nextest_filter_syntax::{
-    NotOperator, ParseExprError, ParseSingleError, ParsedExpr, ParsedLeaf, SourceSpan,
-    parse_with_faults,
+    ParseExprError, ParseSingleError, ParsedExpr, ParsedLeaf, SourceSpan, parse_with_faults,
 };
 use row_program::{Answers, Row, RowFault, RowRunner};
 use std::alloc::{AllocError, Global};
@@ -21,190 +21,134 @@ impl RowRunner for FilterRows {
         answers: &mut Answers,
     ) -> Result<(), RowFault> {
         let text = row.text("text")?;
-        answers.tell("printed", printed(alloc, text))?;
+        tell_printed(alloc, text, answers);
         let (tree, faults) = parse_with_faults(alloc, text)?;
-        tell_faults(alloc, &faults, answers)?;
-        tell_read(alloc, &tree, answers)
+        tell_faults(alloc, &faults, answers);
+        match &tree {
+            Some(tree) => tell_tree(alloc, tree, answers),
+            None => tell_spoiled(answers),
+        }
+        Ok(())
     }
 }
 
-fn tell_faults(
-    alloc: Global,
-    faults: &[ParseSingleError],
-    answers: &mut Answers,
-) -> Result<(), RowFault> {
-    answers.tell("faults", faults_text(alloc, faults))
-}
-
-fn tell_read(
-    alloc: Global,
-    tree: &Option<ParsedExpr>,
-    answers: &mut Answers,
-) -> Result<(), RowFault> {
-    answers.tell("shape", shape_text(alloc, tree))?;
-    answers.tell("runtime", runtime_text(alloc, tree))?;
-    answers.tell("spans", spans_text(alloc, tree))
-}
-
-fn shape_text(alloc: Global, tree: &Option<ParsedExpr>) -> Result<String, AllocError> {
-    let mut shape = String::new(alloc);
-    match tree {
-        Some(tree) => push_shape(tree, alloc, &mut shape)?,
-        None => shape.push_str("spoiled")?,
-    }
-    Ok(shape)
-}
-
-fn spans_text(alloc: Global, tree: &Option<ParsedExpr>) -> Result<String, AllocError> {
-    let mut spans = String::new(alloc);
-    if let Some(tree) = tree {
-        push_spans(tree, alloc, &mut spans)?;
-    }
-    Ok(spans)
-}
-
-/// The leaves that can be told only at run time.
-fn runtime_text(alloc: Global, tree: &Option<ParsedExpr>) -> Result<String, AllocError> {
-    match tree {
-        Some(tree) => leaves_text(alloc, &tree.runtime_only_leaves(alloc)?),
-        None => Ok(String::new(alloc)),
-    }
-}
-
-fn leaves_text(alloc: Global, leaves: &[&ParsedLeaf]) -> Result<String, AllocError> {
-    let mut came = String::new(alloc);
-    for leaf in leaves {
-        let told = format!(in alloc; "{leaf} ")?;
-        came.push_str(told.as_str())?;
-    }
-    Ok(came)
-}
-
-/// The printed copy of a text's tree, or why there is none.
-fn printed(alloc: Global, text: &str) -> Result<String, AllocError> {
+/// Tells the printed copy of a text's tree, or why there is none.
+fn tell_printed(alloc: Global, text: &str, answers: &mut Answers) {
     match ParsedExpr::parse(alloc, text) {
-        Ok(tree) => copy_text(alloc, &tree),
+        Ok(tree) => answers.made("printed", tree.copy(alloc)),
         Err(ParseExprError::Faults(faults)) => {
-            let count = faults.len();
-            format!(in alloc; "faults: {count}")
+            answers.show("printed", &"faults: ");
+            answers.add(&faults.len());
         }
-        Err(ParseExprError::Memory) => Err(AllocError),
+        Err(ParseExprError::Memory) => answers.keep("printed", Err(AllocError)),
     }
 }
 
-fn copy_text(alloc: Global, tree: &ParsedExpr) -> Result<String, AllocError> {
-    let tree = tree.copy(alloc)?;
-    format!(in alloc; "{tree}")
-}
-
-/// Copies of the faults, with their places.
-fn faults_text(alloc: Global, faults: &[ParseSingleError]) -> Result<String, AllocError> {
-    let mut came = String::new(alloc);
+/// Tells copies of the faults, with their places.
+fn tell_faults(alloc: Global, faults: &[ParseSingleError], answers: &mut Answers) {
+    answers.begin("faults");
     for fault in faults {
-        if !came.is_empty() {
-            came.push_str("; ")?;
+        match fault.copy(alloc) {
+            Ok(fault) => add_fault(&fault, answers),
+            Err(refused) => answers.keep("faults", Err(refused)),
         }
-        let told = copied_fault_text(alloc, fault)?;
-        came.push_str(told.as_str())?;
     }
-    Ok(came)
 }
 
-fn copied_fault_text(alloc: Global, fault: &ParseSingleError) -> Result<String, AllocError> {
-    let fault = fault.copy(alloc)?;
-    fault_text(alloc, &fault)
-}
-
-fn fault_text(alloc: Global, fault: &ParseSingleError) -> Result<String, AllocError> {
-    let span = fault.span();
-    let (offset, len) = (span.offset, span.len);
+fn add_fault(fault: &ParseSingleError, answers: &mut Answers) {
+    answers.part("; ", fault);
     match fault {
         ParseSingleError::ExprFoundBinaryOp { suggest, .. }
         | ParseSingleError::ExprFoundUnaryOp { suggest, .. } => {
-            format!(in alloc; "{fault}, rather {suggest} ({offset}, {len})")
+            answers.part(", rather ", suggest);
         }
-        ParseSingleError::InvalidGlob { error, .. } => {
-            format!(in alloc; "{fault}: {error} ({offset}, {len})")
+        ParseSingleError::InvalidGlob { error, .. } => answers.part(": ", error),
+        _ => {}
+    }
+    answers.add(&" ");
+    add_span(fault.span(), answers);
+}
+
+fn tell_spoiled(answers: &mut Answers) {
+    answers.show("shape", &"spoiled");
+    answers.show("runtime", &"");
+    answers.show("spans", &"");
+}
+
+/// Tells the tree's shape, its leaves that can be told only at run time, and the places of its leaves.
+fn tell_tree(alloc: Global, tree: &ParsedExpr, answers: &mut Answers) {
+    answers.begin("shape");
+    add_shape(tree, answers);
+    answers.begin("spans");
+    add_spans(tree, answers);
+    match tree.runtime_only_leaves(alloc) {
+        Ok(leaves) => {
+            answers.begin("runtime");
+            for leaf in &leaves {
+                answers.add(*leaf);
+                answers.add(&" ");
+            }
         }
-        _ => format!(in alloc; "{fault} ({offset}, {len})"),
+        Err(refused) => answers.keep("runtime", Err(refused)),
     }
 }
 
-/// Adds the operator that joins two parts, between blanks.
-fn push_operator(tree: &ParsedExpr, alloc: Global, shape: &mut String) -> Result<(), AllocError> {
-    let op = match tree {
-        ParsedExpr::Union(op, ..) => format!(in alloc; " {op} "),
-        ParsedExpr::Intersection(op, ..) => format!(in alloc; " {op} "),
-        ParsedExpr::Difference(op, ..) => format!(in alloc; " {op} "),
-        _ => Ok(String::new(alloc)),
-    };
-    shape.push_str(op?.as_str())
-}
-
-/// The tree with parentheses of its own around each part that is no leaf.
-fn push_shape(tree: &ParsedExpr, alloc: Global, shape: &mut String) -> Result<(), AllocError> {
+/// Adds the tree, with parentheses of its own around each part that is no leaf.
+fn add_shape(tree: &ParsedExpr, answers: &mut Answers) {
     match tree {
         ParsedExpr::Not(op, x) => {
-            push_not(*op, alloc, shape)?;
-            push_shape(x, alloc, shape)?;
-            shape.push(']')
+            answers.add(&"[");
+            answers.add(op);
+            answers.add(&" ");
+            add_shape(x, answers);
+            answers.add(&"]");
         }
         ParsedExpr::Union(_, x, y)
         | ParsedExpr::Intersection(_, x, y)
         | ParsedExpr::Difference(_, x, y) => {
-            shape.push('[')?;
-            push_shape(x, alloc, shape)?;
-            push_operator(tree, alloc, shape)?;
-            push_shape(y, alloc, shape)?;
-            shape.push(']')
+            answers.add(&"[");
+            add_shape(x, answers);
+            answers.add(&" ");
+            add_operator(tree, answers);
+            answers.add(&" ");
+            add_shape(y, answers);
+            answers.add(&"]");
         }
         ParsedExpr::Parens(x) => {
-            shape.push('(')?;
-            push_shape(x, alloc, shape)?;
-            shape.push(')')
+            answers.add(&"(");
+            add_shape(x, answers);
+            answers.add(&")");
         }
-        ParsedExpr::Set(leaf) => push_leaf(leaf, alloc, shape),
+        ParsedExpr::Set(leaf) => answers.add(leaf),
     }
 }
 
-fn push_not(op: NotOperator, alloc: Global, shape: &mut String) -> Result<(), AllocError> {
-    let op = format!(in alloc; "[{op} ")?;
-    shape.push_str(op.as_str())
-}
-
-fn push_leaf(leaf: &ParsedLeaf, alloc: Global, shape: &mut String) -> Result<(), AllocError> {
-    let leaf = format!(in alloc; "{leaf}")?;
-    shape.push_str(leaf.as_str())
-}
-
-/// The places of the leaves that have one, from left to right.
-fn push_spans(tree: &ParsedExpr, alloc: Global, spans: &mut String) -> Result<(), AllocError> {
+/// Adds the operator that joins two parts.
+fn add_operator(tree: &ParsedExpr, answers: &mut Answers) {
     match tree {
-        ParsedExpr::Not(_, x) => push_spans(x, alloc, spans),
-        ParsedExpr::Union(_, x, y) => {
-            push_spans(x, alloc, spans)?;
-            push_spans(y, alloc, spans)
-        }
-        ParsedExpr::Intersection(_, x, y) => {
-            push_spans(x, alloc, spans)?;
-            push_spans(y, alloc, spans)
-        }
-        ParsedExpr::Difference(_, x, y) => {
-            push_spans(x, alloc, spans)?;
-            push_spans(y, alloc, spans)
-        }
-        ParsedExpr::Parens(x) => push_spans(x, alloc, spans),
-        ParsedExpr::Set(leaf) => push_span(leaf, alloc, spans),
+        ParsedExpr::Union(op, ..) => answers.add(op),
+        ParsedExpr::Intersection(op, ..) => answers.add(op),
+        ParsedExpr::Difference(op, ..) => answers.add(op),
+        _ => {}
     }
 }
 
-fn push_span(leaf: &ParsedLeaf, alloc: Global, spans: &mut String) -> Result<(), AllocError> {
-    let Some(span) = span_of(leaf) else {
-        return Ok(());
-    };
-    let (offset, len) = (span.offset, span.len);
-    let told = format!(in alloc; "({offset}, {len})")?;
-    spans.push_str(told.as_str())
+/// Adds the places of the leaves that have one, from left to right.
+fn add_spans(tree: &ParsedExpr, answers: &mut Answers) {
+    match tree {
+        ParsedExpr::Not(_, x) | ParsedExpr::Parens(x) => add_spans(x, answers),
+        ParsedExpr::Union(_, x, y)
+        | ParsedExpr::Intersection(_, x, y)
+        | ParsedExpr::Difference(_, x, y) => {
+            add_spans(x, answers);
+            add_spans(y, answers);
+        }
+        ParsedExpr::Set(leaf) => {
+            if let Some(span) = span_of(leaf) {
+                add_span(span, answers);
+            }
+        }
+    }
 }
 
 fn span_of(leaf: &ParsedLeaf) -> Option<SourceSpan> {

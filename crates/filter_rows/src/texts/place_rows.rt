@@ -1,10 +1,11 @@
-use nextest_filter_syntax::ParseSingleError;
+use crate::spans::add_span;
 use nextest_filter_texts::{pattern_from, text_from};
 use nextest_filter_tokens::{
     FaultList, and_operator, escape_after, head_of, or_operator, skip_blanks,
 };
 use row_program::{Answers, Row, RowFault, RowRunner};
-use std::alloc::{AllocError, Global};
+use std::alloc::Global;
+use std::fmt::Display;
 
 /// Rows of one text each, of which a part is read from its beginning on.
 #[derive(Drop)]
@@ -22,56 +23,48 @@ impl RowRunner for PlaceRows {
         answers: &mut Answers,
     ) -> Result<(), RowFault> {
         let text = row.text("text")?;
-        let came = match row.text("part")? {
-            "head" => format!(in alloc; "{:?}", head_of(text, 0)),
-            "or" => format!(in alloc; "{:?}", or_operator(text, 0)),
-            "and" => format!(in alloc; "{:?}", and_operator(text, 0)),
-            "blanks" => format!(in alloc; "{}", skip_blanks(text, 0)),
-            "escape" => format!(in alloc; "{:?}", escape_after(text, 0)),
-            "text" => read_text(alloc, text),
-            "pattern" => read_pattern(alloc, text),
+        match row.text("part")? {
+            "head" => answers.keep("came", format!(in alloc; "{:?}", head_of(text, 0))),
+            "or" => answers.keep("came", format!(in alloc; "{:?}", or_operator(text, 0))),
+            "and" => answers.keep("came", format!(in alloc; "{:?}", and_operator(text, 0))),
+            "blanks" => answers.show("came", &skip_blanks(text, 0)),
+            "escape" => answers.keep("came", format!(in alloc; "{:?}", escape_after(text, 0))),
+            "text" => tell_text(alloc, text, answers),
+            "pattern" => tell_pattern(alloc, text, answers),
             _ => return Err(RowFault::Key("part")),
-        };
-        answers.tell("came", came)
+        }
+        Ok(())
     }
 }
 
-/// The text that is read, the place where it ends, and its faults.
-fn read_text(alloc: Global, text: &str) -> Result<String, AllocError> {
+/// Tells the text that is read, the place where it ends, and its faults.
+fn tell_text(alloc: Global, text: &str, answers: &mut Answers) {
     let mut faults = FaultList::new(alloc);
-    let (value, end) = text_from(alloc, text, 0, &mut faults)?;
-    let came = match value {
-        Some(value) => format!(in alloc; "{value} up to {end}"),
-        None => format!(in alloc; "spoiled up to {end}"),
-    };
-    with_faults(alloc, came?, &faults.list)
-}
-
-fn with_faults(
-    alloc: Global,
-    mut came: String,
-    faults: &[ParseSingleError],
-) -> Result<String, AllocError> {
-    for fault in faults {
-        push_fault(alloc, &mut came, fault)?;
+    match text_from(alloc, text, 0, &mut faults) {
+        Ok((value, end)) => match value {
+            Some(value) => tell_came(&value, end, answers),
+            None => tell_came(&"spoiled", end, answers),
+        },
+        Err(refused) => answers.keep("came", Err(refused)),
     }
-    Ok(came)
-}
-
-fn push_fault(
-    alloc: Global,
-    came: &mut String,
-    fault: &ParseSingleError,
-) -> Result<(), AllocError> {
-    let span = fault.span();
-    let (offset, len) = (span.offset, span.len);
-    let told = format!(in alloc; "; {fault} ({offset}, {len})")?;
-    came.push_str(told.as_str())
-}
-
-fn read_pattern(alloc: Global, text: &str) -> Result<String, AllocError> {
-    match pattern_from(alloc, text, 0)? {
-        Some((pattern, end)) => format!(in alloc; "{pattern} up to {end}"),
-        None => String::from_str(alloc, "open"),
+    for fault in &faults.list {
+        answers.part("; ", fault);
+        answers.add(&" ");
+        add_span(fault.span(), answers);
     }
+}
+
+fn tell_pattern(alloc: Global, text: &str, answers: &mut Answers) {
+    match pattern_from(alloc, text, 0) {
+        Ok(Some((pattern, end))) => tell_came(&pattern, end, answers),
+        Ok(None) => answers.show("came", &"open"),
+        Err(refused) => answers.keep("came", Err(refused)),
+    }
+}
+
+/// Tells what is read, and the place where it ends.
+fn tell_came<T: Display>(came: &T, end: usize, answers: &mut Answers) {
+    answers.show("came", came);
+    answers.add(&" up to ");
+    answers.add(&end);
 }

@@ -1,4 +1,4 @@
-use row_program::Row;
+use row_program::{Row, file_text};
 use std::alloc::Global;
 use test_select::{FileFault, FileSource};
 
@@ -36,9 +36,9 @@ impl FileSource for MemoryFiles<'_> {
         match self.row.file_value(name) {
             None => Err(FileFault::CannotRead),
             Some(value) if value.is_null() => Err(FileFault::Memory),
-            Some(_) => match self.row.file(alloc, name) {
-                Ok(Some(text)) => Ok(text.into_bytes()),
-                _ => Err(FileFault::Memory),
+            Some(value) => match file_text(alloc, value) {
+                Ok(text) => Ok(text.into_bytes()),
+                Err(_) => Err(FileFault::Memory),
             },
         }
     }

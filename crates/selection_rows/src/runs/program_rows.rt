@@ -20,41 +20,18 @@ impl RowRunner for ProgramRows {
         answers: &mut Answers,
     ) -> Result<(), RowFault> {
         let words = row.texts(alloc, "words")?;
-        tell_end(alloc, run_on(alloc, row, words.as_slice()), answers)
+        tell_run(alloc, row, &words, answers);
+        Ok(())
     }
 }
 
-/// What a run ended with, what it wrote, and the names of the files that it read.
-#[derive(Drop)]
-struct Ended {
-    status: u8,
-    out: Vec<u8>,
-    err: Vec<u8>,
-    read: String,
-}
-
-fn run_on(alloc: Global, row: Row<'_>, words: &[&str]) -> Ended {
+/// Tells what a run ended with, what it wrote, and the names of the files that it read.
+fn tell_run(alloc: Global, row: Row<'_>, words: &[&str], answers: &mut Answers) {
     let mut files = MemoryFiles::new(alloc, row);
     let (mut out, mut err) = (Vec::new(alloc), Vec::new(alloc));
     let status = run(alloc, words, &mut files, &mut out, &mut err);
-    let read = files.into_asked();
-    Ended {
-        status,
-        out,
-        err,
-        read,
-    }
-}
-
-fn tell_end(alloc: Global, ended: Ended, answers: &mut Answers) -> Result<(), RowFault> {
-    let Ended {
-        status,
-        out,
-        err,
-        read,
-    } = ended;
-    answers.push("read", read)?;
-    answers.tell("status", format!(in alloc; "{status}"))?;
-    answers.push("stdout", String::from_utf8(out)?)?;
-    answers.push("stderr", String::from_utf8(err)?)
+    answers.show("status", &status);
+    answers.keep("read", Ok(files.into_asked()));
+    answers.written("stdout", out, true);
+    answers.written("stderr", err, true);
 }

@@ -2,7 +2,6 @@
 //! has to answer and to ask.
 
 mod binaries;
-mod features;
 mod selecting;
 mod selection_rows;
 mod switching;

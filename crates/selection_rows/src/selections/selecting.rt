@@ -2,7 +2,7 @@
 
 use row_program::{Answers, Row, RowFault};
 use row_records::{Question, listings_in};
-use std::alloc::{AllocError, Global};
+use std::alloc::Global;
 use test_select::{
     FileLister, LinkScope, SelectError, Selection, select, select_plain, write_report,
 };
@@ -16,48 +16,23 @@ pub(crate) fn tell_selection(
     scope: LinkScope,
     answers: &mut Answers,
 ) -> Result<(), RowFault> {
-    let mut lister = FileLister::new(alloc, listings_in(alloc, row)?);
-    select_by(alloc, row, question, scope, &mut lister, answers)
-}
-
-fn select_by(
-    alloc: Global,
-    row: Row<'_>,
-    question: Question<'_>,
-    scope: LinkScope,
-    lister: &mut FileLister,
-    answers: &mut Answers,
-) -> Result<(), RowFault> {
+    let plain = row.get("plain").is_some();
     let texts = row.texts(alloc, "texts")?;
-    let answer = if row.get("plain").is_some() {
-        selected_plainly(alloc, question, scope, &texts, lister)
-    } else {
-        selected(alloc, question, scope, &texts, lister)
-    };
-    tell_answer(alloc, answer, answers)?;
-    tell_lister(alloc, lister, answers)
-}
-
-fn tell_answer(
-    alloc: Global,
-    answer: Result<Selection, SelectError>,
-    answers: &mut Answers,
-) -> Result<(), RowFault> {
-    match answer {
+    let mut lister = FileLister::new(alloc, listings_in(alloc, row)?);
+    match selected(alloc, question, scope, plain, &texts, &mut lister) {
         Ok(selection) => tell_report(alloc, &selection, answers),
-        Err(error) => tell_refusal(alloc, &error, answers),
+        Err(error) => tell_refusal(&error, answers),
     }
-}
-
-fn tell_lister(alloc: Global, lister: &FileLister, answers: &mut Answers) -> Result<(), RowFault> {
-    answers.tell("asked", spaced(alloc, lister.asked()))?;
-    answers.tell("failures", format!(in alloc; "{}", lister.failures()))
+    answers.words("asked", lister.asked());
+    answers.show("failures", &lister.failures());
+    Ok(())
 }
 
 fn selected(
     alloc: Global,
     question: Question<'_>,
     scope: LinkScope,
+    plain: bool,
     texts: &[&str],
     lister: &mut FileLister,
 ) -> Result<Selection, SelectError> {
@@ -66,69 +41,30 @@ fn selected(
         choice,
         table,
     } = question;
+    if plain {
+        return select_plain(alloc, record, choice, table, scope, texts, lister);
+    }
     select(alloc, record, choice, table, scope, texts, lister)
 }
 
-fn selected_plainly(
-    alloc: Global,
-    question: Question<'_>,
-    scope: LinkScope,
-    texts: &[&str],
-    lister: &mut FileLister,
-) -> Result<Selection, SelectError> {
-    let Question {
-        record,
-        choice,
-        table,
-    } = question;
-    select_plain(alloc, record, choice, table, scope, texts, lister)
-}
-
-fn tell_refusal(alloc: Global, error: &SelectError, answers: &mut Answers) -> Result<(), RowFault> {
-    answers.tell("report", String::from_str(alloc, "refused"))?;
-    answers.tell("refused", format!(in alloc; "{error}"))
+fn tell_refusal(error: &SelectError, answers: &mut Answers) {
+    answers.show("report", &"refused");
+    answers.show("refused", error);
 }
 
 /// Tells the report that is written, the chosen tests, which are to be the same lines, and that the
 /// ids which the selection keeps are those that the lister was asked.
-fn tell_report(
-    alloc: Global,
-    selection: &Selection,
-    answers: &mut Answers,
-) -> Result<(), RowFault> {
-    answers.push("refused", String::new(alloc))?;
-    answers.tell("asked", spaced(alloc, selection.asked()))?;
-    answers.tell("report", chosen_lines(alloc, selection))?;
-    answers.push("report", report_text(alloc, selection)?)
-}
-
-fn report_text(alloc: Global, selection: &Selection) -> Result<String, RowFault> {
-    let mut written = Vec::new(alloc);
-    if write_report(selection, &mut written).is_err() {
-        return Err(RowFault::Memory);
-    }
-    Ok(String::from_utf8(written)?)
-}
-
-fn chosen_lines(alloc: Global, selection: &Selection) -> Result<String, AllocError> {
-    let mut lines = String::new(alloc);
+fn tell_report(alloc: Global, selection: &Selection, answers: &mut Answers) {
+    answers.show("refused", &"");
+    answers.words("asked", selection.asked());
+    answers.begin("report");
     for (id, name) in selection.chosen() {
-        lines.push_str(id.as_str())?;
-        lines.push(' ')?;
-        lines.push_str(name.as_str())?;
-        lines.push('\n')?;
+        answers.add(id);
+        answers.add(&" ");
+        answers.add(name);
+        answers.add(&"\n");
     }
-    Ok(lines)
-}
-
-/// The ids, parted by spaces.
-fn spaced(alloc: Global, ids: &[String]) -> Result<String, AllocError> {
-    let mut text = String::new(alloc);
-    for (place, id) in ids.iter().enumerate() {
-        if place > 0 {
-            text.push(' ')?;
-        }
-        text.push_str(id.as_str())?;
-    }
-    Ok(text)
+    let mut written = Vec::new(alloc);
+    let is_written = write_report(selection, &mut written).is_ok();
+    answers.written("report", written, is_written);
 }

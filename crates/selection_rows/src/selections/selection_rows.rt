@@ -2,9 +2,9 @@ use crate::selections::binaries::tell_binaries;
 use crate::selections::selecting::tell_selection;
 use crate::selections::switching::tell_switching;
 use row_program::{Answers, Row, RowFault, RowRunner};
-use row_records::{Question, choice_in, record_in, table_in};
+use row_records::{Question, question_in};
 use std::alloc::Global;
-use test_select::{FeatureChoice, LinkScope, WorkspaceRecord};
+use test_select::LinkScope;
 
 /// Rows of selections. A row's `files` are `record.json`, and where it has them `choice.json`,
 /// `table.json`, `listings.json` and `switched.json`, and its `texts` the filter texts; where it has
@@ -28,44 +28,18 @@ impl RowRunner for SelectionRows {
         row: Row<'_>,
         answers: &mut Answers,
     ) -> Result<(), RowFault> {
-        let record = record_in(alloc, row, "record.json")?;
-        run_on_record(alloc, row, &record, answers)
+        let question = question_in(alloc, row)?;
+        tell_question(alloc, row, question.lent(), answers)
     }
 }
 
-fn run_on_record(
-    alloc: Global,
-    row: Row<'_>,
-    record: &WorkspaceRecord,
-    answers: &mut Answers,
-) -> Result<(), RowFault> {
-    tell_binaries(alloc, record, answers)?;
-    let choice = choice_in(alloc, row)?;
-    run_on_choice(alloc, row, record, &choice, answers)
-}
-
-fn run_on_choice(
-    alloc: Global,
-    row: Row<'_>,
-    record: &WorkspaceRecord,
-    choice: &FeatureChoice,
-    answers: &mut Answers,
-) -> Result<(), RowFault> {
-    let table = table_in(alloc, row)?;
-    let question = Question {
-        record,
-        choice,
-        table: &table,
-    };
-    run_on_question(alloc, row, question, answers)
-}
-
-fn run_on_question(
+fn tell_question(
     alloc: Global,
     row: Row<'_>,
     question: Question<'_>,
     answers: &mut Answers,
 ) -> Result<(), RowFault> {
+    tell_binaries(alloc, question.record, answers);
     tell_switching(alloc, row, question, answers)?;
     for scope in scopes_of(row)? {
         tell_selection(alloc, row, question, *scope, answers)?;
