@@ -1,11 +1,11 @@
 //! Two members with a library and a test each, all of which are available under the choice.
 
-use question_files::FeatureQuestion;
-use std::alloc::{AllocError, Global};
-use std::test::Fail;
+use std::alloc::Global;
+use std::fmt::Debug;
+use std::process::Abort;
 use test_select::{
-    Feature, Label, LinkScope, SelectError, Selection, TestLister, read_choice, read_record,
-    read_table, select, select_plain,
+    Feature, FeatureChoice, Label, LinkScope, PlatformTable, SelectError, Selection, TestLister,
+    WorkspaceRecord, read_choice, read_record, read_table, select, select_plain,
 };
 
 /// The feature `full` of app switches util on, and `fast` its feature `simd`.
@@ -57,25 +57,40 @@ pub(crate) const ACCOUNT: &[u8] = b"{\"rules\":[0,1,2,3,8,9]}";
 pub(crate) const IDS: [&str; 4] = ["app", "app::net", "util", "util::wide"];
 
 /// A record under a choice.
-pub(crate) fn question(
+pub(crate) struct Question {
+    pub(crate) record: WorkspaceRecord,
+    pub(crate) choice: FeatureChoice,
+    pub(crate) table: PlatformTable,
+}
+
+// Written out, so that a function that lets one go takes one step.
+impl Drop for Question {
+    fn drop(self) {
+        let Question {
+            record: _,
+            choice: _,
+            table: _,
+        } = self;
+    }
+}
+
+pub(crate) fn question_of(
+    rt: &impl Abort,
     alloc: Global,
     record: &[u8],
     choice: &[u8],
-) -> Result<FeatureQuestion, Fail> {
-    let choice = read_choice(alloc, choice)?;
-    let table = read_table(alloc, TABLE)?;
-    let record = read_record(alloc, record)?;
-    Ok(FeatureQuestion {
-        record,
-        choice,
-        table,
-    })
+) -> Question {
+    Question {
+        choice: read_choice(alloc, choice).expect(rt, "a choice"),
+        table: read_table(alloc, TABLE).expect(rt, "a table"),
+        record: read_record(alloc, record).expect(rt, "a record"),
+    }
 }
 
 /// Selects over the links that are on, by the call that asks for each available binary where `plain`.
 pub(crate) fn selected(
     alloc: Global,
-    question: &FeatureQuestion,
+    question: &Question,
     plain: bool,
     texts: &[&str],
     lister: &mut dyn TestLister,
@@ -89,8 +104,13 @@ pub(crate) fn selected(
 }
 
 /// The feature `simd` of util.
-pub(crate) fn simd(alloc: Global) -> Result<Feature, AllocError> {
-    let package = String::from_str(alloc, "util")?;
-    let label = Label::Named(String::from_str(alloc, "simd")?);
-    Ok(Feature { package, label })
+pub(crate) fn simd(rt: &impl Abort, alloc: Global) -> Feature {
+    let package = String::from_str(alloc, "util").expect(rt, "memory");
+    let label = Label::Named(String::from_str(alloc, "simd").expect(rt, "memory"));
+    Feature { package, label }
+}
+
+/// What `Debug` prints of a value.
+pub(crate) fn debugged<T: Debug>(rt: &impl Abort, alloc: Global, value: &T) -> String {
+    format!(in alloc; "{value:?}").expect(rt, "memory")
 }

@@ -6,9 +6,9 @@ use guppy_feature_graph::{
     feature_id_filter, named_feature_filter, query_to_feature_query, set_to_feature_set,
 };
 use std::alloc::Global;
-use std::test::Fail;
+use std::process::Abort;
 
-// Asks how many features of all packages the filter takes.
+/// Asks how many features of all packages the filter takes.
 #[derive(Drop)]
 struct TakenBy<F> {
     filter: F,
@@ -19,76 +19,64 @@ impl<F: FeatureFilter> Question for TakenBy<F> {
 
     ghost can_ask = { λ q. F.can_accept q.filter };
 
-    fn ask(&mut self, alloc: Global, data: &FeatureGraphData<'_>) -> Result<usize, Fail> {
+    fn ask<R: Abort>(&mut self, rt: &R, alloc: Global, data: &FeatureGraphData<'_>) -> usize {
         let graph = FeatureGraph::of(data);
-        let all = data.package_graph().resolve_all(alloc)?;
-        let taken = set_to_feature_set(alloc, &graph, &all, &mut self.filter)?;
-        Ok(taken.len())
+        let all = data.package_graph().resolve_all(alloc).expect(rt, "memory");
+        let taken = set_to_feature_set(alloc, &graph, &all, &mut self.filter);
+        taken.expect(rt, "memory").len()
     }
 }
 
-fn taken_by<F: FeatureFilter>(alloc: Global, filter: F) -> Result<usize, Fail>
+fn taken_by<R: Abort, F: FeatureFilter>(rt: &R, alloc: Global, filter: F) -> usize
 where
     F: Drop,
     requires { F.can_accept filter }
 {
-    let mut question = TakenBy { filter };
-    answer_to(alloc, &mut question)
+    answer_to(rt, alloc, &mut TakenBy { filter })
 }
 
 #[test]
-fn standard_features(rt: HostRuntime) -> Result<(), Fail> {
-    let taken = taken_by(rt.alloc(), StandardFeatures::None)?;
-    assert_eq!(rt; taken, 2);
-    Ok(())
+fn standard_features(rt: HostRuntime) {
+    assert_eq!(rt; taken_by(&rt, rt.alloc(), StandardFeatures::None), 2);
 }
 
 #[test]
-fn boxed_filter(rt: HostRuntime) -> Result<(), Fail> {
-    let filter: Box<dyn FeatureFilter + Drop> = Box::new(rt.alloc(), StandardFeatures::All)?;
-    let taken = taken_by(rt.alloc(), filter)?;
-    assert_eq!(rt; taken, 5);
-    Ok(())
+fn boxed_filter(rt: HostRuntime) {
+    let boxed = Box::new(rt.alloc(), StandardFeatures::All).expect(&rt, "memory");
+    let filter: Box<dyn FeatureFilter + Drop> = boxed;
+    assert_eq!(rt; taken_by(&rt, rt.alloc(), filter), 5);
 }
 
 #[test]
-fn lent_filter(rt: HostRuntime) -> Result<(), Fail> {
+fn lent_filter(rt: HostRuntime) {
     let mut filter = StandardFeatures::All;
     let lent: &mut dyn FeatureFilter = &mut filter;
-    let taken = taken_by(rt.alloc(), lent)?;
-    assert_eq!(rt; taken, 5);
-    Ok(())
+    assert_eq!(rt; taken_by(&rt, rt.alloc(), lent), 5);
 }
 
 #[test]
-fn names_beside_a_base(rt: HostRuntime) -> Result<(), Fail> {
+fn names_beside_a_base(rt: HostRuntime) {
     let filter = named_feature_filter(StandardFeatures::None, &["std"]);
-    let taken = taken_by(rt.alloc(), filter)?;
-    assert_eq!(rt; taken, 3);
-    Ok(())
+    assert_eq!(rt; taken_by(&rt, rt.alloc(), filter), 3);
 }
 
 #[test]
-fn ids_beside_a_base(rt: HostRuntime) -> Result<(), Fail> {
-    let app = id_of(rt.alloc(), "app")?;
+fn ids_beside_a_base(rt: HostRuntime) {
+    let app = id_of(&rt, rt.alloc(), "app");
     let ids = [FeatureId::optional_dependency(&app, "foo")];
     let filter = feature_id_filter(StandardFeatures::None, &ids);
-    let taken = taken_by(rt.alloc(), filter)?;
-    assert_eq!(rt; taken, 3);
-    Ok(())
+    assert_eq!(rt; taken_by(&rt, rt.alloc(), filter), 3);
 }
 
 #[test]
-fn closure_as_a_filter(rt: HostRuntime) -> Result<(), Fail> {
+fn closure_as_a_filter(rt: HostRuntime) {
     let filter = FeatureFilterFn::new(|_graph: &FeatureGraph<'_>, id: FeatureId<'_>| -> bool {
         id.is_named()
     });
-    let taken = taken_by(rt.alloc(), filter)?;
-    assert_eq!(rt; taken, 2);
-    Ok(())
+    assert_eq!(rt; taken_by(&rt, rt.alloc(), filter), 2);
 }
 
-// Asks how many features of app, from which a query starts, are taken.
+/// Asks how many features of app, from which a query starts, are taken.
 #[derive(Drop)]
 struct TakenFromApp;
 
@@ -99,18 +87,18 @@ impl Question for TakenFromApp {
 
     ghost can_ask = { λ _. ⊤ };
 
-    fn ask(&mut self, alloc: Global, data: &FeatureGraphData<'_>) -> Result<usize, Fail> {
-        let app = id_of(alloc, "app")?;
-        let query = data.package_graph().query_forward(alloc, &[&app])?;
+    fn ask<R: Abort>(&mut self, rt: &R, alloc: Global, data: &FeatureGraphData<'_>) -> usize {
+        let app = id_of(rt, alloc, "app");
+        let query = data.package_graph().query_forward(alloc, &[&app]);
+        let query = query.expect(rt, "a query");
         let graph = FeatureGraph::of(data);
-        let taken = query_to_feature_query(alloc, &graph, &query, &mut StandardFeatures::All)?;
-        Ok(taken.initials().len())
+        let mut filter = StandardFeatures::All;
+        let taken = query_to_feature_query(alloc, &graph, &query, &mut filter);
+        taken.expect(rt, "memory").initials().len()
     }
 }
 
 #[test]
-fn features_of_a_query(rt: HostRuntime) -> Result<(), Fail> {
-    let taken = answer_to(rt.alloc(), &mut TakenFromApp)?;
-    assert_eq!(rt; taken, 3);
-    Ok(())
+fn features_of_a_query(rt: HostRuntime) {
+    assert_eq!(rt; answer_to(&rt, rt.alloc(), &mut TakenFromApp), 3);
 }

@@ -3,8 +3,8 @@
 use guppy_feature_graph::FeatureGraphData;
 use guppy_package_graph::{PackageGraph, PackageId};
 use record_files::read_record;
-use std::alloc::{AllocError, Global};
-use std::test::Fail;
+use std::alloc::Global;
+use std::process::Abort;
 
 /// The feature `weak` of app names a feature of foo, which app requires in one line, and in another
 /// where it is switched on.
@@ -32,37 +32,37 @@ pub(crate) trait Question {
 
     ghost can_ask: { Self → Type 0 };
 
-    fn ask(&mut self, alloc: Global, data: &FeatureGraphData<'_>) -> Result<Self::Answer, Fail>
+    fn ask<R: Abort>(&mut self, rt: &R, alloc: Global, data: &FeatureGraphData<'_>) -> Self::Answer
         requires { can_ask self.old };
 }
 
 /// What the feature graph of `WEAK` answers.
-pub(crate) fn answer_to<Q: Question>(alloc: Global, question: &mut Q) -> Result<Q::Answer, Fail>
+pub(crate) fn answer_to<R: Abort, Q: Question>(rt: &R, alloc: Global, question: &mut Q) -> Q::Answer
     requires { Q.can_ask question.old }
 {
-    let packages = weak_graph(alloc)?;
-    answer_over(alloc, &packages, question)
+    let packages = weak_graph(rt, alloc);
+    answer_over(rt, alloc, &packages, question)
 }
 
-fn answer_over<Q: Question>(
+fn answer_over<R: Abort, Q: Question>(
+    rt: &R,
     alloc: Global,
     packages: &PackageGraph,
     question: &mut Q,
-) -> Result<Q::Answer, Fail>
+) -> Q::Answer
     requires { Q.can_ask question.old }
 {
-    let data = FeatureGraphData::build(alloc, packages)?;
-    question.ask(alloc, &data)
+    let data = FeatureGraphData::build(alloc, packages).expect(rt, "memory");
+    question.ask(rt, alloc, &data)
 }
 
-fn weak_graph(alloc: Global) -> Result<PackageGraph, Fail> {
-    let record = read_record(alloc, WEAK.as_bytes())?;
+fn weak_graph(rt: &impl Abort, alloc: Global) -> PackageGraph {
+    let record = read_record(alloc, WEAK.as_bytes()).expect(rt, "a record");
     let (packages, links, workspace) = (record.packages, record.links, record.workspace);
-    let graph = PackageGraph::from_records(alloc, packages, links, workspace)?;
-    Ok(graph)
+    let graph = PackageGraph::from_records(alloc, packages, links, workspace);
+    graph.expect(rt, "a graph")
 }
 
-pub(crate) fn id_of(alloc: Global, text: &str) -> Result<PackageId, AllocError> {
-    let text = String::from_str(alloc, text)?;
-    Ok(PackageId::new(text))
+pub(crate) fn id_of(rt: &impl Abort, alloc: Global, text: &str) -> PackageId {
+    PackageId::new(String::from_str(alloc, text).expect(rt, "memory"))
 }

@@ -3,43 +3,59 @@
 
 use crate::graphs::graphs::{Question, answer_to, id_of};
 use guppy_feature_graph::{
-    FeatureGraph, FeatureGraphData, FeatureId, FeatureList, FeatureMetadata, FeatureSet,
+    FeatureGraph, FeatureGraphData, FeatureId, FeatureList, FeatureMetadata, FeatureQuery,
+    FeatureSet,
 };
-use guppy_package_graph::DependencyDirection;
-use std::alloc::{AllocError, Global};
-use std::test::Fail;
+use guppy_package_graph::{DependencyDirection, PackageId};
+use std::alloc::Global;
+use std::process::Abort;
 
-// The features of a set that is gone when they are looked at.
+/// The features of a set that is gone when they are looked at.
 fn features_of<'g>(
+    rt: &impl Abort,
     alloc: Global,
     graph: FeatureGraph<'g>,
-) -> Result<Vec<FeatureMetadata<'g>>, AllocError> {
-    let all = graph.resolve_all(alloc)?;
+) -> Vec<FeatureMetadata<'g>> {
+    let all = graph.resolve_all(alloc).expect(rt, "memory");
     let mut features: Vec<FeatureMetadata<'g>> = Vec::new(alloc);
     for feature in all.features(DependencyDirection::Forward) {
-        features.push(feature)?;
+        assert!(rt; features.push(feature).is_ok());
     }
-    Ok(features)
+    features
 }
 
-// The ids of a list that is gone when they are looked at, and its names.
-fn ids_of<'g>(
-    alloc: Global,
-    list: FeatureList<'g>,
-) -> Result<(Vec<FeatureId<'g>>, Vec<&'g str>), AllocError> {
+/// The ids of a list that is gone when they are looked at.
+fn ids_of<'g>(rt: &impl Abort, alloc: Global, list: FeatureList<'g>) -> Vec<FeatureId<'g>> {
     let mut ids: Vec<FeatureId<'g>> = Vec::new(alloc);
     for id in &list {
-        ids.push(id)?;
+        assert!(rt; ids.push(id).is_ok());
     }
-    let mut names: Vec<&'g str> = Vec::new(alloc);
-    for name in list.named_features() {
-        names.push(name)?;
-    }
-    Ok((ids, names))
+    ids
 }
 
-// Asks how many features of app outlive their set, how many ids and names their list, and how many ids
-// their cycles.
+/// Its names, likewise.
+fn names_of<'g>(rt: &impl Abort, alloc: Global, list: FeatureList<'g>) -> Vec<&'g str> {
+    let mut names: Vec<&'g str> = Vec::new(alloc);
+    for name in list.named_features() {
+        assert!(rt; names.push(name).is_ok());
+    }
+    names
+}
+
+/// The ids of the features on cycles, of cycles that are gone when they are looked at.
+fn cyclic_ids<'g>(rt: &impl Abort, alloc: Global, graph: FeatureGraph<'g>) -> Vec<FeatureId<'g>> {
+    let cycles = graph.cycles(alloc).expect(rt, "memory");
+    let mut ids: Vec<FeatureId<'g>> = Vec::new(alloc);
+    for cycle in cycles.all_cycles() {
+        for id in cycle {
+            assert!(rt; ids.push(id).is_ok());
+        }
+    }
+    ids
+}
+
+/// Asks how many features of app outlive their set, how many ids and names their list, and how many ids
+/// their cycles.
 #[derive(Drop)]
 struct Outliving;
 
@@ -50,51 +66,57 @@ impl Question for Outliving {
 
     ghost can_ask = { λ _. ⊤ };
 
-    fn ask(&mut self, alloc: Global, data: &FeatureGraphData<'_>) -> Result<[usize; 4], Fail> {
-        let app = id_of(alloc, "app")?;
+    fn ask<R: Abort>(&mut self, rt: &R, alloc: Global, data: &FeatureGraphData<'_>) -> [usize; 4] {
+        let app = id_of(rt, alloc, "app");
         let graph = FeatureGraph::of(data);
-        let features = features_of(alloc, graph)?;
-        let own = features.iter().filter(|f| f.package_id() == &app).count();
-        let (ids, names) = ids_of(alloc, graph.all_features_for(alloc, &app)?)?;
-        let cyclic = cyclic_ids(alloc, graph)?;
-        Ok([own, ids.len(), names.len(), cyclic.len()])
+        let own = count_of(&features_of(rt, alloc, graph), &app);
+        let list = graph.all_features_for(alloc, &app).expect(rt, "a list");
+        let ids = ids_of(rt, alloc, list);
+        let list = graph.all_features_for(alloc, &app).expect(rt, "a list");
+        let names = names_of(rt, alloc, list);
+        let cyclic = cyclic_ids(rt, alloc, graph);
+        [own, ids.len(), names.len(), cyclic.len()]
     }
 }
 
-// The ids of the features on cycles, of cycles that are gone when they are looked at.
-fn cyclic_ids<'g>(
-    alloc: Global,
-    graph: FeatureGraph<'g>,
-) -> Result<Vec<FeatureId<'g>>, AllocError> {
-    let cycles = graph.cycles(alloc)?;
-    let mut ids: Vec<FeatureId<'g>> = Vec::new(alloc);
-    for cycle in cycles.all_cycles() {
-        for id in cycle {
-            ids.push(id)?;
-        }
-    }
-    Ok(ids)
+fn count_of(features: &[FeatureMetadata<'_>], id: &PackageId) -> usize {
+    features.iter().filter(|f| f.package_id() == id).count()
 }
 
 #[test]
-fn features_outlive_what_lends_them(rt: HostRuntime) -> Result<(), Fail> {
-    let counts = answer_to(rt.alloc(), &mut Outliving)?;
+fn features_outlive_what_lends_them(rt: HostRuntime) {
+    let counts = answer_to(&rt, rt.alloc(), &mut Outliving);
     assert_eq!(rt; counts, [3, 3, 1, 0]);
-    Ok(())
 }
 
-// Whether a copied set is equal to its original, and to the set of a graph that was built once more.
+/// Whether a copied set is equal to its original, and to the set of a graph that was built once more.
 fn sets_compared(
+    rt: &impl Abort,
     alloc: Global,
     all: &FeatureSet<'_>,
     others: &FeatureSet<'_>,
-) -> Result<bool, AllocError> {
-    let copy = all.copy(alloc)?;
-    let none = all.difference(alloc, &copy)?;
-    Ok(copy == *all && *all == *others && none != *others && *others != none)
+) -> bool {
+    let copy = all.copy(alloc).expect(rt, "memory");
+    let none = all.difference(alloc, &copy).expect(rt, "memory");
+    copy == *all && *all == *others && none != *others && *others != none
 }
 
-// Asks whether sets of two graphs of the same packages are compared by their features.
+fn compared_with(
+    rt: &impl Abort,
+    alloc: Global,
+    data: &FeatureGraphData<'_>,
+    again: &FeatureGraphData<'_>,
+) -> bool {
+    let all = FeatureGraph::of(data)
+        .resolve_all(alloc)
+        .expect(rt, "memory");
+    let others = FeatureGraph::of(again)
+        .resolve_all(alloc)
+        .expect(rt, "memory");
+    sets_compared(rt, alloc, &all, &others)
+}
+
+/// Asks whether sets of two graphs of the same packages are compared by their features.
 #[derive(Drop)]
 struct Compared;
 
@@ -105,23 +127,18 @@ impl Question for Compared {
 
     ghost can_ask = { λ _. ⊤ };
 
-    fn ask(&mut self, alloc: Global, data: &FeatureGraphData<'_>) -> Result<bool, Fail> {
-        let again = FeatureGraphData::build(alloc, data.package_graph())?;
-        let all = FeatureGraph::of(data).resolve_all(alloc)?;
-        let others = FeatureGraph::of(&again).resolve_all(alloc)?;
-        let compared = sets_compared(alloc, &all, &others)?;
-        Ok(compared)
+    fn ask<R: Abort>(&mut self, rt: &R, alloc: Global, data: &FeatureGraphData<'_>) -> bool {
+        let again = FeatureGraphData::build(alloc, data.package_graph());
+        compared_with(rt, alloc, data, &again.expect(rt, "memory"))
     }
 }
 
 #[test]
-fn sets_are_equal_by_their_features(rt: HostRuntime) -> Result<(), Fail> {
-    let compared = answer_to(rt.alloc(), &mut Compared)?;
-    assert!(rt; compared);
-    Ok(())
+fn sets_are_equal_by_their_features(rt: HostRuntime) {
+    assert!(rt; answer_to(&rt, rt.alloc(), &mut Compared));
 }
 
-// Asks how a copied query from app, and a copied list of its features, print.
+/// Asks how a copied query from app, and a copied list of its features, print.
 #[derive(Drop)]
 struct Printed;
 
@@ -132,29 +149,38 @@ impl Question for Printed {
 
     ghost can_ask = { λ _. ⊤ };
 
-    fn ask(
+    fn ask<R: Abort>(
         &mut self,
+        rt: &R,
         alloc: Global,
         data: &FeatureGraphData<'_>,
-    ) -> Result<(String, String), Fail> {
-        let app = id_of(alloc, "app")?;
+    ) -> (String, String) {
+        let app = id_of(rt, alloc, "app");
         let graph = FeatureGraph::of(data);
-        let query = graph.query_forward(alloc, &[FeatureId::base(&app)])?;
-        let query = query.copy(alloc)?;
-        let list = graph.all_features_for(alloc, &app)?.copy(alloc)?;
-        let query_text = format!(in alloc; "{query:?}")?;
-        let list_text = format!(in alloc; "{}", list.display_features())?;
-        Ok((query_text, list_text))
+        let query = graph.query_forward(alloc, &[FeatureId::base(&app)]);
+        let query = query_text(rt, alloc, &query.expect(rt, "a query"));
+        let list = graph.all_features_for(alloc, &app);
+        let list = list_text(rt, alloc, &list.expect(rt, "a list"));
+        (query, list)
     }
 }
 
+fn query_text(rt: &impl Abort, alloc: Global, query: &FeatureQuery<'_>) -> String {
+    let copy = query.copy(alloc).expect(rt, "memory");
+    format!(in alloc; "{copy:?}").expect(rt, "memory")
+}
+
+fn list_text(rt: &impl Abort, alloc: Global, list: &FeatureList<'_>) -> String {
+    let copy = list.copy(alloc).expect(rt, "memory");
+    format!(in alloc; "{}", copy.display_features()).expect(rt, "memory")
+}
+
 #[test]
-fn copies_are_printed(rt: HostRuntime) -> Result<(), Fail> {
-    let (query, list) = answer_to(rt.alloc(), &mut Printed)?;
+fn copies_are_printed(rt: HostRuntime) {
+    let (query, list) = answer_to(&rt, rt.alloc(), &mut Printed);
     assert_eq!(rt;
         query.as_str(),
         r#"FeatureQuery { direction: Forward, initials: {FeatureId { package_id: PackageId { text: "app" }, label: Base }} }"#
     );
     assert_eq!(rt; list.as_str(), "[base], weak, dep:foo");
-    Ok(())
 }

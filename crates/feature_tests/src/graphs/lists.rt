@@ -3,9 +3,9 @@
 use crate::graphs::graphs::{Question, answer_to, id_of};
 use guppy_feature_graph::{FeatureGraph, FeatureGraphData, FeatureList};
 use std::alloc::Global;
-use std::test::Fail;
+use std::process::Abort;
 
-// How many ids a list gives from its end, and how many labels it has.
+/// How many ids a list gives from its end, and how many labels it has.
 fn counts_of(list: FeatureList<'_>, other: FeatureList<'_>) -> (usize, usize) {
     let mut count: usize = 0;
     for id in list.into_iter().rev() {
@@ -17,7 +17,7 @@ fn counts_of(list: FeatureList<'_>, other: FeatureList<'_>) -> (usize, usize) {
     (count, other.into_labels().len())
 }
 
-// Asks for both counts of the features of app.
+/// Asks for both counts of the features of app.
 #[derive(Drop)]
 struct GivenUp;
 
@@ -28,18 +28,21 @@ impl Question for GivenUp {
 
     ghost can_ask = { λ _. ⊤ };
 
-    fn ask(&mut self, alloc: Global, data: &FeatureGraphData<'_>) -> Result<(usize, usize), Fail> {
-        let app = id_of(alloc, "app")?;
+    fn ask<R: Abort>(
+        &mut self,
+        rt: &R,
+        alloc: Global,
+        data: &FeatureGraphData<'_>,
+    ) -> (usize, usize) {
+        let app = id_of(rt, alloc, "app");
         let graph = FeatureGraph::of(data);
-        let list = graph.all_features_for(alloc, &app)?;
-        let other = graph.all_features_for(alloc, &app)?;
-        Ok(counts_of(list, other))
+        let list = graph.all_features_for(alloc, &app).expect(rt, "a list");
+        let other = graph.all_features_for(alloc, &app).expect(rt, "a list");
+        counts_of(list, other)
     }
 }
 
 #[test]
-fn given_up_from_the_end(rt: HostRuntime) -> Result<(), Fail> {
-    let counts = answer_to(rt.alloc(), &mut GivenUp)?;
-    assert_eq!(rt; counts, (13, 3));
-    Ok(())
+fn given_up_from_the_end(rt: HostRuntime) {
+    assert_eq!(rt; answer_to(&rt, rt.alloc(), &mut GivenUp), (13, 3));
 }

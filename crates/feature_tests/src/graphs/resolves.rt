@@ -4,33 +4,31 @@ use guppy_feature_graph::{
     ConditionalLink, FeatureGraph, FeatureGraphData, FeatureId, FeatureLinkContext,
     FeatureLinkVisitor, FeatureQuery, LinkDeclarations,
 };
-use guppy_package_graph::{DependencyDirection, Error, PackageId};
-use std::alloc::{AllocError, Global};
-use std::test::Fail;
+use guppy_package_graph::DependencyDirection;
+use std::alloc::Global;
+use std::process::Abort;
 
-// From the feature `weak` of app, and from its dependency foo.
-fn query_of<'g>(
-    alloc: Global,
-    graph: FeatureGraph<'g>,
-    app: &PackageId,
-) -> Result<FeatureQuery<'g>, Error> {
+/// From the feature `weak` of app, and from its dependency foo.
+fn query_of<'g>(rt: &impl Abort, alloc: Global, graph: FeatureGraph<'g>) -> FeatureQuery<'g> {
+    let app = id_of(rt, alloc, "app");
     let starts = [
-        FeatureId::named(app, "weak"),
-        FeatureId::optional_dependency(app, "foo"),
+        FeatureId::named(&app, "weak"),
+        FeatureId::optional_dependency(&app, "foo"),
     ];
-    graph.query_directed(alloc, &starts, DependencyDirection::Forward)
+    let query = graph.query_directed(alloc, &starts, DependencyDirection::Forward);
+    query.expect(rt, "a query")
 }
 
-// How many features the visitor includes.
+/// How many features the visitor includes.
 fn included_by(
+    rt: &impl Abort,
     alloc: Global,
     data: &FeatureGraphData<'_>,
     visitor: &mut dyn FeatureLinkVisitor,
-) -> Result<usize, Fail> {
-    let app = id_of(alloc, "app")?;
-    let query = query_of(alloc, FeatureGraph::of(data), &app)?;
-    let included = query.resolve_with(alloc, visitor)?;
-    Ok(included.len())
+) -> usize {
+    let query = query_of(rt, alloc, FeatureGraph::of(data));
+    let included = query.resolve_with(alloc, visitor).expect(rt, "memory");
+    included.len()
 }
 
 impl Question for Follows {
@@ -40,8 +38,8 @@ impl Question for Follows {
 
     ghost can_ask = { λ _. ⊤ };
 
-    fn ask(&mut self, alloc: Global, data: &FeatureGraphData<'_>) -> Result<usize, Fail> {
-        included_by(alloc, data, self)
+    fn ask<R: Abort>(&mut self, rt: &R, alloc: Global, data: &FeatureGraphData<'_>) -> usize {
+        included_by(rt, alloc, data, self)
     }
 }
 
@@ -52,38 +50,33 @@ impl Question for Box<dyn FeatureLinkVisitor + Drop> {
 
     ghost can_ask = { λ _. ⊤ };
 
-    fn ask(&mut self, alloc: Global, data: &FeatureGraphData<'_>) -> Result<usize, Fail> {
-        included_by(alloc, data, &mut **self)
+    fn ask<R: Abort>(&mut self, rt: &R, alloc: Global, data: &FeatureGraphData<'_>) -> usize {
+        included_by(rt, alloc, data, &mut **self)
     }
 }
 
 #[test]
-fn refuses_all(rt: HostRuntime) -> Result<(), Fail> {
+fn refuses_all(rt: HostRuntime) {
     let mut visitor = Follows { left: 0, shown: 0 };
-    let included = answer_to(rt.alloc(), &mut visitor)?;
-    assert_eq!(rt; included, 3);
+    assert_eq!(rt; answer_to(&rt, rt.alloc(), &mut visitor), 3);
     assert_eq!(rt; visitor.shown, 4);
-    Ok(())
 }
 
 #[test]
-fn accepts_all(rt: HostRuntime) -> Result<(), Fail> {
+fn accepts_all(rt: HostRuntime) {
     let mut visitor = Follows { left: 4, shown: 0 };
-    let included = answer_to(rt.alloc(), &mut visitor)?;
-    assert_eq!(rt; included, 5);
+    assert_eq!(rt; answer_to(&rt, rt.alloc(), &mut visitor), 5);
     assert_eq!(rt; visitor.left, 0);
-    Ok(())
 }
 
 #[test]
-fn boxed_visitor(rt: HostRuntime) -> Result<(), Fail> {
-    let mut visitor: Box<dyn FeatureLinkVisitor + Drop> = Box::new(rt.alloc(), FollowsOptional)?;
-    let included = answer_to(rt.alloc(), &mut visitor)?;
-    assert_eq!(rt; included, 5);
-    Ok(())
+fn boxed_visitor(rt: HostRuntime) {
+    let boxed = Box::new(rt.alloc(), FollowsOptional).expect(&rt, "memory");
+    let mut visitor: Box<dyn FeatureLinkVisitor + Drop> = boxed;
+    assert_eq!(rt; answer_to(&rt, rt.alloc(), &mut visitor), 5);
 }
 
-// Asks what a closure is shown, of halves alone.
+/// Asks what a closure is shown, of halves alone.
 #[derive(Drop)]
 struct Halves;
 
@@ -94,37 +87,33 @@ impl Question for Halves {
 
     ghost can_ask = { λ _. ⊤ };
 
-    fn ask(
+    fn ask<R: Abort>(
         &mut self,
+        rt: &R,
         alloc: Global,
         data: &FeatureGraphData<'_>,
-    ) -> Result<Vec<LinkDeclarations>, Fail> {
-        let app = id_of(alloc, "app")?;
-        let query = query_of(alloc, FeatureGraph::of(data), &app)?;
-        let shown = halves_shown(alloc, query)?;
-        Ok(shown)
+    ) -> Vec<LinkDeclarations> {
+        let query = query_of(rt, alloc, FeatureGraph::of(data));
+        halves_shown(rt, alloc, query)
     }
 }
 
-fn halves_shown(
-    alloc: Global,
-    query: FeatureQuery<'_>,
-) -> Result<Vec<LinkDeclarations>, AllocError> {
+fn halves_shown(rt: &impl Abort, alloc: Global, query: FeatureQuery<'_>) -> Vec<LinkDeclarations> {
     let mut shown = Vec::new(alloc);
-    query.resolve_with_fn(
+    let included = query.resolve_with_fn(
         alloc,
         |_cx: &FeatureLinkContext<'_>, link: ConditionalLink<'_>| -> bool {
             let declarations = link.declarations();
             declarations == LinkDeclarations::Unsplit || shown.push(declarations).is_ok()
         },
-    )?;
-    Ok(shown)
+    );
+    assert!(rt; included.is_ok());
+    shown
 }
 
 #[test]
-fn closure_shown_the_required_half_first(rt: HostRuntime) -> Result<(), Fail> {
-    let shown = answer_to(rt.alloc(), &mut Halves)?;
+fn closure_shown_the_required_half_first(rt: HostRuntime) {
+    let shown = answer_to(&rt, rt.alloc(), &mut Halves);
     let wanted = [LinkDeclarations::Required, LinkDeclarations::Optional];
     assert!(rt; shown.iter().copied().eq(wanted.iter().copied()));
-    Ok(())
 }

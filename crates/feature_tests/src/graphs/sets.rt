@@ -3,33 +3,32 @@
 use crate::graphs::graphs::{Question, answer_to, id_of};
 use guppy_feature_graph::{FeatureGraph, FeatureGraphData, FeatureId, FeatureMetadata, FeatureSet};
 use guppy_package_graph::{DependencyDirection, Error};
-use std::alloc::{AllocError, Global};
-use std::test::Fail;
+use std::alloc::Global;
+use std::process::Abort;
 
-// How many features are kept, refused, and kept and refused where packages are passed over.
-fn counts_of(alloc: Global, all: &FeatureSet<'_>) -> Result<[usize; 4], AllocError> {
+/// How many features are kept, refused, and kept and refused where bases are passed over.
+fn counts_of(rt: &impl Abort, alloc: Global, all: &FeatureSet<'_>) -> [usize; 4] {
     let direction = DependencyDirection::Forward;
     let named = all.filter(alloc, direction, |f: FeatureMetadata<'_>| -> bool {
         f.feature_id().is_named()
-    })?;
-    let (_, others) = all.partition(alloc, direction, |f: FeatureMetadata<'_>| -> bool {
+    });
+    let parts = all.partition(alloc, direction, |f: FeatureMetadata<'_>| -> bool {
         f.feature_id().is_named()
-    })?;
-    let (first, second) = all.filter_partition(
-        alloc,
-        direction,
-        |f: FeatureMetadata<'_>| -> Option<bool> {
-            if f.feature_id().is_base() {
-                None
-            } else {
-                Some(f.feature_id().is_named())
-            }
-        },
-    )?;
-    Ok([named.len(), others.len(), first.len(), second.len()])
+    });
+    let some = all.filter_partition(alloc, direction, |f: FeatureMetadata<'_>| -> Option<bool> {
+        if f.feature_id().is_base() {
+            None
+        } else {
+            Some(f.feature_id().is_named())
+        }
+    });
+    let named = named.expect(rt, "memory");
+    let (_, others) = parts.expect(rt, "memory");
+    let (first, second) = some.expect(rt, "memory");
+    [named.len(), others.len(), first.len(), second.len()]
 }
 
-// Asks for the counts of all features.
+/// Asks for the counts of all features.
 #[derive(Drop)]
 struct Divided;
 
@@ -40,21 +39,19 @@ impl Question for Divided {
 
     ghost can_ask = { λ _. ⊤ };
 
-    fn ask(&mut self, alloc: Global, data: &FeatureGraphData<'_>) -> Result<[usize; 4], Fail> {
-        let all = FeatureGraph::of(data).resolve_all(alloc)?;
-        let counts = counts_of(alloc, &all)?;
-        Ok(counts)
+    fn ask<R: Abort>(&mut self, rt: &R, alloc: Global, data: &FeatureGraphData<'_>) -> [usize; 4] {
+        let all = FeatureGraph::of(data).resolve_all(alloc);
+        counts_of(rt, alloc, &all.expect(rt, "memory"))
     }
 }
 
 #[test]
-fn divided_by_closures(rt: HostRuntime) -> Result<(), Fail> {
-    let counts = answer_to(rt.alloc(), &mut Divided)?;
+fn divided_by_closures(rt: HostRuntime) {
+    let counts = answer_to(&rt, rt.alloc(), &mut Divided);
     assert_eq!(rt; counts, [2, 3, 2, 1]);
-    Ok(())
 }
 
-// Asks a set for a feature that the graph does not have.
+/// Asks a set for a feature that the graph does not have.
 #[derive(Drop)]
 struct Unknown;
 
@@ -65,20 +62,21 @@ impl Question for Unknown {
 
     ghost can_ask = { λ _. ⊤ };
 
-    fn ask(
+    fn ask<R: Abort>(
         &mut self,
+        rt: &R,
         alloc: Global,
         data: &FeatureGraphData<'_>,
-    ) -> Result<Result<bool, Error>, Fail> {
-        let foo = id_of(alloc, "foo")?;
-        let none = FeatureGraph::of(data).resolve_none(alloc)?;
-        Ok(none.contains(FeatureId::named(&foo, "nope")))
+    ) -> Result<bool, Error> {
+        let foo = id_of(rt, alloc, "foo");
+        let none = FeatureGraph::of(data).resolve_none(alloc);
+        let none = none.expect(rt, "memory");
+        none.contains(FeatureId::named(&foo, "nope"))
     }
 }
 
 #[test]
-fn unknown_feature_is_told(rt: HostRuntime) -> Result<(), Fail> {
-    let found = answer_to(rt.alloc(), &mut Unknown)?;
+fn unknown_feature_is_told(rt: HostRuntime) {
+    let found = answer_to(&rt, rt.alloc(), &mut Unknown);
     assert!(rt; found == Err(Error::UnknownFeatureId));
-    Ok(())
 }

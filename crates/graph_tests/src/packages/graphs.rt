@@ -3,8 +3,8 @@
 use guppy_package_graph::PackageGraph;
 use guppy_package_parts::PackageId;
 use record_files::read_record;
-use std::alloc::{AllocError, Global};
-use std::test::Fail;
+use std::alloc::Global;
+use std::process::Abort;
 
 /// Three packages; a depends on b and c, and b on c.
 pub(crate) const TRIANGLE: &str = r#"{
@@ -73,14 +73,13 @@ pub(crate) const FEWER: &str = r#"{
     "workspace": {"members": []}
 }"#;
 
-pub(crate) fn graph_of(alloc: Global, text: &str) -> Result<PackageGraph, Fail> {
-    let record = read_record(alloc, text.as_bytes())?;
+pub(crate) fn graph_of(rt: &impl Abort, alloc: Global, text: &str) -> PackageGraph {
+    let record = read_record(alloc, text.as_bytes()).expect(rt, "a record");
     let (packages, links, workspace) = (record.packages, record.links, record.workspace);
-    let graph = PackageGraph::from_records(alloc, packages, links, workspace)?;
-    Ok(graph)
+    let graph = PackageGraph::from_records(alloc, packages, links, workspace);
+    graph.expect(rt, "a graph")
 }
 
-pub(crate) fn id_of(alloc: Global, text: &str) -> Result<PackageId, AllocError> {
-    let text = String::from_str(alloc, text)?;
-    Ok(PackageId::new(text))
+pub(crate) fn id_of(rt: &impl Abort, alloc: Global, text: &str) -> PackageId {
+    PackageId::new(String::from_str(alloc, text).expect(rt, "memory"))
 }

@@ -5,135 +5,110 @@ use crate::packages::visitors::{Alternates, Follows, FollowsFirm};
 use guppy_package_graph::{
     PackageGraph, PackageLink, PackageLinkContext, PackageLinkVisitor, PackageQuery,
 };
-use guppy_package_parts::{DependencyDirection, Error};
+use guppy_package_parts::DependencyDirection;
 use numbered_graph::Looks;
 use std::alloc::{AllocError, Global};
 use std::marker::Brand;
+use std::process::Abort;
 use std::sync::ledger::{Blank, Ledger};
-use std::test::Fail;
 
+const FORWARD: DependencyDirection = DependencyDirection::Forward;
+
+const REVERSE: DependencyDirection = DependencyDirection::Reverse;
+
+/// A query of `TRIANGLE` or of another graph.
 fn query_of<'g>(
+    rt: &impl Abort,
     alloc: Global,
     graph: &'g PackageGraph,
     start: &str,
     direction: DependencyDirection,
-) -> Result<PackageQuery<'g>, Error> {
-    let start = id_of(alloc, start)?;
-    graph.query_directed(alloc, &[&start], direction)
+) -> PackageQuery<'g> {
+    let start = id_of(rt, alloc, start);
+    let query = graph.query_directed(alloc, &[&start], direction);
+    query.expect(rt, "a query")
 }
 
-// How many packages the visitor includes from the start.
+/// How many packages of `TRIANGLE` the visitor includes from the start.
 fn included_by(
+    rt: &impl Abort,
     alloc: Global,
     start: &str,
     direction: DependencyDirection,
     visitor: &mut dyn PackageLinkVisitor,
-) -> Result<usize, Fail> {
-    included_of(alloc, TRIANGLE, start, direction, visitor)
-}
-
-fn included_of(
-    alloc: Global,
-    record: &str,
-    start: &str,
-    direction: DependencyDirection,
-    visitor: &mut dyn PackageLinkVisitor,
-) -> Result<usize, Fail> {
-    let graph = graph_of(alloc, record)?;
-    included_in(alloc, &graph, start, direction, visitor)
-}
-
-fn included_in(
-    alloc: Global,
-    graph: &PackageGraph,
-    start: &str,
-    direction: DependencyDirection,
-    visitor: &mut dyn PackageLinkVisitor,
-) -> Result<usize, Fail> {
-    let query = query_of(alloc, graph, start, direction)?;
-    let included = query.resolve_with(alloc, visitor)?;
-    Ok(included.len())
+) -> usize {
+    let graph = graph_of(rt, alloc, TRIANGLE);
+    let query = query_of(rt, alloc, &graph, start, direction);
+    query
+        .resolve_with(alloc, visitor)
+        .expect(rt, "memory")
+        .len()
 }
 
 #[test]
-fn refuses_all(rt: HostRuntime) -> Result<(), Fail> {
+fn refuses_all(rt: HostRuntime) {
     let mut visitor = Follows { left: 0, shown: 0 };
-    let included = included_by(rt.alloc(), "a", DependencyDirection::Forward, &mut visitor)?;
+    let included = included_by(&rt, rt.alloc(), "a", FORWARD, &mut visitor);
     assert_eq!(rt; included, 1);
     assert_eq!(rt; visitor.shown, 2);
-    Ok(())
 }
 
 #[test]
-fn accepts_once(rt: HostRuntime) -> Result<(), Fail> {
+fn accepts_once(rt: HostRuntime) {
     let mut visitor = Follows { left: 1, shown: 0 };
-    let included = included_by(rt.alloc(), "c", DependencyDirection::Reverse, &mut visitor)?;
+    let included = included_by(&rt, rt.alloc(), "c", REVERSE, &mut visitor);
     assert_eq!(rt; included, 2);
     assert_eq!(rt; visitor.left, 0);
-    Ok(())
 }
 
 #[test]
-fn accepts_all(rt: HostRuntime) -> Result<(), Fail> {
+fn accepts_all(rt: HostRuntime) {
     let mut visitor = Follows { left: 3, shown: 0 };
-    let included = included_by(rt.alloc(), "a", DependencyDirection::Forward, &mut visitor)?;
+    let included = included_by(&rt, rt.alloc(), "a", FORWARD, &mut visitor);
     assert_eq!(rt; included, 3);
     assert_eq!(rt; visitor.shown, 3);
-    Ok(())
 }
 
-// One of the two links that lead to c is followed.
+/// One of the two links that lead to c is followed.
 #[test]
-fn alternates(rt: HostRuntime) -> Result<(), Fail> {
+fn alternates(rt: HostRuntime) {
     let mut visitor = Alternates { accepts: false };
-    let included = included_by(rt.alloc(), "c", DependencyDirection::Reverse, &mut visitor)?;
+    let included = included_by(&rt, rt.alloc(), "c", REVERSE, &mut visitor);
     assert_eq!(rt; included, 2);
-    Ok(())
 }
 
 #[test]
-fn answers_by_the_link(rt: HostRuntime) -> Result<(), Fail> {
-    let mut visitor = FollowsFirm;
-    let forward = DependencyDirection::Forward;
-    let included = included_of(rt.alloc(), FOR_TESTS, "a", forward, &mut visitor)?;
-    assert_eq!(rt; included, 2);
-    Ok(())
+fn answers_by_the_link(rt: HostRuntime) {
+    let graph = graph_of(&rt, rt.alloc(), FOR_TESTS);
+    let query = query_of(&rt, rt.alloc(), &graph, "a", FORWARD);
+    let included = query.resolve_with(rt.alloc(), &mut FollowsFirm);
+    assert_eq!(rt; included.expect(&rt, "memory").len(), 2);
 }
 
 #[test]
-fn boxed_visitor(rt: HostRuntime) -> Result<(), Fail> {
+fn boxed_visitor(rt: HostRuntime) {
     let follows = Follows { left: 3, shown: 0 };
-    let mut visitor: Box<dyn PackageLinkVisitor + Drop> = Box::new(rt.alloc(), follows)?;
-    let included = included_by(rt.alloc(), "a", DependencyDirection::Forward, &mut *visitor)?;
+    let boxed = Box::new(rt.alloc(), follows).expect(&rt, "memory");
+    let mut visitor: Box<dyn PackageLinkVisitor + Drop> = boxed;
+    let included = included_by(&rt, rt.alloc(), "a", FORWARD, &mut *visitor);
     assert_eq!(rt; included, 3);
-    Ok(())
-}
-
-// The numbers of the links that a closure is shown from a package on.
-fn shown_from(alloc: Global, start: &str) -> Result<Vec<usize>, Fail> {
-    let graph = graph_of(alloc, TRIANGLE)?;
-    shown_in(alloc, &graph, start)
-}
-
-fn shown_in(alloc: Global, graph: &PackageGraph, start: &str) -> Result<Vec<usize>, Fail> {
-    let query = query_of(alloc, graph, start, DependencyDirection::Forward)?;
-    let mut shown = Vec::new(alloc);
-    query.resolve_with_fn(
-        alloc,
-        |_cx: &PackageLinkContext<'_>, link: PackageLink<'_>| { shown.push(link.number()).is_ok() },
-    )?;
-    shown.sort_unstable();
-    Ok(shown)
 }
 
 #[test]
-fn closure_shown_each_link_once(rt: HostRuntime) -> Result<(), Fail> {
-    let shown = shown_from(rt.alloc(), "a")?;
+fn closure_shown_each_link_once(rt: HostRuntime) {
+    let graph = graph_of(&rt, rt.alloc(), TRIANGLE);
+    let query = query_of(&rt, rt.alloc(), &graph, "a", FORWARD);
+    let mut shown = Vec::new(rt.alloc());
+    let included = query.resolve_with_fn(
+        rt.alloc(),
+        |_cx: &PackageLinkContext<'_>, link: PackageLink<'_>| { shown.push(link.number()).is_ok() },
+    );
+    assert!(rt; included.is_ok());
+    shown.sort_unstable();
     assert!(rt; shown.iter().copied().eq(0..3));
-    Ok(())
 }
 
-// How many packages a counted resolve reaches.
+/// How many packages a counted resolve reaches.
 fn counted<L: Ledger>(
     alloc: Global,
     query: PackageQuery<'_>,
@@ -148,20 +123,10 @@ fn counted<L: Ledger>(
     Ok(reached.len())
 }
 
-fn counted_from(alloc: Global, start: &str) -> Result<usize, Fail> {
-    let graph = graph_of(alloc, TRIANGLE)?;
-    counted_in(alloc, &graph, start)
-}
-
-fn counted_in(alloc: Global, graph: &PackageGraph, start: &str) -> Result<usize, Fail> {
-    let query = query_of(alloc, graph, start, DependencyDirection::Forward)?;
-    let count = counted::<Brand>(alloc, query, Blank::new(1))?;
-    Ok(count)
-}
-
 #[test]
-fn counts_looks(rt: HostRuntime) -> Result<(), Fail> {
-    let count = counted_from(rt.alloc(), "b")?;
-    assert_eq!(rt; count, 2);
-    Ok(())
+fn counts_looks(rt: HostRuntime) {
+    let graph = graph_of(&rt, rt.alloc(), TRIANGLE);
+    let query = query_of(&rt, rt.alloc(), &graph, "b", FORWARD);
+    let count = counted::<Brand>(rt.alloc(), query, Blank::new(1));
+    assert_eq!(rt; count, Ok(2));
 }

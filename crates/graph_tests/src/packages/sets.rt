@@ -1,46 +1,27 @@
 use crate::packages::graphs::{FEWER, TRIANGLE, TURNED, graph_of};
-use guppy_package_graph::PackageGraph;
-use std::alloc::{AllocError, Global};
-use std::test::Fail;
+use std::alloc::Global;
+use std::process::Abort;
 
-// How many packages are in the union of all packages of the one graph and none of the other, where
-// both have the same packages.
-fn union_size(
-    alloc: Global,
-    graph: &PackageGraph,
-    other: &PackageGraph,
-) -> Result<Option<usize>, AllocError> {
-    let all = graph.resolve_all(alloc)?;
-    let none = other.resolve_none(alloc)?;
-    if !none.same_packages(&all) {
-        return Ok(None);
+/// How many packages are in the union of all packages of the one record's graph and none of the other's,
+/// where both have the same packages.
+fn union_size(rt: &impl Abort, alloc: Global, one: &str, other: &str) -> Option<usize> {
+    let graph = graph_of(rt, alloc, one);
+    let other = graph_of(rt, alloc, other);
+    let all = graph.resolve_all(alloc).expect(rt, "memory");
+    let none = other.resolve_none(alloc).expect(rt, "memory");
+    if none.same_packages(&all) {
+        Some(none.union(alloc, &all).expect(rt, "memory").len())
+    } else {
+        None
     }
-    let union = none.union(alloc, &all)?;
-    Ok(Some(union.len()))
-}
-
-// The same of the graphs of two records.
-fn union_of(alloc: Global, one: &str, other: &str) -> Result<Option<usize>, Fail> {
-    let graph = graph_of(alloc, one)?;
-    union_with(alloc, &graph, other)
-}
-
-fn union_with(alloc: Global, graph: &PackageGraph, other: &str) -> Result<Option<usize>, Fail> {
-    let other = graph_of(alloc, other)?;
-    let size = union_size(alloc, graph, &other)?;
-    Ok(size)
 }
 
 #[test]
-fn sets_of_two_graphs(rt: HostRuntime) -> Result<(), Fail> {
-    let size = union_of(rt.alloc(), TRIANGLE, TURNED)?;
-    assert_eq!(rt; size, Some(3));
-    Ok(())
+fn sets_of_two_graphs(rt: HostRuntime) {
+    assert_eq!(rt; union_size(&rt, rt.alloc(), TRIANGLE, TURNED), Some(3));
 }
 
 #[test]
-fn sets_of_other_packages(rt: HostRuntime) -> Result<(), Fail> {
-    let size = union_of(rt.alloc(), TRIANGLE, FEWER)?;
-    assert_eq!(rt; size, None);
-    Ok(())
+fn sets_of_other_packages(rt: HostRuntime) {
+    assert_eq!(rt; union_size(&rt, rt.alloc(), TRIANGLE, FEWER), None);
 }

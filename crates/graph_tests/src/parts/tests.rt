@@ -2,42 +2,51 @@ ghost use Rattle.std.specs.Prelude.{◌↔◌, ◌<◌, All, IsTrue};
 
 use guppy_package_parts::{
     DependencyDirection, DependencyKind, EnabledTernary, Error, FeatureBuildStage,
-    FeatureGraphWarning, LineKind, LineRow, LinkRow, PackageId, Platform, PlatformSpec,
+    FeatureGraphWarning, LineChoice, LineKind, LineRow, LinkRow, PackageId, Platform, PlatformSpec,
     PlatformStatus, SortedSet,
 };
 use std::alloc::{AllocError, Global};
-use std::test::Fail;
+use std::fmt::Display;
+use std::process::Abort;
 
-fn text(alloc: Global, text: &str) -> Result<String, AllocError> {
-    String::from_str(alloc, text)
+fn text(rt: &impl Abort, alloc: Global, text: &str) -> String {
+    String::from_str(alloc, text).expect(rt, "memory")
 }
 
-fn line(alloc: Global, spec: &str) -> Result<LineRow, AllocError> {
-    let spec = Some(text(alloc, spec)?);
-    Ok(LineRow {
+fn line(rt: &impl Abort, alloc: Global, spec: &str) -> LineRow {
+    LineRow {
         kind: LineKind::Normal,
         optional: false,
         default_features: true,
         features: Vec::new(alloc),
-        spec,
-    })
+        spec: Some(text(rt, alloc, spec)),
+    }
 }
 
-fn link(alloc: Global) -> Result<LinkRow, AllocError> {
+fn link(rt: &impl Abort, alloc: Global) -> LinkRow {
     let mut lines = Vec::new(alloc);
     for spec in ["one", "two", "three"] {
-        lines.push(line(alloc, spec)?)?;
+        assert!(rt; lines.push(line(rt, alloc, spec)).is_ok());
     }
-    let (from, to, name) = (text(alloc, "a")?, text(alloc, "b")?, text(alloc, "b")?);
-    Ok(LinkRow {
-        from,
-        to,
-        name,
-        requirement: text(alloc, "*")?,
+    LinkRow {
+        from: text(rt, alloc, "a"),
+        to: text(rt, alloc, "b"),
+        name: text(rt, alloc, "b"),
+        requirement: text(rt, alloc, "*"),
         lines,
         registry: None,
         path: None,
-    })
+    }
+}
+
+fn expect_printed<T: Display>(rt: &impl Abort, alloc: Global, value: &T, want: &str) {
+    let printed = format!(in alloc; "{value}").expect(rt, "memory");
+    assert_eq!(rt; printed.as_str(), want);
+}
+
+/// A copy was made, and is equal.
+fn expect_copy<T: Drop + PartialEq>(rt: &impl Abort, copy: Result<T, AllocError>, value: &T) {
+    assert!(rt; copy.expect(rt, "memory") == *value);
 }
 
 // The platform that one spec names, and that knows of no other spec.
@@ -56,52 +65,49 @@ impl Platform for OneSpec {
 }
 
 #[test]
-fn copies_ids_and_warnings(rt: HostRuntime) -> Result<(), Fail> {
+fn copies_ids_and_warnings(rt: HostRuntime) {
     let alloc = rt.alloc();
-    let id = PackageId::new(text(alloc, "a 1.0.0")?);
+    let id = PackageId::new(text(&rt, alloc, "a 1.0.0"));
     assert_eq!(rt; id.repr(), "a 1.0.0");
-    assert_eq!(rt; id.copy(alloc)?, id);
-    assert_eq!(rt; format!(in alloc; "{id}")?.as_str(), "a 1.0.0");
+    expect_copy(&rt, id.copy(alloc), &id);
+    expect_printed(&rt, alloc, &id, "a 1.0.0");
     let stage = FeatureBuildStage::AddDependencyEdges {
-        package_id: id.copy(alloc)?,
-        dep_name: text(alloc, "b")?,
+        package_id: id.copy(alloc).expect(&rt, "memory"),
+        dep_name: text(&rt, alloc, "b"),
     };
-    assert_eq!(rt; stage.copy(alloc)?, stage);
+    expect_copy(&rt, stage.copy(alloc), &stage);
     let warning = FeatureGraphWarning::MissingFeature {
         stage,
         package_id: id,
-        feature_name: text(alloc, "x")?,
+        feature_name: text(&rt, alloc, "x"),
     };
-    assert_eq!(rt; warning.copy(alloc)?, warning);
-    Ok(())
+    expect_copy(&rt, warning.copy(alloc), &warning);
 }
 
 #[test]
-fn orders_sets_of_texts(rt: HostRuntime) -> Result<(), Fail> {
+fn orders_sets_of_texts(rt: HostRuntime) {
     let alloc = rt.alloc();
     let mut names = Vec::new(alloc);
     for name in ["b", "a", "b", "ab"] {
-        names.push(text(alloc, name)?)?;
+        assert!(rt; names.push(text(&rt, alloc, name)).is_ok());
     }
     let set = SortedSet::new(names);
-    assert_eq!(rt; format!(in alloc; "{set}")?.as_str(), "a, ab, b");
-    assert!(rt; set.contains(&text(alloc, "ab")?));
-    assert!(rt; !set.contains(&text(alloc, "c")?));
+    expect_printed(&rt, alloc, &set, "a, ab, b");
+    assert!(rt; set.contains(&text(&rt, alloc, "ab")));
+    assert!(rt; !set.contains(&text(&rt, alloc, "c")));
     let names: &[String] = &set;
     assert_eq!(rt; names.len(), 3, "a set is read as a slice");
     let none: SortedSet<String> = SortedSet::new(Vec::new(alloc));
-    assert_eq!(rt; format!(in alloc; "{none}")?.as_str(), "");
-    Ok(())
+    expect_printed(&rt, alloc, &none, "");
 }
 
 #[test]
-fn compares_sets_by_their_elements(rt: HostRuntime) -> Result<(), Fail> {
+fn compares_sets_by_their_elements(rt: HostRuntime) {
     let alloc = rt.alloc();
-    let set = SortedSet::new(Vec::from_slice(alloc, &[2_usize, 1, 2])?);
-    let later = SortedSet::new(Vec::from_slice(alloc, &[1_usize, 3])?);
-    assert!(rt; set.copy(alloc)? == set);
+    let set = SortedSet::new(Vec::from_slice(alloc, &[2_usize, 1, 2]).expect(&rt, "memory"));
+    let later = SortedSet::new(Vec::from_slice(alloc, &[1_usize, 3]).expect(&rt, "memory"));
+    expect_copy(&rt, set.copy(alloc), &set);
     assert!(rt; set < later && later != set);
-    Ok(())
 }
 
 fn are_below(places: &[usize], count: usize) -> bool
@@ -111,46 +117,48 @@ fn are_below(places: &[usize], count: usize) -> bool
 }
 
 #[test]
-fn copies_some_lines(rt: HostRuntime) -> Result<(), Fail> {
+fn copies_some_lines(rt: HostRuntime) {
     let alloc = rt.alloc();
-    let row = link(alloc)?;
+    let row = link(&rt, alloc);
     let places = [0, 2];
     let count = row.lines.len();
     if are_below(&places, count) {
-        let some = row.copy_some(alloc, &places)?;
+        let some = row.copy_some(alloc, &places).expect(&rt, "memory");
         assert_eq!(rt; some.lines.len(), 2);
         assert!(rt; some.lines.first() == row.lines.first());
         assert!(rt; some.lines.last() == row.lines.last());
     }
     assert_eq!(rt; count, 3);
-    assert!(rt; row.copy_some(alloc, &[])?.lines.is_empty());
-    Ok(())
+    let none = row.copy_some(alloc, &[]).expect(&rt, "memory");
+    assert!(rt; none.lines.is_empty());
 }
 
 #[test]
-fn joins_no_lines(rt: HostRuntime) -> Result<(), Fail> {
+fn joins_no_lines(rt: HostRuntime) {
     let alloc = rt.alloc();
-    let rows = [link(alloc)?, link(alloc)?];
-    let nothing = PlatformStatus::over(&rows, &[]);
+    let rows = [link(&rt, alloc), link(&rt, alloc)];
+    let choice = LineChoice {
+        kind: LineKind::Normal,
+        required: true,
+        optional: true,
+    };
+    let nothing = PlatformStatus::over(&rows, &[], choice);
     assert!(rt; nothing.is_never() && !nothing.is_present() && !nothing.is_always());
     let mut platforms = Vec::new(alloc);
-    platforms.push(OneSpec("one"))?;
+    assert!(rt; platforms.push(OneSpec("one")).is_ok());
     let platforms = PlatformSpec::platforms(platforms);
     assert!(rt; nothing.enabled_on(&platforms) == EnabledTernary::Disabled);
-    let copy = platforms.copy(alloc)?;
-    assert_eq!(rt;
-        format!(in alloc; "{copy:?}")?,
-        format!(in alloc; "{platforms:?}")?
-    );
-    Ok(())
+    let copy = platforms.copy(alloc).expect(&rt, "memory");
+    let copied = format!(in alloc; "{copy:?}").expect(&rt, "memory");
+    let printed = format!(in alloc; "{platforms:?}").expect(&rt, "memory");
+    assert_eq!(rt; copied, printed);
 }
 
 #[test]
-fn names_kinds_and_directions(rt: HostRuntime) -> Result<(), Fail> {
-    let alloc = rt.alloc();
-    let mut names = String::new(alloc);
+fn names_kinds_and_directions(rt: HostRuntime) {
+    let mut names = String::new(rt.alloc());
     for kind in DependencyKind::VALUES {
-        names.push_str(format!(in alloc; "{kind} ")?.as_str())?;
+        assert!(rt; write!(names, "{kind} ").is_ok());
     }
     assert_eq!(rt; names.as_str(), "normal dev build ");
     let forward = DependencyDirection::Forward;
@@ -158,7 +166,6 @@ fn names_kinds_and_directions(rt: HostRuntime) -> Result<(), Fail> {
     assert!(rt; EnabledTernary::Unknown & EnabledTernary::Enabled == EnabledTernary::Unknown);
     assert!(rt; EnabledTernary::Unknown | EnabledTernary::Enabled == EnabledTernary::Enabled);
     assert!(rt; !EnabledTernary::Unknown.is_known());
-    Ok(())
 }
 
 const ERRORS: [(Error, &str); 7] = [
@@ -178,10 +185,8 @@ const ERRORS: [(Error, &str); 7] = [
 ];
 
 #[test]
-fn prints_errors(rt: HostRuntime) -> Result<(), Fail> {
+fn prints_errors(rt: HostRuntime) {
     for (error, want) in ERRORS {
-        let text = format!(in rt.alloc(); "{error}")?;
-        assert_eq!(rt; text.as_str(), want);
+        expect_printed(&rt, rt.alloc(), &error, want);
     }
-    Ok(())
 }

@@ -9,7 +9,6 @@ use guppy_feature_graph::{
 use guppy_package_graph::{DependencyDirection, Error, PackageGraph, PackageId};
 use std::alloc::{AllocError, Global};
 use std::process::Abort;
-use std::test::Fail;
 
 /// The ids of a set, each package's in the order of the graph, with a space after each.
 fn ids_text(alloc: Global, set: &FeatureSet<'_>) -> Result<String, AllocError> {
@@ -34,10 +33,9 @@ impl Wanting for Builds<'_> {
 }
 
 #[test]
-fn build(rt: HostRuntime) -> Result<(), Fail> {
-    let graph = packages(rt.alloc())?;
-    let mut run = Builds { packages: &graph };
-    refuse_in_turn(&rt, rt.alloc(), &mut run, "6")
+fn build(rt: HostRuntime) {
+    let packages = &packages(&rt, rt.alloc());
+    refuse_in_turn(&rt, rt.alloc(), &mut Builds { packages }, "6");
 }
 
 /// Counts the links that it is shown.
@@ -88,22 +86,17 @@ impl Wanting for Resolves<'_, '_> {
 
 const ALL: &str = "app/full app/fast app/dep:util app/[base] util/simd util/[base] ";
 
-fn expect_resolved(
-    rt: &impl Abort,
-    alloc: Global,
-    data: &FeatureGraphData<'_>,
-    app: &PackageId,
-) -> Result<(), Fail> {
+fn expect_resolved(rt: &impl Abort, alloc: Global, data: &FeatureGraphData<'_>, app: &PackageId) {
     let graph = &FeatureGraph::of(data);
-    refuse_in_turn(rt, alloc, &mut Resolves { graph, app }, ALL)
+    refuse_in_turn(rt, alloc, &mut Resolves { graph, app }, ALL);
 }
 
 #[test]
-fn resolve_with(rt: HostRuntime) -> Result<(), Fail> {
-    let graph = packages(rt.alloc())?;
-    let app = id_of(rt.alloc(), "app")?;
-    let data = FeatureGraphData::build(rt.alloc(), &graph)?;
-    expect_resolved(&rt, rt.alloc(), &data, &app)
+fn resolve_with(rt: HostRuntime) {
+    let packages = packages(&rt, rt.alloc());
+    let app = id_of(rt.alloc(), "app").expect(&rt, "memory");
+    let data = FeatureGraphData::build(rt.alloc(), &packages).expect(&rt, "memory");
+    expect_resolved(&rt, rt.alloc(), &data, &app);
 }
 
 /// Filters all features by what they are called.
@@ -123,22 +116,19 @@ impl Wanting for Filters<'_, '_> {
     }
 }
 
-fn expect_filtered(
-    rt: &impl Abort,
-    alloc: Global,
-    data: &FeatureGraphData<'_>,
-) -> Result<(), Fail> {
-    let all = &FeatureGraph::of(data).resolve_all(alloc)?;
+fn expect_filtered(rt: &impl Abort, alloc: Global, data: &FeatureGraphData<'_>) {
+    let all = &FeatureGraph::of(data)
+        .resolve_all(alloc)
+        .expect(rt, "memory");
     let named = "app/full app/fast util/simd ";
-    refuse_in_turn(rt, alloc, &mut Filters { all }, named)?;
-    let same = ids_text(alloc, all)?;
+    refuse_in_turn(rt, alloc, &mut Filters { all }, named);
+    let same = ids_text(alloc, all).expect(rt, "memory");
     assert_eq!(rt; same.as_str(), ALL);
-    Ok(())
 }
 
 #[test]
-fn filter(rt: HostRuntime) -> Result<(), Fail> {
-    let graph = packages(rt.alloc())?;
-    let data = FeatureGraphData::build(rt.alloc(), &graph)?;
-    expect_filtered(&rt, rt.alloc(), &data)
+fn filter(rt: HostRuntime) {
+    let packages = packages(&rt, rt.alloc());
+    let data = FeatureGraphData::build(rt.alloc(), &packages).expect(&rt, "memory");
+    expect_filtered(&rt, rt.alloc(), &data);
 }

@@ -10,7 +10,6 @@ use nextest_filtering::{
 };
 use std::alloc::{AllocError, Global};
 use std::process::Abort;
-use std::test::Fail;
 
 const FILTER: &str = r"test(/^o[a-z]+\d?$/) & (package(ap*) + deps(=app) - kind(bench))";
 
@@ -26,9 +25,9 @@ impl Wanting for Parses {
 }
 
 #[test]
-fn parse(rt: HostRuntime) -> Result<(), Fail> {
+fn parse(rt: HostRuntime) {
     let printed = "test(/^o[a-z]+\\d?$/) & (package(ap*) + deps(=app) - kind(bench))";
-    refuse_in_turn(&rt, rt.alloc(), &mut Parses, printed)
+    refuse_in_turn(&rt, rt.alloc(), &mut Parses, printed);
 }
 
 /// Makes a context of all packages, and tells how many it knows.
@@ -46,9 +45,9 @@ impl Wanting for Knows<'_> {
 }
 
 #[test]
-fn with_packages(rt: HostRuntime) -> Result<(), Fail> {
-    let graph = packages(rt.alloc())?;
-    refuse_in_turn(&rt, rt.alloc(), &mut Knows { graph: &graph }, "2")
+fn with_packages(rt: HostRuntime) {
+    let graph = &packages(&rt, rt.alloc());
+    refuse_in_turn(&rt, rt.alloc(), &mut Knows { graph }, "2");
 }
 
 /// Compiles the filter.
@@ -86,10 +85,10 @@ fn compile_filter(alloc: Global, cx: &ParseContext<'_>) -> Result<Compiled, Refu
 }
 
 #[test]
-fn filterset(rt: HostRuntime) -> Result<(), Fail> {
-    let graph = packages(rt.alloc())?;
-    let cx = ParseContext::new(rt.alloc(), &graph)?;
-    refuse_in_turn(&rt, rt.alloc(), &mut Compiles { cx: &cx }, FILTER)
+fn filterset(rt: HostRuntime) {
+    let graph = packages(&rt, rt.alloc());
+    let cx = &ParseContext::new(rt.alloc(), &graph).expect(&rt, "memory");
+    refuse_in_turn(&rt, rt.alloc(), &mut Compiles { cx }, FILTER);
 }
 
 /// The parts of a test of app's library.
@@ -150,33 +149,20 @@ impl Wanting for Asks<'_, '_> {
     }
 }
 
-fn expect_answers(
-    rt: &impl Abort,
-    alloc: Global,
-    filter: &CompiledExpr,
-    parts: &Parts,
-) -> Result<(), Fail> {
+fn expect_answers(rt: &impl Abort, alloc: Global, filter: &CompiledExpr, parts: &Parts) {
     let all = CompiledExpr::ALL;
     let cx = &EvalContext {
         default_filter: &all,
     };
-    refuse_in_turn(rt, alloc, &mut Asks { filter, parts, cx }, "None true")
-}
-
-fn expect_answers_in(
-    rt: &impl Abort,
-    alloc: Global,
-    cx: &ParseContext<'_>,
-    parts: &Parts,
-) -> Result<(), Fail> {
-    let compiled = compile_filter(alloc, cx)?;
-    expect_answers(rt, alloc, &compiled.filter.compiled, parts)
+    let mut run = Asks { filter, parts, cx };
+    refuse_in_turn(rt, alloc, &mut run, "None true");
 }
 
 #[test]
-fn evaluators(rt: HostRuntime) -> Result<(), Fail> {
-    let graph = packages(rt.alloc())?;
-    let parts = Parts::new(rt.alloc())?;
-    let cx = ParseContext::new(rt.alloc(), &graph)?;
-    expect_answers_in(&rt, rt.alloc(), &cx, &parts)
+fn evaluators(rt: HostRuntime) {
+    let graph = packages(&rt, rt.alloc());
+    let cx = ParseContext::new(rt.alloc(), &graph).expect(&rt, "memory");
+    let compiled = compile_filter(rt.alloc(), &cx).expect(&rt, "a filter");
+    let parts = Parts::new(rt.alloc()).expect(&rt, "memory");
+    expect_answers(&rt, rt.alloc(), &compiled.filter.compiled, &parts);
 }

@@ -4,20 +4,19 @@ ghost use Rattle.std.specs.Prelude.{◌≡◌};
 ghost use Rattle.guppy_package_table.specs.Tables.{ids_of};
 
 use crate::refusals::turns::{Refusal, Wanting, answered, refuse_in_turn};
-use crate::workspace::RECORD;
+use crate::workspace::{CHOICE, RECORD, debugged, question_of};
 use guppy_package_graph::{
     DependencyDirection, Error, PackageGraph, PackageGraphError, PackageId, PackageLink,
     PackageLinkContext, PackageLinkVisitor, PackageMetadata, PackageSet,
 };
 use std::alloc::{AllocError, Global};
 use std::process::Abort;
-use std::test::Fail;
 use test_select::{WorkspaceRecord, read_record};
 
 /// The graph of the packages.
-pub(crate) fn packages(alloc: Global) -> Result<PackageGraph, Fail> {
-    let record = read_record(alloc, RECORD)?;
-    Ok(graph_of(alloc, record)?)
+pub(crate) fn packages(rt: &impl Abort, alloc: Global) -> PackageGraph {
+    let record = read_record(alloc, RECORD).expect(rt, "a record");
+    graph_of(alloc, record).expect(rt, "a graph")
 }
 
 /// The graph of a record's rows.
@@ -55,13 +54,12 @@ impl Wanting for Builds<'_> {
 
 /// The record is afterwards what it was before.
 #[test]
-fn from_records(rt: HostRuntime) -> Result<(), Fail> {
-    let record = &read_record(rt.alloc(), RECORD)?;
-    let before = format!(in rt.alloc(); "{record:?}")?;
-    refuse_in_turn(&rt, rt.alloc(), &mut Builds { record }, "app util ")?;
-    let after = format!(in rt.alloc(); "{record:?}")?;
-    assert_eq!(rt; after, before);
-    Ok(())
+fn from_records(rt: HostRuntime) {
+    let question = question_of(&rt, rt.alloc(), RECORD, CHOICE);
+    let record = &question.record;
+    let before = debugged(&rt, rt.alloc(), record);
+    refuse_in_turn(&rt, rt.alloc(), &mut Builds { record }, "app util ");
+    assert_eq!(rt; debugged(&rt, rt.alloc(), record), before);
 }
 
 /// What is made of two sets, one of all packages and one of util. The sets themselves are told last.
@@ -147,25 +145,15 @@ const SETS: [(Made, &str); 9] = [
     (Made::Second, "util "),
 ];
 
-fn expect_made(
-    rt: &impl Abort,
-    alloc: Global,
-    all: &PackageSet<'_>,
-    one: &PackageSet<'_>,
-) -> Result<(), Fail> {
-    for (made, wanted) in SETS {
-        refuse_in_turn(rt, alloc, &mut Makes { made, all, one }, wanted)?;
-    }
-    Ok(())
-}
-
 #[test]
-fn sets(rt: HostRuntime) -> Result<(), Fail> {
-    let graph = packages(rt.alloc())?;
-    let util = id_of(rt.alloc(), "util")?;
-    let all = graph.resolve_all(rt.alloc())?;
-    let one = graph.resolve_ids(rt.alloc(), &[&util])?;
-    expect_made(&rt, rt.alloc(), &all, &one)
+fn sets(rt: HostRuntime) {
+    let graph = packages(&rt, rt.alloc());
+    let util = id_of(rt.alloc(), "util").expect(&rt, "memory");
+    let all = &graph.resolve_all(rt.alloc()).expect(&rt, "memory");
+    let one = &graph.resolve_ids(rt.alloc(), &[&util]).expect(&rt, "a set");
+    for (made, wanted) in SETS {
+        refuse_in_turn(&rt, rt.alloc(), &mut Makes { made, all, one }, wanted);
+    }
 }
 
 /// Counts the links that it is shown.
@@ -210,13 +198,8 @@ impl Wanting for Resolves<'_> {
 }
 
 #[test]
-fn resolve_with(rt: HostRuntime) -> Result<(), Fail> {
-    let alloc = rt.alloc();
-    let graph = packages(alloc)?;
-    let start = id_of(alloc, "app")?;
-    let mut run = Resolves {
-        graph: &graph,
-        start: &start,
-    };
-    refuse_in_turn(&rt, alloc, &mut run, "app util ")
+fn resolve_with(rt: HostRuntime) {
+    let graph = &packages(&rt, rt.alloc());
+    let start = &id_of(rt.alloc(), "app").expect(&rt, "memory");
+    refuse_in_turn(&rt, rt.alloc(), &mut Resolves { graph, start }, "app util ");
 }

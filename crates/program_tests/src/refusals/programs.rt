@@ -4,7 +4,6 @@ use crate::files::Files;
 use crate::refusals::turns::{Refusal, Wanting, refuse_in_turn};
 use crate::runs::RUNS;
 use std::alloc::Global;
-use std::test::Fail;
 use test_select::run;
 
 #[derive(Drop)]
@@ -42,11 +41,10 @@ fn text_of(alloc: Global, bytes: &[u8]) -> Result<String, Refusal> {
 }
 
 #[test]
-fn subcommands(rt: HostRuntime) -> Result<(), Fail> {
+fn subcommands(rt: HostRuntime) {
     for (words, wanted) in RUNS {
-        let out = Vec::with_capacity(rt.alloc(), 1024)?;
-        let err = Vec::with_capacity(rt.alloc(), 1024)?;
-        refuse_in_turn(&rt, rt.alloc(), &mut Runs { words, out, err }, wanted)?;
+        let out = Vec::with_capacity(rt.alloc(), 1024).expect(&rt, "memory");
+        let err = Vec::with_capacity(rt.alloc(), 1024).expect(&rt, "memory");
+        refuse_in_turn(&rt, rt.alloc(), &mut Runs { words, out, err }, wanted);
     }
-    Ok(())
 }

@@ -1,7 +1,6 @@
 //! What holds the memory of the process, so that there is none for others.
 
 use std::alloc::{AllocError, Global};
-use std::test::Fail;
 
 /// Blocks that nobody uses. Together they have all the memory that can be had.
 #[derive(Drop)]
@@ -55,13 +54,12 @@ impl Purse {
 
 /// Without this test the others would say nothing where memory cannot be held.
 #[test]
-fn memory_is_refused(rt: HostRuntime) -> Result<(), Fail> {
-    let mut purse = Purse::new(rt.alloc())?;
-    let for_good = purse.leave(1 << 16)?;
+fn memory_is_refused(rt: HostRuntime) {
+    let mut purse = Purse::new(rt.alloc()).expect(&rt, "a purse");
+    let for_good = purse.leave(1 << 16).expect(&rt, "room");
     let small: Result<Vec<u8>, AllocError> = Vec::with_capacity(rt.alloc(), 1 << 10);
     let large: Result<Vec<u8>, AllocError> = Vec::with_capacity(rt.alloc(), 1 << 20);
     purse.let_go(for_good);
     assert!(rt; small.is_ok());
     assert!(rt; large.is_err());
-    Ok(())
 }

@@ -1,11 +1,8 @@
 //! Rules, what is on, accounts, explanations and orders, and the checks of records and accounts.
 
 use crate::refusals::turns::{Refusal, Wanting, answered, refuse_in_turn, told};
-use crate::workspace::{CHOICE, RECORD, question, simd};
-use question_files::FeatureQuestion;
+use crate::workspace::{CHOICE, Question, RECORD, debugged, question_of, simd};
 use std::alloc::{AllocError, Global};
-use std::process::Abort;
-use std::test::Fail;
 use test_select::{
     Feature, RecordError, SelectError, account, check_account, check_explanation, check_record,
     explain, features_on, package_order, rules,
@@ -29,17 +26,14 @@ enum Asked {
 #[derive(Drop)]
 struct Asks<'q, 'f> {
     asked: Asked,
-    question: &'q FeatureQuestion,
+    question: &'q Question,
     goal: &'f Feature,
 }
 
 impl Wanting for Asks<'_, '_> {
     fn answer(&mut self, alloc: Global) -> Result<String, Refusal> {
-        let FeatureQuestion {
-            record,
-            choice,
-            table,
-        } = self.question;
+        let question = self.question;
+        let (record, choice, table) = (&question.record, &question.choice, &question.table);
         match self.asked {
             Asked::Rules => {
                 let rules = rules(alloc, record, choice, table)?;
@@ -89,31 +83,19 @@ const ANSWERS: [(Asked, &str); 9] = [
     (Asked::CheckedExplanation(&[3, 8, 2, 9]), "Accepted"),
 ];
 
-fn expect_answers(
-    rt: &impl Abort,
-    alloc: Global,
-    question: &FeatureQuestion,
-    goal: &Feature,
-) -> Result<(), Fail> {
+/// The record is afterwards what it was before.
+#[test]
+fn questions(rt: HostRuntime) {
+    let goal = &simd(&rt, rt.alloc());
+    let question = &question_of(&rt, rt.alloc(), RECORD, CHOICE);
+    let before = debugged(&rt, rt.alloc(), &question.record);
     for (asked, wanted) in ANSWERS {
         let mut run = Asks {
             asked,
             question,
             goal,
         };
-        refuse_in_turn(rt, alloc, &mut run, wanted)?;
+        refuse_in_turn(&rt, rt.alloc(), &mut run, wanted);
     }
-    Ok(())
-}
-
-/// The record is afterwards what it was before.
-#[test]
-fn questions(rt: HostRuntime) -> Result<(), Fail> {
-    let goal = simd(rt.alloc())?;
-    let question = question(rt.alloc(), RECORD, CHOICE)?;
-    let before = format!(in rt.alloc(); "{:?}", question.record)?;
-    expect_answers(&rt, rt.alloc(), &question, &goal)?;
-    let after = format!(in rt.alloc(); "{:?}", question.record)?;
-    assert_eq!(rt; after, before);
-    Ok(())
+    assert_eq!(rt; debugged(&rt, rt.alloc(), &question.record), before);
 }

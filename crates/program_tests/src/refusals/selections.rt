@@ -2,11 +2,9 @@
 
 use crate::refusals::packages::packages;
 use crate::refusals::turns::{Refusal, Wanting, answered, refuse_in_turn};
-use crate::workspace::{CHOICE, IDS, LISTINGS, RECORD, question, selected};
+use crate::workspace::{CHOICE, IDS, LISTINGS, Question, RECORD, debugged, question_of, selected};
 use guppy_package_graph::PackageGraph;
-use question_files::FeatureQuestion;
 use std::alloc::{AllocError, Global};
-use std::test::Fail;
 use test_select::{
     FeaturesOn, FileLister, PlatformTable, ReadError, SelectError, Selection, features_on,
     read_listings, switched_on,
@@ -28,19 +26,19 @@ impl Wanting for Switches<'_> {
 }
 
 #[test]
-fn switched_on_graphs(rt: HostRuntime) -> Result<(), Fail> {
-    let question = question(rt.alloc(), RECORD, CHOICE)?;
+fn switched_on_graphs(rt: HostRuntime) {
+    let question = question_of(&rt, rt.alloc(), RECORD, CHOICE);
     let (record, choice, table) = (&question.record, &question.choice, &question.table);
-    let on = &features_on(rt.alloc(), record, choice, table)?;
-    let graph = &packages(rt.alloc())?;
-    refuse_in_turn(&rt, rt.alloc(), &mut Switches { graph, on, table }, "1")
+    let on = &features_on(rt.alloc(), record, choice, table).expect(&rt, "what is on");
+    let graph = &packages(&rt, rt.alloc());
+    refuse_in_turn(&rt, rt.alloc(), &mut Switches { graph, on, table }, "1");
 }
 
 /// Selects, and tells the report. Where that is refused, the ids that were asked are a beginning of all,
 /// and a lister without room is named by the last of them.
 #[derive(Drop)]
 struct Selects<'q> {
-    question: &'q FeatureQuestion,
+    question: &'q Question,
     plain: bool,
 }
 
@@ -98,13 +96,11 @@ const REPORT: &str = "app one\napp::net get\nutil::wide lanes\n";
 
 /// The record is afterwards what it was before.
 #[test]
-fn selections(rt: HostRuntime) -> Result<(), Fail> {
-    let question = &question(rt.alloc(), RECORD, CHOICE)?;
-    let before = format!(in rt.alloc(); "{:?}", question.record)?;
+fn selections(rt: HostRuntime) {
+    let question = &question_of(&rt, rt.alloc(), RECORD, CHOICE);
+    let before = debugged(&rt, rt.alloc(), &question.record);
     for plain in [false, true] {
-        refuse_in_turn(&rt, rt.alloc(), &mut Selects { question, plain }, REPORT)?;
+        refuse_in_turn(&rt, rt.alloc(), &mut Selects { question, plain }, REPORT);
     }
-    let after = format!(in rt.alloc(); "{:?}", question.record)?;
-    assert_eq!(rt; after, before);
-    Ok(())
+    assert_eq!(rt; debugged(&rt, rt.alloc(), &question.record), before);
 }

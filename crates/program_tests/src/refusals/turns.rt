@@ -4,7 +4,6 @@ use crate::refusals::purse::Purse;
 use std::alloc::{AllocError, Global};
 use std::fmt::{Debug, Display};
 use std::process::Abort;
-use std::test::Fail;
 
 /// A call whose requests for memory are refused in turn.
 pub(crate) trait Wanting {
@@ -34,23 +33,22 @@ pub(crate) fn refuse_in_turn<W: Wanting>(
     alloc: Global,
     run: &mut W,
     wanted: &str,
-) -> Result<(), Fail> {
-    let mut purse = Purse::new(alloc)?;
+) {
+    let mut purse = Purse::new(alloc).expect(rt, "a purse");
     for turn in 0..TURNS {
-        let for_good = purse.leave(turn.saturating_mul(STEP))?;
+        let for_good = purse.leave(turn.saturating_mul(STEP)).expect(rt, "room");
         let answer = run.answer(alloc);
         purse.let_go(for_good);
         match answer {
             Ok(text) => {
                 assert_eq!(rt; text.as_str(), wanted);
-                return Ok(());
+                return;
             }
             Err(Refusal::Memory) => {}
             Err(Refusal::Other) => assert!(rt; false, "refused for another cause"),
         }
     }
     assert!(rt; false, "refused to the end");
-    Ok(())
 }
 
 impl From<AllocError> for Refusal {

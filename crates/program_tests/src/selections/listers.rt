@@ -4,11 +4,9 @@ ghost use Rattle.std.specs.Prelude.{◌≡◌, ◌<◌, ◌++◌, ◌∷◌, [],
 ghost use Rattle.list_facts.specs.Texts.{texts};
 ghost use Rattle.test_lister.specs.Listers.{largest};
 
-use crate::workspace::{CHOICE, IDS, RECORD, question, selected};
-use question_files::FeatureQuestion;
-use std::alloc::{AllocError, Global};
+use crate::workspace::{CHOICE, IDS, Question, RECORD, question_of, selected};
+use std::alloc::Global;
 use std::process::Abort;
-use std::test::Fail;
 use test_select::{BinaryInfo, ListFault, Listing, SelectError, Selection, TestLister};
 
 /// Fails at one call, holds one test for each binary, and writes down all that it is told of it.
@@ -87,27 +85,33 @@ fn failing(alloc: Global, failures: u64, fails_at: usize) -> FailingLister {
 /// many, and with which count.
 fn expect_end(
     rt: &impl Abort,
-    question: &FeatureQuestion,
+    question: &Question,
     lister: &mut FailingLister,
     plain: bool,
     (end, asked, failures): (&str, usize, u64),
-) -> Result<(), Fail> {
+) {
     let alloc = lister.alloc;
-    let came = end_text(alloc, selected(alloc, question, plain, &[], lister))?;
-    assert_eq!(rt; came.as_str(), end);
+    expect_text(
+        rt,
+        alloc,
+        selected(alloc, question, plain, &[], lister),
+        end,
+    );
     assert_eq!(rt; lister.asked.len(), asked);
     for (id, wanted) in lister.asked.iter().zip(IDS) {
         assert_eq!(rt; id.as_str(), wanted);
     }
     assert_eq!(rt; lister.failures, failures);
-    Ok(())
 }
 
-fn end_text(alloc: Global, answer: Result<Selection, SelectError>) -> Result<String, AllocError> {
-    match answer {
+/// Asserts how many tests a selection has, or what its error says.
+fn expect_text(rt: &impl Abort, alloc: Global, answer: Result<Selection, SelectError>, want: &str) {
+    let text = match answer {
         Ok(selection) => format!(in alloc; "{} chosen", selection.chosen().len()),
         Err(error) => format!(in alloc; "{error}"),
-    }
+    };
+    let text = text.expect(rt, "memory");
+    assert_eq!(rt; text.as_str(), want);
 }
 
 /// At which call the lister fails, its count before, how the selection ends, how many ids were asked,
@@ -125,15 +129,14 @@ const ENDS: [(usize, u64, &str, usize, u64); 9] = [
 ];
 
 #[test]
-fn a_lister_that_fails(rt: HostRuntime) -> Result<(), Fail> {
-    let question = question(rt.alloc(), RECORD, CHOICE)?;
+fn a_lister_that_fails(rt: HostRuntime) {
+    let question = question_of(&rt, rt.alloc(), RECORD, CHOICE);
     for (fails_at, before, end, asked, after) in ENDS {
         for plain in [false, true] {
             let mut lister = failing(rt.alloc(), before, fails_at);
-            expect_end(&rt, &question, &mut lister, plain, (end, asked, after))?;
+            expect_end(&rt, &question, &mut lister, plain, (end, asked, after));
         }
     }
-    Ok(())
 }
 
 /// One target of each kind: a procedural macro, of which its tests run on the host, and a test binary
@@ -153,20 +156,19 @@ const KINDS: &[u8] = br#"{
 }"#;
 
 #[test]
-fn what_a_lister_is_told(rt: HostRuntime) -> Result<(), Fail> {
+fn what_a_lister_is_told(rt: HostRuntime) {
     let told = "p-q, p 1.0.0, p_q, ProcMacro, host\n\
         p-q::bench/b, p 1.0.0, b, Bench, target\n\
         p-q::bin/c, p 1.0.0, c, Bin, target\n\
         p-q::example/e, p 1.0.0, e, Example, target\n\
         p-q::t, p 1.0.0, t, Test, target\n";
-    let question = question(rt.alloc(), KINDS, b"{}")?;
+    let question = question_of(&rt, rt.alloc(), KINDS, b"{}");
     for plain in [false, true] {
         let mut lister = failing(rt.alloc(), 0, 5);
         let answer = selected(rt.alloc(), &question, plain, &[], &mut lister);
         assert!(rt; answer.is_ok());
         assert_eq!(rt; lister.told.as_str(), told);
     }
-    Ok(())
 }
 
 /// Has no room for any id, and so no listing.
@@ -187,16 +189,15 @@ impl TestLister for FullLister {
 }
 
 #[test]
-fn a_lister_without_room(rt: HostRuntime) -> Result<(), Fail> {
+fn a_lister_without_room(rt: HostRuntime) {
     let alloc = rt.alloc();
-    let question = question(alloc, RECORD, CHOICE)?;
+    let question = question_of(&rt, alloc, RECORD, CHOICE);
     for (before, after) in [(0, 1), (u64::MAX - 1, u64::MAX), (u64::MAX, u64::MAX)] {
         for plain in [false, true] {
             let mut lister = FullLister { failures: before };
             let answer = selected(alloc, &question, plain, &[], &mut lister);
-            assert_eq!(rt; end_text(alloc, answer)?.as_str(), "lister: app");
+            expect_text(&rt, alloc, answer, "lister: app");
             assert_eq!(rt; lister.failures, after);
         }
     }
-    Ok(())
 }

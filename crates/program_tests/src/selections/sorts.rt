@@ -1,17 +1,16 @@
 //! Texts in ascending order, with memory enough.
 
+use crate::workspace::debugged;
 use list_facts::sorted_texts;
-use std::test::Fail;
 
 #[test]
-fn sorts_texts(rt: HostRuntime) -> Result<(), Fail> {
-    let alloc = rt.alloc();
-    let mut names = Vec::new(alloc);
+fn sorts_texts(rt: HostRuntime) {
+    let mut names = Vec::new(rt.alloc());
     for name in ["b", "", "ab", "b", "a b"] {
-        names.push(String::from_str(alloc, name)?)?;
+        let name = String::from_str(rt.alloc(), name).expect(&rt, "memory");
+        assert!(rt; names.push(name).is_ok());
     }
-    let sorted = sorted_texts(names)?;
-    let printed = format!(in alloc; "{sorted:?}")?;
+    let sorted = sorted_texts(names).expect(&rt, "memory");
+    let printed = debugged(&rt, rt.alloc(), &sorted);
     assert_eq!(rt; printed.as_str(), r#"["", "a b", "ab", "b"]"#);
-    Ok(())
 }

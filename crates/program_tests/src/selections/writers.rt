@@ -1,8 +1,7 @@
-//! Writers that take little or fail.
+//! A writer that takes little or fails.
 
 use std::alloc::Global;
 use std::io::{self, ErrorKind, Write};
-use std::process::Abort;
 
 /// Takes at most `most` bytes at a time, and fails once `left` writes are over.
 #[derive(Drop)]
@@ -38,32 +37,4 @@ impl Write for SlowWriter {
     fn flush(&mut self) -> io::Result<()> {
         Ok(())
     }
-}
-
-/// What can be written.
-pub(crate) trait Written {
-    /// Writes it, and tells the kind of the error.
-    fn write<W: Write>(&self, alloc: Global, writer: &mut W) -> Option<ErrorKind>;
-}
-
-/// Asserts that a writer which fails after any number of bytes is told so, and took just these; and that
-/// one which takes all of them is not.
-pub(crate) fn expect_each_cut<T: Written>(
-    rt: &impl Abort,
-    alloc: Global,
-    written: &T,
-    whole: &[u8],
-) {
-    for left in 0..whole.len() {
-        let mut writer = SlowWriter::new(alloc, 1, left, ErrorKind::BrokenPipe);
-        assert_eq!(rt;
-            written.write(alloc, &mut writer),
-            Some(ErrorKind::BrokenPipe)
-        );
-        assert_eq!(rt; writer.taken.len(), left);
-        assert!(rt; whole.starts_with(&writer.taken));
-    }
-    let mut writer = SlowWriter::new(alloc, 1, whole.len(), ErrorKind::BrokenPipe);
-    assert_eq!(rt; written.write(alloc, &mut writer), None);
-    assert_eq!(rt; writer.taken.as_slice(), whole);
 }

@@ -9,4 +9,4 @@ of_made : {X Y : Type 0} {F : X → Type 0} {code : (i : X) → F i → Gv} {cod
 of_made {F = F} {y = y} P made all = subst (λ k. (z : F k) → P k z) (sym made.index) all y
 
 pub taken_by-requires : goal.taken_by-requires
-taken_by-requires g c = of_made (λ i f. (own.own-1.entry i).1.can_accept f) c.into_dyn_box.ensures.1 (λ _. tt)
+taken_by-requires g c = of_made (λ i f. (own.own-1.entry i).1.can_accept f) c.into_dyn_box-filter.ensures.1 (λ _. tt)

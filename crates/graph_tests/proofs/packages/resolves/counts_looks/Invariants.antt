@@ -1,0 +1,5 @@
+use Rattle.graph_tests.proofs.packages.resolves.counts_looks.Given as goal
+
+-- the ledger of the blank
+abbrev pub ghosts-counted : goal.ghosts-counted
+ghosts-counted g a = record { name = a.blank.name; parts = a.blank.parts }
