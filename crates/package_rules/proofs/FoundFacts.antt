@@ -2,13 +2,12 @@
 use Rattle.std.proofs.Common.{◌≡◌, Bool, true, false, cond, List, [], ◌∷◌, ◌++◌, Option, Some, None, is_some, unwrap_or, find, map, refl, sym, ◌∙◌, ap, subst, Bor, true≢false}
 use Rattle.std.specs.BTreeMap as tree
 use Rattle.std.specs.BTreeMap.{BTreeMap}
-use Rattle.std.specs.BTreeSet.{BTreeSet, contains_by}
-use Rattle.std.specs.Cmp.{IsEquivalence, IsTotalOrder, eq_by_cmp_equiv}
-use Rattle.std.specs.List.{list_any}
+use Rattle.std.specs.Cmp.{IsEquivalence, eq_by_cmp_equiv, on_equiv}
+use Rattle.std.proofs.lemmas.Cmp.{nat_list_eq_equiv}
+use Rattle.indexmap.specs.IndexSet.{IndexSet}
 use Rattle.std.specs.Option.{option_map, option_or}
 use Rattle.std.specs.Str.{bytes_eq}
 use Rattle.std.specs.declared.cmp.Ordering.{Ordering}
-use Rattle.std.proofs.lemmas.Cmp.{on_total}
 use Rattle.std.proofs.lemmas.List.Folds.{find-append}
 use Rattle.std.proofs.lemmas.Map.Text.{is_eq-slice_cmp, btree_map_updates_str}
 use Rattle.std.proofs.lemmas.Map.Views.{tells_apart}
@@ -16,7 +15,7 @@ use Rattle.list_facts.specs.Ascending.{text_cmp}
 use Rattle.list_facts.proofs.Ascending.{text_total, text_exact}
 use Rattle.list_facts.proofs.Quantifiers.{list_any-map}
 use Rattle.workspace_record.specs.Records.{Text, Package, Member}
-use Rattle.package_rules.specs.Found.{text_at, HoldsTexts, HoldsNames}
+use Rattle.package_rules.specs.Found.{finds, text_at, HoldsTexts, HoldsNames}
 use Rattle.package_rules.specs.Rules.{is_package_id, member_name}
 use Rattle.package_rules.proofs.PlaceFacts.{HoldsSeen}
 
@@ -30,20 +29,22 @@ flipped x y e = sym (is_eq-slice_cmp y x) ∙ IsEquivalence.symm (eq_by_cmp_equi
 abbrev lent_cmp : Bor Text → Bor Text → Ordering
 lent_cmp a b = text_cmp a.now b.now
 
-pub lent_total : IsTotalOrder lent_cmp
-lent_total = on_total (λ t. t.now) text_total
+abbrev lent_eq : Bor Text → Bor Text → Bool
+lent_eq a b = bytes_eq a.now b.now
+
+pub lent_texts : IsEquivalence lent_eq
+lent_texts = on_equiv (λ t. t.now) nat_list_eq_equiv
 
 -- a text behind a reference
 abbrev lent : Text → Bor Text
 lent text = record { ref_ptr = (0, 0); now = text }
 
 -- a set that tells the keys that were seen holds their texts
-pub holds_texts : (set : BTreeSet (Bor Text)) (texts : List (Bor Text)) → HoldsSeen lent_total set.keys texts → HoldsTexts set (map (λ t. t.now) texts)
-holds_texts set texts held q =
-    held (lent q) ∙ ap (λ (test : Bor Text → Bool). list_any test texts) (λ i k. is_eq-slice_cmp q k.now i) ∙ sym (list_any-map (bytes_eq q) (λ t. t.now) texts)
+pub holds_texts : {S : Type 0} (set : IndexSet (Bor Text) S) (texts : List (Bor Text)) → HoldsSeen lent_texts set.keys texts → HoldsTexts set (map (λ t. t.now) texts)
+holds_texts set texts held q = held (lent q) ∙ sym (list_any-map (bytes_eq q) (λ t. t.now) texts)
 
 -- what a set of ids finds is a package id
-pub is_found : (set : BTreeSet (Bor Text)) (packages : List Package) → HoldsTexts set (map (λ p. p.id) packages) → (q : Text) → contains_by (λ k. text_cmp q k.now) set ≡ is_package_id packages q
+pub is_found : {S : Type 0} (set : IndexSet (Bor Text) S) (packages : List Package) → HoldsTexts set (map (λ p. p.id) packages) → (q : Text) → finds set q ≡ is_package_id packages q
 is_found set packages held q = held q ∙ list_any-map (bytes_eq q) (λ p. p.id) packages
 
 or_none : {A : Type 0} (x : Option A) → option_or x None ≡ x

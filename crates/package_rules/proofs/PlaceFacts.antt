@@ -1,11 +1,8 @@
 -- The first place of a list that passes a test, as the list is gone through.
 use Rattle.std.proofs.Common.{◌≡◌, ℕ, ◌+◌, ◌<◌, Bool, true, false, not, ◌||◌, cond, List, [], ◌∷◌, ◌++◌, Option, Some, None, length, get_or, take, drop, refl, sym, ◌∙◌, ap, subst, append-nil, append_assoc, add-one, take-append-drop, length-take, arith, if◌then◌else◌}
-use Rattle.std.specs.BTreeSet.{BTreeSet, UpdatesBy}
-use Rattle.std.specs.Cmp.{IsEquivalence, IsTotalOrder, eq_by_cmp_equiv}
+use Rattle.std.specs.Cmp.{IsEquivalence}
 use Rattle.std.specs.List.{list_any}
 use Rattle.std.specs.Option.{option_map}
-use Rattle.std.specs.Ordering.{eq_by_cmp}
-use Rattle.std.specs.declared.cmp.Ordering.{Ordering}
 use Rattle.std.proofs.lemmas.List.{drop_more, take_more}
 use Rattle.std.proofs.lemmas.List.Folds.{list_any-append}
 use Rattle.package_rules.specs.Places.{first_place_after, first_place, first_repeat}
@@ -45,38 +42,42 @@ module _ {X : Type 0} (test : List X → X → Bool) where
   fails_at xs i x lt is none fails =
       ap (first_place test) (take_more xs i x lt ∙ ap (λ y. take i xs ++ y ∷ []) is) ∙ fails_after [] (take i xs) x none fails
 
-module _ {K : Type 0} {cmp : K → K → Ordering} (total : IsTotalOrder cmp) where
-  joined : (a b : Bool) → cond a true b ≡ (b || (a || false))
-  joined true true = refl
-  joined true false = refl
-  joined false true = refl
-  joined false false = refl
+not_true : (t : Bool) → not t ≡ true → t ≡ false
+not_true true e = sym e
+not_true false e = refl
 
+not_false : (t : Bool) → not t ≡ false → t ≡ true
+not_false true e = refl
+not_false false e = sym e
+
+joined : (a b : Bool) → cond a true b ≡ (b || (a || false))
+joined true true = refl
+joined true false = refl
+joined false true = refl
+joined false false = refl
+
+module _ {K : Type 0} {same : K → K → Bool} (laws : IsEquivalence same) where
   -- the set tells whether a key was seen
   abbrev pub HoldsSeen : List K → List K → Type 0
-  HoldsSeen keys seen = (q : K) → list_any (eq_by_cmp cmp q) keys ≡ list_any (eq_by_cmp cmp q) seen
+  HoldsSeen keys seen = (q : K) → list_any (same q) keys ≡ list_any (same q) seen
 
-  pub seen_more : (old new : BTreeSet K) (seen : List K) (k : K) → HoldsSeen old.keys seen → UpdatesBy cmp (cmp k) old new true → HoldsSeen new.keys (seen ++ k ∷ [])
+  -- the set has one key more
+  abbrev pub TakesIn : List K → K → List K → Type 0
+  TakesIn old k new = (q : K) → list_any (same q) new ≡ cond (same k q) true (list_any (same q) old)
+
+  pub seen_more : (old new seen : List K) (k : K) → HoldsSeen old seen → TakesIn old k new → HoldsSeen new (seen ++ k ∷ [])
   seen_more old new seen k held put q =
-      put.0 q ∙ ap (λ b. cond b true (list_any (eq_by_cmp cmp q) old.keys)) (IsEquivalence.symm (eq_by_cmp_equiv total) k q) ∙ ap (cond (eq_by_cmp cmp q k) true) (held q) ∙ joined (eq_by_cmp cmp q k) (list_any (eq_by_cmp cmp q) seen) ∙ sym (list_any-append (eq_by_cmp cmp q) seen (k ∷ []))
-
-  not_true : (t : Bool) → not t ≡ true → t ≡ false
-  not_true true e = sym e
-  not_true false e = refl
-
-  not_false : (t : Bool) → not t ≡ false → t ≡ true
-  not_false true e = refl
-  not_false false e = sym e
+      put q ∙ ap (λ b. cond b true (list_any (same q) old)) (IsEquivalence.symm laws k q) ∙ ap (cond (same q k) true) (held q) ∙ joined (same q k) (list_any (same q) seen) ∙ sym (list_any-append (same q) seen (k ∷ []))
 
   -- the key at place i is not new, so it is the first repeat
-  pub repeats_at : (keys held : List K) (i : ℕ) (k : K) (added : Bool) → i < length keys → k ≡ get_or keys i k → first_repeat (eq_by_cmp cmp) (take i keys) ≡ None → HoldsSeen held (take i keys) → added ≡ not (list_any (eq_by_cmp cmp k) held) → added ≡ false → Some i ≡ first_repeat (eq_by_cmp cmp) keys
+  pub repeats_at : (keys held : List K) (i : ℕ) (k : K) (added : Bool) → i < length keys → k ≡ get_or keys i k → first_repeat same (take i keys) ≡ None → HoldsSeen held (take i keys) → added ≡ not (list_any (same k) held) → added ≡ false → Some i ≡ first_repeat same keys
   repeats_at keys held i k added lt is none seen told old =
-      sym (passes_at (λ before x. list_any (eq_by_cmp cmp x) before) keys i k lt (sym is) none (sym (seen k) ∙ not_false (list_any (eq_by_cmp cmp k) held) (sym told ∙ old)))
+      sym (passes_at (λ before x. list_any (same x) before) keys i k lt (sym is) none (sym (seen k) ∙ not_false (list_any (same k) held) (sym told ∙ old)))
 
   -- the key at place i is new
-  pub goes_on : (keys : List K) (old new : BTreeSet K) (i : ℕ) (k : K) (added : Bool) → i < length keys → k ≡ get_or keys i k → first_repeat (eq_by_cmp cmp) (take i keys) ≡ None → HoldsSeen old.keys (take i keys) → added ≡ not (list_any (eq_by_cmp cmp k) old.keys) → added ≡ true → UpdatesBy cmp (cmp k) old new true → (first_repeat (eq_by_cmp cmp) (take (i + 1) keys) ≡ None) × HoldsSeen new.keys (take (i + 1) keys)
+  pub goes_on : (keys old new : List K) (i : ℕ) (k : K) (added : Bool) → i < length keys → k ≡ get_or keys i k → first_repeat same (take i keys) ≡ None → HoldsSeen old (take i keys) → added ≡ not (list_any (same k) old) → added ≡ true → TakesIn old k new → (first_repeat same (take (i + 1) keys) ≡ None) × HoldsSeen new (take (i + 1) keys)
   goes_on keys old new i k added lt is none seen told fresh put =
       let more : take (i + 1) keys ≡ take i keys ++ k ∷ [] = take_more keys i k lt ∙ ap (λ x. take i keys ++ x ∷ []) (sym is) in (
-        fails_at (λ before x. list_any (eq_by_cmp cmp x) before) keys i k lt (sym is) none (sym (seen k) ∙ not_true (list_any (eq_by_cmp cmp k) old.keys) (sym told ∙ fresh)),
-        subst (HoldsSeen new.keys) (sym more) (seen_more old new (take i keys) k seen put),
+        fails_at (λ before x. list_any (same x) before) keys i k lt (sym is) none (sym (seen k) ∙ not_true (list_any (same k) old) (sym told ∙ fresh)),
+        subst (HoldsSeen new) (sym more) (seen_more old new (take i keys) k seen put),
       )

@@ -1,13 +1,9 @@
 -- Repeats of keys, by what the keys show.
-use Rattle.std.proofs.Common.{◌≡◌, ◌+◌, Bool, List, [], ◌∷◌, ◌++◌, Some, map, refl, sym, ◌∙◌, ap, Bor, is_eq, if◌then◌else◌}
-use Rattle.std.specs.Cmp.{both_tied}
+use Rattle.std.proofs.Common.{◌≡◌, ◌+◌, Bool, List, [], ◌∷◌, ◌++◌, Some, map, refl, sym, ◌∙◌, ap, Bor, if◌then◌else◌}
 use Rattle.std.specs.List.{list_any}
 use Rattle.std.specs.Option.{option_map}
-use Rattle.std.specs.Ordering.{eq_by_cmp, ordering_then}
 use Rattle.std.specs.Str.{bytes_eq}
 use Rattle.std.proofs.lemmas.List.{map-append}
-use Rattle.std.proofs.lemmas.Map.Text.{is_eq-slice_cmp}
-use Rattle.list_facts.specs.Ascending.{text_cmp}
 use Rattle.list_facts.proofs.Quantifiers.{list_any-map}
 use Rattle.workspace_record.specs.Records.{Text}
 use Rattle.package_rules.specs.Found.{lent_key}
@@ -24,14 +20,8 @@ module _ {X Y : Type 0} (f : X → Y) (same : Y → Y → Bool) where
   pub first_repeat-map : (xs : List X) → first_repeat (λ a b. same (f a) (f b)) xs ≡ first_repeat same (map f xs)
   first_repeat-map xs = repeat_after [] xs
 
-pub repeat_of_lent : (texts : List (Bor Text)) → first_repeat (eq_by_cmp (λ a b. text_cmp a.now b.now)) texts ≡ first_repeat bytes_eq (map (λ t. t.now) texts)
-repeat_of_lent texts =
-    ap (λ (same : Bor Text → Bor Text → Bool). first_repeat same texts) (λ i a b. is_eq-slice_cmp a.now b.now i) ∙ first_repeat-map (λ t. t.now) bytes_eq texts
+pub repeat_of_lent : (texts : List (Bor Text)) → first_repeat (λ a b. bytes_eq a.now b.now) texts ≡ first_repeat bytes_eq (map (λ t. t.now) texts)
+repeat_of_lent texts = first_repeat-map (λ t. t.now) bytes_eq texts
 
-key_tie : (a b : Bor Text × Bor Text × Bor Text) → is_eq (ordering_then (ordering_then (text_cmp a.0.now b.0.now) (text_cmp a.1.now b.1.now)) (text_cmp a.2.now b.2.now)) ≡ same_key (lent_key a) (lent_key b)
-key_tie a b =
-    sym (both_tied _ _ (ordering_then (text_cmp a.0.now b.0.now) (text_cmp a.1.now b.1.now)) (text_cmp a.2.now b.2.now) (both_tied _ _ (text_cmp a.0.now b.0.now) (text_cmp a.1.now b.1.now) (sym (is_eq-slice_cmp a.0.now b.0.now)) (sym (is_eq-slice_cmp a.1.now b.1.now))) (sym (is_eq-slice_cmp a.2.now b.2.now)))
-
-pub repeat_of_keys : (keys : List (Bor Text × Bor Text × Bor Text)) → first_repeat (eq_by_cmp (λ a b. ordering_then (ordering_then (text_cmp a.0.now b.0.now) (text_cmp a.1.now b.1.now)) (text_cmp a.2.now b.2.now))) keys ≡ first_repeat same_key (map lent_key keys)
-repeat_of_keys keys =
-    ap (λ (same : Bor Text × Bor Text × Bor Text → Bor Text × Bor Text × Bor Text → Bool). first_repeat same keys) (λ i a b. key_tie a b i) ∙ first_repeat-map lent_key same_key keys
+pub repeat_of_keys : (keys : List (Bor Text × Bor Text × Bor Text)) → first_repeat (λ a b. same_key (lent_key a) (lent_key b)) keys ≡ first_repeat same_key (map lent_key keys)
+repeat_of_keys keys = first_repeat-map lent_key same_key keys

@@ -1,23 +1,23 @@
 -- Sets and maps of lent texts, as look-ups by text see them.
 use Rattle.std.specs.Prelude.{◌≡◌, Bool, List, Option, option_map, find}
 use Rattle.std.specs.BTreeMap.{BTreeMap, get_by}
-use Rattle.std.specs.BTreeSet.{BTreeSet, contains_by}
 use Rattle.std.specs.Borrow.{Bor}
 use Rattle.std.specs.List.{list_any}
 use Rattle.std.specs.Str.{bytes_eq}
+use Rattle.indexmap.specs.IndexSet.{IndexSet, contains_by}
 use Rattle.list_facts.specs.Ascending.{text_cmp}
 use Rattle.workspace_record.specs.Records.{Text, Package}
 
 -- the set finds the text
-abbrev pub finds : BTreeSet (Bor Text) → Text → Bool
-finds set text = contains_by (λ k. text_cmp text k.now) set
+abbrev pub finds : {S : Type 0} → IndexSet (Bor Text) S → Text → Bool
+finds set text = contains_by (λ k. bytes_eq text k.now) set
 
 -- the text that the map has for another
 abbrev pub text_at : BTreeMap (Bor Text) (Bor Text) → Text → Option Text
 text_at texts key = option_map (λ t. t.now) (get_by (λ k. text_cmp key k.now) texts)
 
 -- the set finds a text exactly where it is one of these
-abbrev pub HoldsTexts : BTreeSet (Bor Text) → List Text → Type 0
+abbrev pub HoldsTexts : {S : Type 0} → IndexSet (Bor Text) S → List Text → Type 0
 HoldsTexts set texts = (text : Text) → finds set text ≡ list_any (bytes_eq text) texts
 
 -- the map finds the name of the first package with an id

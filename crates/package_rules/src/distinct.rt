@@ -6,11 +6,32 @@ ghost use Rattle.std.specs.Str.{bytes_eq};
 ghost use Rattle.package_rules.specs.Places.{first_repeat};
 ghost use Rattle.package_rules.specs.Rules.{is_distinct};
 
+use indexmap::IndexSet;
 use std::alloc::{AllocError, Global};
 use std::collections::BTreeSet;
+use std::hash::Hash;
 
 /// The first place whose key is the same as that of an earlier place.
-pub fn first_repeat<K: Ord + Copy>(alloc: Global, keys: &[K]) -> Result<Option<usize>, AllocError>
+pub fn first_repeat<K: Eq + Hash + Copy>(
+    alloc: Global,
+    keys: &[K],
+) -> Result<Option<usize>, AllocError>
+    ensures { IfOk result (λ place. place ≡ first_repeat K.eq keys.now) }
+{
+    let mut seen: IndexSet<K> = IndexSet::with_capacity(alloc, keys.len())?;
+    for (place, key) in keys.iter().enumerate() {
+        if !seen.insert(*key)? {
+            return Ok(Some(place));
+        }
+    }
+    Ok(None)
+}
+
+/// As `first_repeat`, of keys that have an order and no hash.
+pub(crate) fn first_repeat_in_order<K: Ord + Copy>(
+    alloc: Global,
+    keys: &[K],
+) -> Result<Option<usize>, AllocError>
     ensures { IfOk result (λ place. place ≡ first_repeat (eq_by_cmp K.cmp) keys.now) }
 {
     let mut seen = BTreeSet::new(alloc);

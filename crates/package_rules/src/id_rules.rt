@@ -7,8 +7,8 @@ ghost use Rattle.package_rules.specs.Found.{HoldsTexts};
 
 use crate::distinct::first_repeated_text;
 use crate::text_sets::text_set;
+use indexmap::IndexSet;
 use std::alloc::{AllocError, Global};
-use std::collections::BTreeSet;
 use workspace_record::PackageRecord;
 
 /// The first package whose id is that of an earlier one.
@@ -36,7 +36,7 @@ fn package_ids<'a>(alloc: Global, packages: &'a [PackageRecord]) -> Result<Vec<&
 pub(crate) fn package_id_set<'a>(
     alloc: Global,
     packages: &'a [PackageRecord],
-) -> Result<BTreeSet<&'a str>, AllocError>
+) -> Result<IndexSet<&'a str>, AllocError>
     ensures { IfOk result (λ set. HoldsTexts set (map (λ p. p.id) packages.entry.now)) }
 {
     let ids = package_ids(alloc, packages)?;

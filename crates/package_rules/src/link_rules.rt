@@ -7,8 +7,8 @@ ghost use Rattle.package_rules.specs.Found.{finds, lent_key};
 
 use crate::distinct::first_repeat;
 use crate::id_rules::package_id_set;
+use indexmap::IndexSet;
 use std::alloc::{AllocError, Global};
-use std::collections::BTreeSet;
 use workspace_record::{LinkRecord, PackageRecord};
 
 /// The first link with an end that is no package.
@@ -23,13 +23,13 @@ pub(crate) fn first_unknown_end(
     Ok(first_end_outside(&ids, links))
 }
 
-fn first_end_outside(ids: &BTreeSet<&str>, links: &[LinkRecord]) -> Option<usize>
+fn first_end_outside(ids: &IndexSet<&str>, links: &[LinkRecord]) -> Option<usize>
     ensures { result ≡ position (λ l. not (finds ids.now l.from && finds ids.now l.to)) links.now }
 {
     links.iter().position(|link| !has_known_ends(ids, link))
 }
 
-fn has_known_ends(ids: &BTreeSet<&str>, link: &LinkRecord) -> bool
+fn has_known_ends(ids: &IndexSet<&str>, link: &LinkRecord) -> bool
     ensures { result ≡ (finds ids.now link.now.from && finds ids.now link.now.to) }
 {
     ids.contains(link.from.as_str()) && ids.contains(link.to.as_str())
@@ -52,7 +52,7 @@ fn link_keys<'a>(
 ) -> Result<Vec<(&'a str, &'a str, &'a str)>, AllocError>
     ensures { IfOk result (λ v. map lent_key v.items ≡ map link_key links.entry.now) }
 {
-    let mut keys: Vec<(&'a str, &'a str, &'a str)> = Vec::new(alloc);
+    let mut keys: Vec<(&'a str, &'a str, &'a str)> = Vec::with_capacity(alloc, links.len())?;
     for link in links {
         keys.push((link.from.as_str(), link.to.as_str(), link.name.as_str()))?;
     }

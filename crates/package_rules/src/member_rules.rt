@@ -9,12 +9,13 @@ ghost use Rattle.package_rules.specs.Places.{first_repeat};
 ghost use Rattle.package_rules.specs.Rules.{earlier, is_member_id, is_package_id, member_name};
 ghost use Rattle.package_rules.specs.Found.{HoldsNames, finds, text_at};
 
-use crate::distinct::{first_repeat, first_repeated_text};
+use crate::distinct::{first_repeat_in_order, first_repeated_text};
 use crate::id_rules::package_id_set;
 use crate::paths::PathText;
 use crate::text_sets::text_set;
+use indexmap::IndexSet;
 use std::alloc::{AllocError, Global};
-use std::collections::{BTreeMap, BTreeSet};
+use std::collections::BTreeMap;
 use workspace_record::{MemberRecord, PackageRecord, WorkspaceInfo};
 
 /// The first member that is no package, or that stands at an earlier place.
@@ -41,7 +42,7 @@ fn first_unknown_id(
     Ok(first_outside(&known, ids))
 }
 
-fn first_outside(known: &BTreeSet<&str>, ids: &[&str]) -> Option<usize>
+fn first_outside(known: &IndexSet<&str>, ids: &[&str]) -> Option<usize>
     ensures { result ≡ position (λ id. not (finds known.now id.now)) ids.now }
 {
     ids.iter().position(|id| !known.contains(*id))
@@ -127,7 +128,7 @@ pub(crate) fn first_repeated_path(
     ensures { IfOk result (λ place. place ≡ first_repeat (eq_by_cmp path_cmp) (map (λ m. m.path) members.now)) }
 {
     let paths = member_paths(alloc, members)?;
-    first_repeat(alloc, &paths)
+    first_repeat_in_order(alloc, &paths)
 }
 
 fn member_paths<'a>(
@@ -157,7 +158,7 @@ pub(crate) fn first_unknown_default(
     Ok(first_default_outside(&members, &workspace.default_members))
 }
 
-fn first_default_outside(members: &BTreeSet<&str>, defaults: &[String]) -> Option<usize>
+fn first_default_outside(members: &IndexSet<&str>, defaults: &[String]) -> Option<usize>
     ensures { result ≡ position (λ id. not (finds members.now (string_bytes id))) defaults.now }
 {
     defaults

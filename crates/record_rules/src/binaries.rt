@@ -7,9 +7,9 @@ ghost use Rattle.record_rules.specs.Binaries.{binary_id, may_have_tests, platfor
 ghost use Rattle.record_rules.specs.BinaryView.{binary_view};
 
 use package_rules::text_sets::text_set;
+use indexmap::IndexSet;
 use std::alloc::{AllocError, Global};
 use std::cmp::Ordering;
-use std::collections::BTreeSet;
 use test_lister::BuildPlatform;
 use workspace_record::{PackageRecord, TargetKind, TargetRecord, WorkspaceRecord};
 
@@ -98,7 +98,7 @@ fn member_packages<'a>(
 
 fn packages_among<'a>(
     alloc: Global,
-    ids: &BTreeSet<&str>,
+    ids: &IndexSet<&str>,
     packages: &'a [PackageRecord],
 ) -> Result<Vec<&'a PackageRecord>, AllocError>
     ensures { IfOk result (λ v. map (λ p. p.now) v.items ≡ filter (λ p. finds ids.now p.id) packages.entry.now) }
@@ -112,7 +112,7 @@ fn packages_among<'a>(
     Ok(among)
 }
 
-fn has_id_among(ids: &BTreeSet<&str>, row: &PackageRecord) -> bool
+fn has_id_among(ids: &IndexSet<&str>, row: &PackageRecord) -> bool
     ensures { result ≡ finds ids.now row.now.id }
 {
     ids.contains(row.id.as_str())

@@ -7,8 +7,8 @@ ghost use Rattle.record_rules.specs.RecordRules.{has_distinct_features, has_requ
 
 use package_rules::distinct::{first_repeated_text, is_distinct};
 use package_rules::text_sets::text_set;
+use indexmap::IndexSet;
 use std::alloc::{AllocError, Global};
-use std::collections::BTreeSet;
 use workspace_record::{FeatureRecord, PackageRecord, TargetRecord};
 
 /// The first package with a repeated feature name or a repeated optional name.
@@ -72,7 +72,7 @@ fn has_required_features(alloc: Global, row: &PackageRecord) -> Result<bool, All
     Ok(require_only(&row.targets, &own))
 }
 
-fn require_only(targets: &[TargetRecord], own: &BTreeSet<&str>) -> bool
+fn require_only(targets: &[TargetRecord], own: &IndexSet<&str>) -> bool
     ensures { result ≡ list_all (λ t. list_all (finds own.now) t.required_features) targets.now }
 {
     targets
@@ -80,13 +80,13 @@ fn require_only(targets: &[TargetRecord], own: &BTreeSet<&str>) -> bool
         .all(|target| are_among(own, &target.required_features))
 }
 
-fn are_among(own: &BTreeSet<&str>, names: &[String]) -> bool
+fn are_among(own: &IndexSet<&str>, names: &[String]) -> bool
     ensures { result ≡ list_all (finds own.now) (map string_bytes names.now) }
 {
     is_each_among(own, names)
 }
 
-fn is_each_among(own: &BTreeSet<&str>, names: &[String]) -> bool
+fn is_each_among(own: &IndexSet<&str>, names: &[String]) -> bool
     ensures { result ≡ list_all (λ name. finds own.now (string_bytes name)) names.now }
 {
     names.iter().all(|name| own.contains(name.as_str()))

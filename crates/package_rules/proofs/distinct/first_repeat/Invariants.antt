@@ -1,5 +1,4 @@
 use Rattle.std.proofs.Common.{◌≡◌, None, take}
-use Rattle.std.specs.Ordering.{eq_by_cmp}
 use Rattle.package_rules.specs.Places.{first_repeat}
 use Rattle.package_rules.proofs.PlaceFacts.{HoldsSeen}
 use Rattle.package_rules.proofs.distinct.first_repeat.Given as goal
@@ -7,4 +6,4 @@ use Rattle.package_rules.proofs.distinct.first_repeat.Given as goal
 -- no key was seen twice, and the set holds those seen
 abbrev pub invariant-loop-place : goal.invariant-loop-place
 invariant-loop-place g l =
-    (first_repeat (eq_by_cmp g.K.Ord.cmp) (take l.place l.keys) ≡ None) × HoldsSeen g.met.K.Ord.total l.seen.keys (take l.place l.keys)
+    (first_repeat g.K.PartialEq.eq (take l.place l.keys) ≡ None) × HoldsSeen g.met.K.Eq.laws l.seen.keys (take l.place l.keys)

@@ -8,4 +8,4 @@ use Rattle.package_rules.proofs.member_rules.first_repeated_path.Goals as goal
 
 pub returns : goal.returns
 returns c =
-    subst (λ first. IfOk c.first_repeat.result (λ place. place ≡ first)) (first_repeat-map (λ (p : PathText). p.text.now) (eq_by_cmp path_cmp) c.deref.result.now ∙ ap (first_repeat (eq_by_cmp path_cmp)) (ap (map (λ (p : PathText). p.text.now)) c.deref.ensures.value ∙ c.in_ok-paths.ensures)) c.first_repeat.ensures
+    subst (λ first. IfOk c.first_repeat_in_order.result (λ place. place ≡ first)) (first_repeat-map (λ (p : PathText). p.text.now) (eq_by_cmp path_cmp) c.deref.result.now ∙ ap (first_repeat (eq_by_cmp path_cmp)) (ap (map (λ (p : PathText). p.text.now)) c.deref.ensures.value ∙ c.in_ok-paths.ensures)) c.first_repeat_in_order.ensures
