@@ -6,8 +6,8 @@ ghost use Rattle.list_facts.specs.Texts.{texts};
 ghost use Rattle.test_lister.specs.Listings.{HasLineFeed, HasRepeat, FindsFault};
 
 use crate::fault::ListingFault;
+use indexmap::IndexSet;
 use std::alloc::{AllocError, Global};
-use std::collections::BTreeSet;
 
 pub(crate) fn fault_of(alloc: Global, names: &[String]) -> Result<Option<ListingFault>, AllocError>
     ensures { IfOk result (λ fault. FindsFault (texts names.now) fault) }
@@ -30,7 +30,7 @@ fn has_line_feed(names: &[String]) -> bool
 fn has_repeat(alloc: Global, names: &[String]) -> Result<bool, AllocError>
     ensures { IfOk result (λ found. IsTrue found ↔ HasRepeat (texts names.now)) }
 {
-    let mut seen = BTreeSet::new(alloc);
+    let mut seen: IndexSet<&str> = IndexSet::with_capacity(alloc, names.len())?;
     for name in names {
         if !seen.insert(name.as_str())? {
             return Ok(true);

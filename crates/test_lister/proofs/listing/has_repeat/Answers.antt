@@ -1,11 +1,11 @@
-use Rattle.std.proofs.Common.{ℕ, List, take_all, sym, ap, subst, true≢false, Bor, refl}
+use Rattle.std.proofs.Common.{take_all, sym, ap, subst, true≢false, refl}
 use Rattle.list_facts.specs.Texts.{texts}
 use Rattle.test_lister.specs.Listings.{HasRepeat}
 use Rattle.test_lister.proofs.Repeats.{HoldsDistinct, holds_none, holds_more, repeat_of_texts, texts_more}
 use Rattle.test_lister.proofs.listing.has_repeat.Goals as goal
 
 pub loop-name-init : goal.loop-name-init
-loop-name-init c = rw c.new-seen.ensures.empty (holds_none (λ (k : Bor (List ℕ)). k.now))
+loop-name-init c = rw c.in_ok-seen.ensures.empty holds_none
 
 pub returns-then-not-branch : goal.returns-then-not-branch
 returns-then-not-branch c =
@@ -13,7 +13,7 @@ returns-then-not-branch c =
     (λ _. h, λ _. refl)
 
 pub loop-name-preserved : goal.loop-name-preserved
-loop-name-preserved c = rw (texts_more c.args.names.now c.loop-name.name-index c.name-item.result c.loop-name-test.true c.name-item.is, ← c.as_str.ensures.value) (holds_more (λ k. k.now) _ _ _ c.as_str.result _ c.loop-name.invariant c.in_ok-insert.ensures.keys c.in_ok-insert.ensures.added c.if-not-branch.false)
+loop-name-preserved c = rw (texts_more c.args.names.now c.loop-name.name-index c.name-item.result c.loop-name-test.true c.name-item.is, ← c.as_str.ensures.value) (holds_more _ _ _ c.as_str.result _ c.loop-name.invariant c.in_ok-insert.ensures.keys c.in_ok-insert.ensures.added c.if-not-branch.false)
 
 pub returns : goal.returns
 returns c =

@@ -4,4 +4,4 @@ use Rattle.test_lister.proofs.Repeats.{HoldsDistinct}
 use Rattle.test_lister.proofs.listing.has_repeat.Given as goal
 
 abbrev pub invariant-loop-name : goal.invariant-loop-name
-invariant-loop-name l = HoldsDistinct (λ k. k.now) l.seen.keys (texts (take l.name-index l.names))
+invariant-loop-name l = HoldsDistinct l.seen.keys (texts (take l.name-index l.names))
