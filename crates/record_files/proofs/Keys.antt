@@ -1,5 +1,5 @@
 -- Maps that are filled in the order of their keys.
-use Rattle.std.proofs.Common.{◌≡◌, refl, ap, sym, ◌∙◌, List, [], ◌∷◌, ◌++◌, map, String, Global, string_bytes, false, Less, Greater}
+use Rattle.std.proofs.Common.{◌≡◌, refl, ap, sym, ◌∙◌, List, [], ◌∷◌, ◌++◌, map, Bor, String, Global, string_bytes, false, Less, Greater}
 use Rattle.std.proofs.lemmas.Cmp.{nat_list_cmp_total}
 use Rattle.std.specs.List.{AllByRecursion}
 use Rattle.std.specs.List.Sorted.{IsStrictlySortedBy}
@@ -16,15 +16,18 @@ use Rattle.workspace_record.specs.Records.{Text}
 abbrev pub key_texts : {V : Type 0} → List (String Global × V) → List Text
 key_texts es = map (λ e. string_bytes e.0) es
 
-below_each : {V : Type 0} (x : String Global) (es : List (String Global × V)) → AllByRecursion (λ y. string_cmp x y ≡ Less) (keys_of es) → AllByRecursion (λ y. text_cmp (string_bytes x) y ≡ Less) (key_texts es)
+-- the names of entries that are lent
+abbrev pub names : {V : Type 0} → List (Bor Text × V) → List Text
+names es = map (λ e. e.0.now) es
+
+below_each : {V : Type 0} (x : Bor Text) (es : List (Bor Text × V)) → AllByRecursion (λ y. text_cmp x.now y.now ≡ Less) (keys_of es) → AllByRecursion (λ y. text_cmp x.now y ≡ Less) (names es)
 below_each x [] h = h
 below_each x (e ∷ es) h = (h.0, below_each x es h.1)
 
--- keys that ascend as strings ascend as texts
-pub key_texts_sorted : {V : Type 0} (es : List (String Global × V)) → IsStrictlySortedBy string_cmp (keys_of es) → IsStrictlySortedBy text_cmp (key_texts es)
+pub names_sorted : {V : Type 0} (es : List (Bor Text × V)) → IsStrictlySortedBy (λ x y. text_cmp x.now y.now) (keys_of es) → IsStrictlySortedBy text_cmp (names es)
 unfolding IsStrictlySortedBy
-key_texts_sorted [] h = h
-key_texts_sorted (e ∷ es) h = (below_each e.0 es h.0, key_texts_sorted es h.1)
+names_sorted [] h = h
+names_sorted (e ∷ es) h = (below_each e.0 es h.0, names_sorted es h.1)
 
 below_middle : (x : Text) (front : List Text) (y : Text) (more : List Text) → AllByRecursion (λ z. text_cmp x z ≡ Less) (front ++ y ∷ more) → text_cmp x y ≡ Less
 below_middle x [] y more h = h.0

@@ -1,13 +1,14 @@
 -- Whole files.
 use Rattle.std.specs.Prelude.{◌≡◌, ℕ, List, Some, None, Result, Ok, Err}
 use Rattle.std.specs.Str.{IsUtf8}
+use Rattle.std.specs.declared.alloc.Global.{Global}
+use Rattle.json.specs.declared.value.Value.{Value}
 use Rattle.serde_json.specs.Data.{Data}
 use Rattle.serde_json.specs.Read.{read}
-use Rattle.serde_json.specs.View.{view}
-use Rattle.serde_json.specs.declared.value.Value.{Value}
 use Rattle.record_files.specs.declared.error.ReadError.{ReadError}
 use Rattle.record_files.specs.declared.error.ReadError.TheVariants.{BadJson, BadShape, Memory}
 use Rattle.record_files.specs.Faults.{Fault, fault_of}
+use Rattle.record_files.specs.Trees.{seen}
 
 -- The bytes are JSON as `serde_json` reads it, and of the value that they are the format says this.
 pub record Reads {Y : Type 0} (format : Data → Result Y Fault) (bytes : List ℕ) (said : Result Y Fault) : Type 0 where
@@ -25,8 +26,8 @@ ReadsFile shows format bytes (Err BadJson) = IsUtf8 bytes → read bytes ≡ Non
 ReadsFile shows format bytes (Err Memory) = Unit {0}
 
 -- the bytes were read as JSON, or are not JSON
-abbrev pub Parses : List ℕ → Result Value ReadError → Type 0
-Parses bytes (Ok v) = IsUtf8 bytes × (read bytes ≡ Some (view v))
+abbrev pub Parses : List ℕ → Result (Value Global) ReadError → Type 0
+Parses bytes (Ok v) = IsUtf8 bytes × (read bytes ≡ Some (seen v))
 Parses bytes (Err (BadShape field)) = ⊥
 Parses bytes (Err BadJson) = IsUtf8 bytes → read bytes ≡ None
 Parses bytes (Err Memory) = Unit {0}

@@ -12,4 +12,5 @@ pub mod Choices
 pub mod Tables
 pub mod Accounts
 pub mod Listings
+pub mod Trees
 pub mod Files

@@ -1,5 +1,5 @@
 ghost use Rattle.std.specs.Prelude.{◌≡◌};
-ghost use Rattle.serde_json.specs.View.{view, items_view};
+ghost use Rattle.record_files.specs.Trees.{seen, seen_items};
 ghost use Rattle.record_files.specs.declared.key.Key.TheVariants as key;
 ghost use Rattle.record_files.specs.Files.{ReadsFile};
 ghost use Rattle.record_files.specs.Outcomes.{Gives};
@@ -11,8 +11,9 @@ use crate::choice::extra_of;
 use crate::error::ReadError;
 use crate::file::value_of;
 use crate::key::Key;
-use crate::object::{given, object_of};
-use serde_json::Value;
+use crate::number::number_of;
+use crate::object::{as_array, given, object_of};
+use json::{Scratch, Value};
 use std::alloc::Global;
 use workspace_record::Feature;
 
@@ -23,21 +24,22 @@ use workspace_record::Feature;
 pub fn read_account(alloc: Global, bytes: &[u8]) -> Result<AccountFile, ReadError>
     ensures reads { ReadsFile (λ f. f) account_file bytes.now result }
 {
-    let value = value_of(alloc, bytes)?;
+    let mut scratch = Scratch::new(alloc);
+    let value = value_of(alloc, bytes, &mut scratch)?;
     account_of(alloc, object_of(&value, Key::File)?)
 }
 
 #[tactic(auto, unfolding(crate::specs::Accounts::account_of))]
-fn account_of(alloc: Global, value: &Value) -> Result<AccountFile, ReadError>
-    ensures { Gives (λ f. f) result (account_of (view value.now)) }
+fn account_of(alloc: Global, value: &Value<'_>) -> Result<AccountFile, ReadError>
+    ensures { Gives (λ f. f) result (account_of (seen value.now)) }
 {
     let rules = rules_at(alloc, value)?;
     let goal = goal_at(alloc, value)?;
     Ok(AccountFile { rules, goal })
 }
 
-fn goal_at(alloc: Global, value: &Value) -> Result<Option<Feature>, ReadError>
-    ensures { Gives (λ o. o) result (optional goal_of key.Goal (view value.now)) }
+fn goal_at(alloc: Global, value: &Value<'_>) -> Result<Option<Feature>, ReadError>
+    ensures { Gives (λ o. o) result (optional goal_of key.Goal (seen value.now)) }
 {
     match given(value, Key::Goal) {
         None => Ok(None),
@@ -45,29 +47,30 @@ fn goal_at(alloc: Global, value: &Value) -> Result<Option<Feature>, ReadError>
     }
 }
 
-fn rules_at(alloc: Global, value: &Value) -> Result<Vec<usize>, ReadError>
-    ensures { Gives (λ v. v.items) result (required rules_of key.Rules (view value.now)) }
+fn rules_at(alloc: Global, value: &Value<'_>) -> Result<Vec<usize>, ReadError>
+    ensures { Gives (λ v. v.items) result (required rules_of key.Rules (seen value.now)) }
 {
-    match given(value, Key::Rules).and_then(Value::as_array) {
+    match given(value, Key::Rules).and_then(as_array) {
         None => Err(ReadError::at(Key::Rules)),
         Some(values) => each_rule(alloc, values, Key::Rules),
     }
 }
 
-fn each_rule(alloc: Global, values: &[Value], key: Key) -> Result<Vec<usize>, ReadError>
-    ensures { Gives (λ v. v.items) result (each (rule_of key) (items_view values.now)) }
+fn each_rule(alloc: Global, values: &[Value<'_>], key: Key) -> Result<Vec<usize>, ReadError>
+    ensures { Gives (λ v. v.items) result (each (rule_of key) (seen_items values.now)) }
 {
-    let mut rules = Vec::new(alloc);
+    let mut rules = Vec::with_capacity(alloc, values.len())?;
     for value in values {
         rules.push(rule_of(value, key)?)?;
     }
     Ok(rules)
 }
 
-fn rule_of(value: &Value, key: Key) -> Result<usize, ReadError>
-    ensures { Gives (λ n. n) result (rule_of key (view value.now)) }
+fn rule_of(value: &Value<'_>, key: Key) -> Result<usize, ReadError>
+    ensures { Gives (λ n. n) result (rule_of key (seen value.now)) }
 {
-    match value.as_u64() {
+    let number = value.as_number().and_then(number_of);
+    match number.and_then(|number| number.as_u64()) {
         None => Err(ReadError::at(key)),
         Some(n) => Ok(n as usize),
     }

@@ -1,5 +1,5 @@
 ghost use Rattle.std.specs.Prelude.{◌≡◌, IfOk};
-ghost use Rattle.serde_json.specs.View.{view, items_view};
+ghost use Rattle.record_files.specs.Trees.{seen, seen_items};
 ghost use Rattle.workspace_record.specs.LabelView.{label_view};
 ghost use Rattle.record_files.specs.declared.key.Key.TheVariants as key;
 ghost use Rattle.record_files.specs.Files.{ReadsFile};
@@ -11,7 +11,7 @@ use crate::error::ReadError;
 use crate::file::value_of;
 use crate::key::Key;
 use crate::object::{given, object_of, objects_or_none, text_at};
-use serde_json::Value;
+use json::{Scratch, Value};
 use std::alloc::{AllocError, Global};
 use workspace_record::{Feature, FeatureChoice, Label, Standard};
 
@@ -24,21 +24,24 @@ use workspace_record::{Feature, FeatureChoice, Label, Standard};
 pub fn read_choice(alloc: Global, bytes: &[u8]) -> Result<FeatureChoice, ReadError>
     ensures reads { ReadsFile (λ c. c) choice_file bytes.now result }
 {
-    let value = value_of(alloc, bytes)?;
+    let mut scratch = Scratch::new(alloc);
+    let value = value_of(alloc, bytes, &mut scratch)?;
     choice_of(alloc, object_of(&value, Key::File)?)
 }
 
 #[tactic(auto, unfolding(crate::specs::Choices::choice_of))]
-fn choice_of(alloc: Global, value: &Value) -> Result<FeatureChoice, ReadError>
-    ensures { Gives (λ c. c) result (choice_of (view value.now)) }
+fn choice_of(alloc: Global, value: &Value<'_>) -> Result<FeatureChoice, ReadError>
+    ensures { Gives (λ c. c) result (choice_of (seen value.now)) }
 {
     let standard = standard_at(value)?;
-    let extras = extras_of(alloc, objects_or_none(value, Key::Extras)?)?;
+    let none = Vec::new(alloc);
+    let extra_values = objects_or_none(value, Key::Extras, &none)?;
+    let extras = extras_of(alloc, extra_values)?;
     Ok(FeatureChoice { standard, extras })
 }
 
-fn standard_at(value: &Value) -> Result<Standard, ReadError>
-    ensures { Gives (λ s. s) result (otherwise Standard.Default standard_of key.Standard (view value.now)) }
+fn standard_at(value: &Value<'_>) -> Result<Standard, ReadError>
+    ensures { Gives (λ s. s) result (otherwise Standard.Default standard_of key.Standard (seen value.now)) }
 {
     let Some(value) = given(value, Key::Standard) else {
         return Ok(Standard::Default);
@@ -58,10 +61,10 @@ fn standard_named(name: &str) -> Option<Standard>
     }
 }
 
-fn extras_of(alloc: Global, values: &[Value]) -> Result<Vec<Feature>, ReadError>
-    ensures { Gives (λ v. v.items) result (each extra_of (items_view values.now)) }
+fn extras_of(alloc: Global, values: &[Value<'_>]) -> Result<Vec<Feature>, ReadError>
+    ensures { Gives (λ v. v.items) result (each extra_of (seen_items values.now)) }
 {
-    let mut extras = Vec::new(alloc);
+    let mut extras = Vec::with_capacity(alloc, values.len())?;
     for value in values {
         extras.push(extra_of(alloc, value)?)?;
     }
@@ -70,8 +73,8 @@ fn extras_of(alloc: Global, values: &[Value]) -> Result<Vec<Feature>, ReadError>
 
 /// A feature of a package: the package's id, and the feature's text.
 #[tactic(auto, unfolding(crate::specs::Choices::extra_of))]
-pub(crate) fn extra_of(alloc: Global, value: &Value) -> Result<Feature, ReadError>
-    ensures { Gives (λ f. f) result (extra_of (view value.now)) }
+pub(crate) fn extra_of(alloc: Global, value: &Value<'_>) -> Result<Feature, ReadError>
+    ensures { Gives (λ f. f) result (extra_of (seen value.now)) }
 {
     let package = text_at(alloc, value, Key::Package)?;
     let feature = text_at(alloc, value, Key::Feature)?;

@@ -1,7 +1,7 @@
 //! The details of a package, which are read in three parts.
 
 ghost use Rattle.std.specs.Prelude.{◌≡◌};
-ghost use Rattle.serde_json.specs.View.{view};
+ghost use Rattle.record_files.specs.Trees.{seen};
 ghost use Rattle.record_files.specs.Outcomes.{Gives};
 ghost use Rattle.record_files.specs.Details.{origin_of, description_of, settings_of, joined, details_of};
 
@@ -10,13 +10,13 @@ use crate::error::ReadError;
 use crate::key::Key;
 use crate::metadata::metadata_at;
 use crate::object::{optional_text_at, optional_texts_at, text_or, texts_at};
-use serde_json::Value;
+use json::Value;
 use std::alloc::Global;
 use std::marker::Model;
 use workspace_record::PackageInfo;
 
-pub(crate) fn details_of(alloc: Global, value: &Value) -> Result<PackageInfo, ReadError>
-    ensures { Gives (λ p. p) result (details_of (view value.now)) }
+pub(crate) fn details_of(alloc: Global, value: &Value<'_>) -> Result<PackageInfo, ReadError>
+    ensures { Gives (λ p. p) result (details_of (seen value.now)) }
 {
     let origin = origin_of(alloc, value)?;
     let description = description_of(alloc, value)?;
@@ -79,8 +79,8 @@ impl Model for Origin {
 }
 
 #[tactic(auto, unfolding(crate::specs::Details::origin_of))]
-fn origin_of(alloc: Global, value: &Value) -> Result<Origin, ReadError>
-    ensures { Gives (λ x. x) result (origin_of (view value.now)) }
+fn origin_of(alloc: Global, value: &Value<'_>) -> Result<Origin, ReadError>
+    ensures { Gives (λ x. x) result (origin_of (seen value.now)) }
 {
     let source = optional_text_at(alloc, value, Key::Source)?;
     let path = optional_text_at(alloc, value, Key::Path)?;
@@ -130,8 +130,8 @@ impl Model for Description {
 }
 
 #[tactic(auto, unfolding(crate::specs::Details::description_of))]
-fn description_of(alloc: Global, value: &Value) -> Result<Description, ReadError>
-    ensures { Gives (λ x. x) result (description_of (view value.now)) }
+fn description_of(alloc: Global, value: &Value<'_>) -> Result<Description, ReadError>
+    ensures { Gives (λ x. x) result (description_of (seen value.now)) }
 {
     let description = optional_text_at(alloc, value, Key::Description)?;
     let license = optional_text_at(alloc, value, Key::License)?;
@@ -177,8 +177,8 @@ impl Model for Settings {
 }
 
 #[tactic(auto, unfolding(crate::specs::Details::settings_of))]
-fn settings_of(alloc: Global, value: &Value) -> Result<Settings, ReadError>
-    ensures { Gives (λ x. x) result (settings_of (view value.now)) }
+fn settings_of(alloc: Global, value: &Value<'_>) -> Result<Settings, ReadError>
+    ensures { Gives (λ x. x) result (settings_of (seen value.now)) }
 {
     let links = optional_text_at(alloc, value, Key::Links)?;
     let default_run = optional_text_at(alloc, value, Key::DefaultRun)?;

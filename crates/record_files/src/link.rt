@@ -1,5 +1,5 @@
 ghost use Rattle.std.specs.Prelude.{◌≡◌};
-ghost use Rattle.serde_json.specs.View.{view, items_view};
+ghost use Rattle.record_files.specs.Trees.{seen, seen_items};
 ghost use Rattle.record_files.specs.declared.key.Key.TheVariants as key;
 ghost use Rattle.record_files.specs.Outcomes.{Gives};
 ghost use Rattle.record_files.specs.Values.{each, otherwise};
@@ -8,17 +8,17 @@ ghost use Rattle.record_files.specs.Links.{line_kind, line_kind_of, line_of, lin
 use crate::error::ReadError;
 use crate::key::Key;
 use crate::object::{flag_or, given, objects_at, optional_text_at, text_at, text_or, texts_at};
-use serde_json::Value;
+use json::Value;
 use std::alloc::Global;
 use workspace_record::{LineKind, LineRecord, LinkRecord};
 
 /// The requirement of a link that gives none.
 const ANY_VERSION: &str = "*";
 
-pub(crate) fn links_of(alloc: Global, values: &[Value]) -> Result<Vec<LinkRecord>, ReadError>
-    ensures { Gives (λ v. v.items) result (each link_of (items_view values.now)) }
+pub(crate) fn links_of(alloc: Global, values: &[Value<'_>]) -> Result<Vec<LinkRecord>, ReadError>
+    ensures { Gives (λ v. v.items) result (each link_of (seen_items values.now)) }
 {
-    let mut links = Vec::new(alloc);
+    let mut links = Vec::with_capacity(alloc, values.len())?;
     for value in values {
         links.push(link_of(alloc, value)?)?;
     }
@@ -26,8 +26,8 @@ pub(crate) fn links_of(alloc: Global, values: &[Value]) -> Result<Vec<LinkRecord
 }
 
 #[tactic(auto, unfolding(crate::specs::Links::link_of))]
-fn link_of(alloc: Global, value: &Value) -> Result<LinkRecord, ReadError>
-    ensures { Gives (λ l. l) result (link_of (view value.now)) }
+fn link_of(alloc: Global, value: &Value<'_>) -> Result<LinkRecord, ReadError>
+    ensures { Gives (λ l. l) result (link_of (seen value.now)) }
 {
     let from = text_at(alloc, value, Key::From)?;
     let to = text_at(alloc, value, Key::To)?;
@@ -47,10 +47,10 @@ fn link_of(alloc: Global, value: &Value) -> Result<LinkRecord, ReadError>
     })
 }
 
-fn lines_of(alloc: Global, values: &[Value]) -> Result<Vec<LineRecord>, ReadError>
-    ensures { Gives (λ v. v.items) result (each line_of (items_view values.now)) }
+fn lines_of(alloc: Global, values: &[Value<'_>]) -> Result<Vec<LineRecord>, ReadError>
+    ensures { Gives (λ v. v.items) result (each line_of (seen_items values.now)) }
 {
-    let mut lines = Vec::new(alloc);
+    let mut lines = Vec::with_capacity(alloc, values.len())?;
     for value in values {
         lines.push(line_of(alloc, value)?)?;
     }
@@ -58,8 +58,8 @@ fn lines_of(alloc: Global, values: &[Value]) -> Result<Vec<LineRecord>, ReadErro
 }
 
 #[tactic(auto, unfolding(crate::specs::Links::line_of))]
-fn line_of(alloc: Global, value: &Value) -> Result<LineRecord, ReadError>
-    ensures { Gives (λ l. l) result (line_of (view value.now)) }
+fn line_of(alloc: Global, value: &Value<'_>) -> Result<LineRecord, ReadError>
+    ensures { Gives (λ l. l) result (line_of (seen value.now)) }
 {
     let kind = line_kind_at(value)?;
     let optional = flag_or(value, Key::Optional, false)?;
@@ -75,8 +75,8 @@ fn line_of(alloc: Global, value: &Value) -> Result<LineRecord, ReadError>
     })
 }
 
-fn line_kind_at(value: &Value) -> Result<LineKind, ReadError>
-    ensures { Gives (λ k. k) result (otherwise LineKind.Normal line_kind_of key.Kind (view value.now)) }
+fn line_kind_at(value: &Value<'_>) -> Result<LineKind, ReadError>
+    ensures { Gives (λ k. k) result (otherwise LineKind.Normal line_kind_of key.Kind (seen value.now)) }
 {
     let Some(value) = given(value, Key::Kind) else {
         return Ok(LineKind::Normal);

@@ -1,15 +1,16 @@
 ghost use Rattle.std.specs.Prelude.{◌≡◌, map};
-ghost use Rattle.serde_json.specs.View.{view, members_view};
 ghost use Rattle.record_files.specs.Files.{ReadsFile};
 ghost use Rattle.record_files.specs.Outcomes.{Gives};
+ghost use Rattle.record_files.specs.Trees.{seen, lent_members};
 ghost use Rattle.record_files.specs.Listings.{test_names, listing, listing_of, each_listing, listings_file};
 
 use crate::error::ReadError;
 use crate::field::Field;
 use crate::file::value_of;
 use crate::key::Key;
+use crate::lent::{Lent, members_of};
 use crate::object::as_texts;
-use serde_json::{Map, Value};
+use json::{Scratch, Value};
 use std::alloc::Global;
 use std::collections::BTreeMap;
 
@@ -22,30 +23,31 @@ pub fn read_listings(
 ) -> Result<BTreeMap<String, Vec<String>>, ReadError>
     ensures reads { ReadsFile (λ m. map listing m.entries) listings_file bytes.now result }
 {
-    let value = value_of(alloc, bytes)?;
-    match value.as_object() {
+    let mut scratch = Scratch::new(alloc);
+    let value = value_of(alloc, bytes, &mut scratch)?;
+    match members_of(alloc, &value)? {
         None => Err(ReadError::at(Key::File)),
-        Some(members) => listings_of(alloc, members),
+        Some(members) => listings_of(alloc, &members),
     }
 }
 
 fn listings_of(
     alloc: Global,
-    members: &Map<String, Value>,
+    members: &Lent<'_, '_>,
 ) -> Result<BTreeMap<String, Vec<String>>, ReadError>
-    ensures { Gives (λ m. map listing m.entries) result (each_listing (members_view members.now.entries)) }
+    ensures { Gives (λ m. map listing m.entries) result (each_listing (lent_members members.now.entries)) }
 {
     let mut listings = BTreeMap::new(alloc);
     for (id, value) in members.iter() {
-        let tests = listing_of(alloc, id.as_str(), value)?;
-        let id = String::from_str(alloc, id.as_str())?;
+        let tests = listing_of(alloc, id, value)?;
+        let id = String::from_str(alloc, id)?;
         drop(listings.insert(id, tests)?);
     }
     Ok(listings)
 }
 
-fn listing_of(alloc: Global, id: &str, value: &Value) -> Result<Vec<String>, ReadError>
-    ensures { Gives test_names result (listing_of id.now (view value.now)) }
+fn listing_of(alloc: Global, id: &str, value: &Value<'_>) -> Result<Vec<String>, ReadError>
+    ensures { Gives test_names result (listing_of id.now (seen value.now)) }
 {
     match as_texts(alloc, value)? {
         Some(tests) => Ok(tests),

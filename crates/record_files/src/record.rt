@@ -1,5 +1,5 @@
 ghost use Rattle.std.specs.Prelude.{◌≡◌};
-ghost use Rattle.serde_json.specs.View.{view};
+ghost use Rattle.record_files.specs.Trees.{seen};
 ghost use Rattle.record_files.specs.Files.{ReadsFile};
 ghost use Rattle.record_files.specs.Outcomes.{Gives};
 ghost use Rattle.record_files.specs.Records.{record_of, record_file};
@@ -11,7 +11,7 @@ use crate::link::links_of;
 use crate::object::{object_at, object_of, objects_at, objects_or_none, optional_text_at};
 use crate::package::packages_of;
 use crate::workspace::{groups_of, workspace_of};
-use serde_json::Value;
+use json::{Scratch, Value};
 use std::alloc::Global;
 use workspace_record::WorkspaceRecord;
 
@@ -26,18 +26,20 @@ use workspace_record::WorkspaceRecord;
 pub fn read_record(alloc: Global, bytes: &[u8]) -> Result<WorkspaceRecord, ReadError>
     ensures reads { ReadsFile (λ w. w) record_file bytes.now result }
 {
-    let value = value_of(alloc, bytes)?;
+    let mut scratch = Scratch::new(alloc);
+    let value = value_of(alloc, bytes, &mut scratch)?;
     record_of(alloc, object_of(&value, Key::File)?)
 }
 
 #[tactic(auto, unfolding(crate::specs::Records::record_of))]
-fn record_of(alloc: Global, value: &Value) -> Result<WorkspaceRecord, ReadError>
-    ensures { Gives (λ w. w) result (record_of (view value.now)) }
+fn record_of(alloc: Global, value: &Value<'_>) -> Result<WorkspaceRecord, ReadError>
+    ensures { Gives (λ w. w) result (record_of (seen value.now)) }
 {
+    let none = Vec::new(alloc);
     let package_values = objects_at(value, Key::Packages)?;
-    let link_values = objects_or_none(value, Key::Links)?;
+    let link_values = objects_or_none(&*value, Key::Links, &none)?;
     let workspace_value = object_at(value, Key::Workspace)?;
-    let group_values = objects_or_none(value, Key::Groups)?;
+    let group_values = objects_or_none(&*value, Key::Groups, &none)?;
     let default_filter = optional_text_at(alloc, value, Key::DefaultFilter)?;
     let packages = packages_of(alloc, package_values)?;
     let links = links_of(alloc, link_values)?;

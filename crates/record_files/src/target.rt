@@ -1,5 +1,5 @@
 ghost use Rattle.std.specs.Prelude.{◌≡◌};
-ghost use Rattle.serde_json.specs.View.{view, items_view};
+ghost use Rattle.record_files.specs.Trees.{seen, seen_items};
 ghost use Rattle.record_files.specs.declared.key.Key.TheVariants as key;
 ghost use Rattle.record_files.specs.Outcomes.{Gives};
 ghost use Rattle.record_files.specs.Values.{each, required};
@@ -9,14 +9,17 @@ use crate::edition::DEFAULT_EDITION;
 use crate::error::ReadError;
 use crate::key::Key;
 use crate::object::{flag_or, given, text_at, text_or, texts_at};
-use serde_json::Value;
+use json::Value;
 use std::alloc::Global;
 use workspace_record::{TargetInfo, TargetKind, TargetRecord};
 
-pub(crate) fn targets_of(alloc: Global, values: &[Value]) -> Result<Vec<TargetRecord>, ReadError>
-    ensures { Gives (λ v. v.items) result (each target_of (items_view values.now)) }
+pub(crate) fn targets_of(
+    alloc: Global,
+    values: &[Value<'_>],
+) -> Result<Vec<TargetRecord>, ReadError>
+    ensures { Gives (λ v. v.items) result (each target_of (seen_items values.now)) }
 {
-    let mut targets = Vec::new(alloc);
+    let mut targets = Vec::with_capacity(alloc, values.len())?;
     for value in values {
         targets.push(target_of(alloc, value)?)?;
     }
@@ -24,8 +27,8 @@ pub(crate) fn targets_of(alloc: Global, values: &[Value]) -> Result<Vec<TargetRe
 }
 
 #[tactic(auto, unfolding(crate::specs::Packages::target_of))]
-fn target_of(alloc: Global, value: &Value) -> Result<TargetRecord, ReadError>
-    ensures { Gives (λ t. t) result (target_of (view value.now)) }
+fn target_of(alloc: Global, value: &Value<'_>) -> Result<TargetRecord, ReadError>
+    ensures { Gives (λ t. t) result (target_of (seen value.now)) }
 {
     let kind = target_kind_at(value)?;
     let name = text_at(alloc, value, Key::Name)?;
@@ -52,8 +55,8 @@ fn target_of(alloc: Global, value: &Value) -> Result<TargetRecord, ReadError>
     })
 }
 
-fn target_kind_at(value: &Value) -> Result<TargetKind, ReadError>
-    ensures { Gives (λ k. k) result (required target_kind_of key.Kind (view value.now)) }
+fn target_kind_at(value: &Value<'_>) -> Result<TargetKind, ReadError>
+    ensures { Gives (λ k. k) result (required target_kind_of key.Kind (seen value.now)) }
 {
     let name = given(value, Key::Kind).and_then(Value::as_str);
     let kind = name.and_then(target_kind);

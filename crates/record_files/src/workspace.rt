@@ -1,5 +1,5 @@
 ghost use Rattle.std.specs.Prelude.{◌≡◌};
-ghost use Rattle.serde_json.specs.View.{view, items_view};
+ghost use Rattle.record_files.specs.Trees.{seen, seen_items};
 ghost use Rattle.record_files.specs.Outcomes.{Gives};
 ghost use Rattle.record_files.specs.Values.{each};
 ghost use Rattle.record_files.specs.Workspaces.{member_of, workspace_of, group_of};
@@ -8,7 +8,7 @@ use crate::error::ReadError;
 use crate::key::Key;
 use crate::metadata::metadata_at;
 use crate::object::{objects_at, optional_text_at, text_at, text_or, texts_at};
-use serde_json::Value;
+use json::Value;
 use std::alloc::Global;
 use workspace_record::{GroupRecord, MemberRecord, WorkspaceInfo};
 
@@ -16,8 +16,8 @@ use workspace_record::{GroupRecord, MemberRecord, WorkspaceInfo};
 const DEFAULT_TARGET_DIRECTORY: &str = "target";
 
 #[tactic(auto, unfolding(crate::specs::Workspaces::workspace_of))]
-pub(crate) fn workspace_of(alloc: Global, value: &Value) -> Result<WorkspaceInfo, ReadError>
-    ensures { Gives (λ w. w) result (workspace_of (view value.now)) }
+pub(crate) fn workspace_of(alloc: Global, value: &Value<'_>) -> Result<WorkspaceInfo, ReadError>
+    ensures { Gives (λ w. w) result (workspace_of (seen value.now)) }
 {
     let root = text_or(alloc, value, Key::Root, "")?;
     let target_directory = text_or(alloc, value, Key::TargetDirectory, DEFAULT_TARGET_DIRECTORY)?;
@@ -35,10 +35,10 @@ pub(crate) fn workspace_of(alloc: Global, value: &Value) -> Result<WorkspaceInfo
     })
 }
 
-fn members_of(alloc: Global, values: &[Value]) -> Result<Vec<MemberRecord>, ReadError>
-    ensures { Gives (λ v. v.items) result (each member_of (items_view values.now)) }
+fn members_of(alloc: Global, values: &[Value<'_>]) -> Result<Vec<MemberRecord>, ReadError>
+    ensures { Gives (λ v. v.items) result (each member_of (seen_items values.now)) }
 {
-    let mut members = Vec::new(alloc);
+    let mut members = Vec::with_capacity(alloc, values.len())?;
     for value in values {
         members.push(member_of(alloc, value)?)?;
     }
@@ -46,18 +46,18 @@ fn members_of(alloc: Global, values: &[Value]) -> Result<Vec<MemberRecord>, Read
 }
 
 #[tactic(auto, unfolding(crate::specs::Workspaces::member_of))]
-fn member_of(alloc: Global, value: &Value) -> Result<MemberRecord, ReadError>
-    ensures { Gives (λ m. m) result (member_of (view value.now)) }
+fn member_of(alloc: Global, value: &Value<'_>) -> Result<MemberRecord, ReadError>
+    ensures { Gives (λ m. m) result (member_of (seen value.now)) }
 {
     let package = text_at(alloc, value, Key::Package)?;
     let path = text_at(alloc, value, Key::Path)?;
     Ok(MemberRecord { package, path })
 }
 
-pub(crate) fn groups_of(alloc: Global, values: &[Value]) -> Result<Vec<GroupRecord>, ReadError>
-    ensures { Gives (λ v. v.items) result (each group_of (items_view values.now)) }
+pub(crate) fn groups_of(alloc: Global, values: &[Value<'_>]) -> Result<Vec<GroupRecord>, ReadError>
+    ensures { Gives (λ v. v.items) result (each group_of (seen_items values.now)) }
 {
-    let mut groups = Vec::new(alloc);
+    let mut groups = Vec::with_capacity(alloc, values.len())?;
     for value in values {
         groups.push(group_of(alloc, value)?)?;
     }
@@ -65,8 +65,8 @@ pub(crate) fn groups_of(alloc: Global, values: &[Value]) -> Result<Vec<GroupReco
 }
 
 #[tactic(auto, unfolding(crate::specs::Workspaces::group_of))]
-fn group_of(alloc: Global, value: &Value) -> Result<GroupRecord, ReadError>
-    ensures { Gives (λ g. g) result (group_of (view value.now)) }
+fn group_of(alloc: Global, value: &Value<'_>) -> Result<GroupRecord, ReadError>
+    ensures { Gives (λ g. g) result (group_of (seen value.now)) }
 {
     let name = text_at(alloc, value, Key::Name)?;
     let filter = text_at(alloc, value, Key::Filter)?;

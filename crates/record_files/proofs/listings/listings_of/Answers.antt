@@ -14,5 +14,5 @@ pub loop-id-preserved : goal.loop-id-preserved
 loop-id-preserved c =
     let steps : c.loop-id.id-iterator ≡ (c.in-Some.id.now, c.in-Some.value.now) ∷ c.next.new.self = c.in-Some.ensures.steps in
     let kept : Kept test_names listing_of c.args.members.now.entries c.loop-id.listings.entries c.loop-id.id-iterator = c.loop-id.invariant in
-    goes_on _ _ _ _ _ c.in-Some.id.now c.in-Some.value.now _ c.in_ok-id.id c.in_ok-tests.tests (rw steps at kept) (c.in_ok-id.ensures.ok ∙ c.as_str-in-loop-id.ensures.value) (rw c.as_str.ensures.value at c.in_ok-tests.ensures)
+    goes_on _ _ _ _ _ c.in-Some.id.now c.in-Some.value.now _ c.in_ok-id.id c.in_ok-tests.tests (rw steps at kept) c.in_ok-id.ensures.ok c.in_ok-tests.ensures
     (λ sorted. c.in_ok-insert.ensures.entries ∙ insert_last _ _ _ _ sorted)

@@ -15,7 +15,7 @@ pub loop-spec-preserved : goal.loop-spec-preserved
 loop-spec-preserved c =
     let steps : c.loop-spec.spec-iterator ≡ (c.in-Some.spec.now, c.in-Some.value.now) ∷ c.next.new.self = c.in-Some.ensures.steps in
     let kept : Kept (λ b. b) answer_of c.args.members.now.entries c.loop-spec.answers.entries c.loop-spec.spec-iterator = c.loop-spec.invariant in
-    goes_on _ _ _ _ _ c.in-Some.spec.now c.in-Some.value.now _ c.in_ok-spec.spec c.in_ok-answer.answer (rw steps at kept) (c.in_ok-spec.ensures.ok ∙ c.as_str.ensures.value) c.in_ok-answer.ensures
+    goes_on _ _ _ _ _ c.in-Some.spec.now c.in-Some.value.now _ c.in_ok-spec.spec c.in_ok-answer.answer (rw steps at kept) c.in_ok-spec.ensures.ok c.in_ok-answer.ensures
     (λ sorted. c.in_ok-insert.ensures.entries ∙ insert_new _ _ _ _ sorted)
 
 pub returns-clause-ascending : goal.returns-clause-ascending

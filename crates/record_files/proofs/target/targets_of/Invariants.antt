@@ -1,5 +1,5 @@
 use Rattle.std.proofs.Common.{◌≡◌}
-use Rattle.serde_json.specs.View.{items_view}
+use Rattle.record_files.specs.Trees.{seen_items}
 use Rattle.record_files.specs.Values.{each}
 use Rattle.record_files.specs.Packages.{target_of}
 use Rattle.record_files.proofs.Lists.{with_front, from_value}
@@ -7,4 +7,4 @@ use Rattle.record_files.proofs.target.targets_of.Given as goal
 
 abbrev pub invariant-loop-value : goal.invariant-loop-value
 invariant-loop-value l =
-    with_front l.targets.items (from_value target_of l.values l.value-index) ≡ each target_of (items_view l.values)
+    with_front l.targets.items (from_value target_of l.values l.value-index) ≡ each target_of (seen_items l.values)
