@@ -67,3 +67,20 @@ module _ {T : Type 0} {eq : T → T → Bool} (laws : IsEquivalence eq) where
   first_next f xs i d lt old new before inserted =
       let x = get_or xs i d in
       inserted ∙ ap (λ ks. insert_key eq ks (f x)) before ∙ sym (first_of_each-push (map f (take i xs)) (f x)) ∙ ap (first_of_each eq) (sym (map-take_more f xs i d lt))
+
+-- one element more in two lists that are the same
+pub inserted_both : {T : Type 0} (eq : T → T → Bool) (old both new grown : List T) (x y : T) → both ≡ old → x ≡ y → new ≡ insert_key eq old x → grown ≡ cond (list_any (eq x) old) both (both ++ y ∷ []) → grown ≡ new
+inserted_both eq old both new grown x y same is inserted pushed =
+    pushed ∙ (λ i. cond (list_any (eq x) old) (same i) (same i ++ sym is i ∷ [])) ∙ sym inserted
+
+-- a list grows by an element that was not found
+pub grown_by : {X : Type 0} (old new : List X) (x : X) (added seen found : Bool) → seen ≡ found → added ≡ not found → added ≡ true → new ≡ old ++ x ∷ [] → new ≡ cond seen old (old ++ x ∷ [])
+grown_by old new x added true true same by new_one is = absurd (false≢true (sym by ∙ new_one))
+grown_by old new x added true false same by new_one is = absurd (false≢true (sym same))
+grown_by old new x added false found same by new_one is = is
+
+-- and stays as it is where the element was found
+pub stays_by : {X : Type 0} (old : List X) (x : X) (added seen found : Bool) → seen ≡ found → added ≡ not found → added ≡ false → old ≡ cond seen old (old ++ x ∷ [])
+stays_by old x added true found same by none = refl
+stays_by old x added false true same by none = absurd (false≢true same)
+stays_by old x added false false same by none = absurd (false≢true (sym none ∙ by))

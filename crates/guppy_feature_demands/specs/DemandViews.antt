@@ -1,5 +1,5 @@
 use Rattle.guppy_feature_demands.specs.Demands.{FormValue, FeatureToBase, NamedFeature, NamedFeatureDepColon, StrongSlash, WeakSlash, DependenciesSection, DemandValue, NumberedValue}
-use Rattle.guppy_feature_demands.specs.NameViews.{name_view}
+use Rattle.guppy_feature_demands.specs.HashedViews.{hashed_view}
 use Rattle.guppy_feature_demands.specs.declared.demand.Form.{Form}
 use Rattle.guppy_feature_demands.specs.declared.demand.Form.TheVariants as code
 use Rattle.guppy_feature_demands.specs.declared.demand.Demand.{Demand}
@@ -16,7 +16,7 @@ form_view code.DependenciesSection = DependenciesSection
 
 -- what contracts see of a demand
 abbrev pub demand_view : Demand → DemandValue
-demand_view d = record { from = name_view d.from; to = name_view d.to; form = form_view d.form; line = d.line }
+demand_view d = record { from = hashed_view d.from; to = hashed_view d.to; form = form_view d.form; line = d.line }
 
 -- what contracts see of a demand between nodes
 abbrev pub numbered_view : NumberedDemand → NumberedValue

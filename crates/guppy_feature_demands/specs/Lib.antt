@@ -5,6 +5,8 @@ pub mod Nodes
 pub mod Numbered
 pub mod NumberedViews
 pub mod Demands
+pub mod IdHashes
+pub mod HashedViews
 pub mod NameViews
 pub mod DemandViews
 pub mod Warnings

@@ -1,6 +1,6 @@
 //! What leads from one feature to another.
 
-use crate::feature_name::FeatureName;
+use crate::hashed_name::HashedName;
 
 /// Why one feature leads to another. An entry with a slash names a dependency.
 #[derive(Clone, Copy, Debug)]
@@ -17,8 +17,8 @@ pub enum Form<'g> {
 /// its own in the link.
 #[derive(Clone, Copy)]
 pub(crate) struct Demand<'g> {
-    pub from: FeatureName<'g>,
-    pub to: FeatureName<'g>,
+    pub from: HashedName<'g>,
+    pub to: HashedName<'g>,
     pub form: Form<'g>,
     pub line: Option<(usize, usize)>,
 }

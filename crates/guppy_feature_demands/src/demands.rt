@@ -2,25 +2,24 @@
 
 ghost use Rattle.std.specs.Prelude.{◌≡◌, ◌∷◌, ◌++◌, [], IfOk, OnOk, map, string_bytes};
 ghost use Rattle.std.specs.List.{flat_map};
-ghost use Rattle.guppy_feature_ids.specs.IdViews.{id_view};
 ghost use Rattle.guppy_feature_demands.specs.Demands.{base_demands, default_of, dependency_demands, leads_by, line_demands, line_start, link_demands, slash_demands, DependenciesSection, leads};
 ghost use Rattle.guppy_feature_demands.specs.DemandViews.{demand_view, form_view};
 ghost use Rattle.guppy_feature_demands.specs.EntriesAt.{at_demands};
 ghost use Rattle.guppy_feature_demands.specs.EntryAtView.{entry_at_view};
-ghost use Rattle.guppy_feature_demands.specs.NameViews.{name_view};
+ghost use Rattle.guppy_feature_demands.specs.HashedViews.{hashed_view};
 ghost use Rattle.guppy_feature_demands.specs.Nodes.{named_of};
 ghost use Rattle.guppy_feature_demands.specs.Numbered.{links_named, numbered};
-ghost use Rattle.guppy_feature_demands.specs.NumberedViews.{line_view, link_view};
+ghost use Rattle.guppy_feature_demands.specs.NumberedViews.{ends_view, line_view, link_view};
 
 use crate::demand::{Demand, Form};
 use crate::entries::EntryAt;
 use crate::entry::Entry;
-use crate::feature_name::FeatureName;
-use crate::link_names::LinkName;
+use crate::hashed_id::HashedId;
+use crate::hashed_name::HashedName;
+use crate::link_ends::LinkEnds;
 use crate::link_table::LinkTable;
 use crate::nodes::NodeTable;
 use crate::numbered::{LineAt, LinkAt};
-use guppy_feature_ids::FeatureId;
 use guppy_row_parts::LineRow;
 use std::alloc::{AllocError, Global};
 
@@ -34,34 +33,30 @@ pub(crate) fn demands_of<'g>(
     ensures { IfOk result (λ v. map demand_view v.items ≡ base_demands nodes.now ++ (flat_map (at_demands nodes.now links.now) (map entry_at_view entries.now) ++ flat_map link_demands links.now)) }
 {
     let mut demands: Vec<Demand<'g>> = Vec::new(alloc);
-    push_base_demands(nodes.ids(), &mut demands)?;
+    push_base_demands(nodes.names(), &mut demands)?;
     push_entries(entries, nodes, links, &mut demands)?;
     push_links(links.all(), &mut demands)?;
     Ok(demands)
 }
 
 fn push_base_demands<'g>(
-    ids: &[FeatureId<'g>],
+    names: &[HashedName<'g>],
     demands: &mut Vec<Demand<'g>>,
 ) -> Result<(), AllocError>
-    ensures { OnOk result (map demand_view demands.new.items ≡ map demand_view demands.old.items ++ base_demands (map id_view ids.now)) }
+    ensures { OnOk result (map demand_view demands.new.items ≡ map demand_view demands.old.items ++ base_demands (map hashed_view names.now)) }
 {
-    for id in ids {
-        demands.push(base_demand(*id))?;
+    for name in names {
+        demands.push(base_demand(*name))?;
     }
     Ok(())
 }
 
-fn base_demand<'g>(id: FeatureId<'g>) -> Demand<'g>
-    ensures { demand_view result ∷ [] ≡ base_demands (id_view id.entry ∷ []) }
+fn base_demand<'g>(name: HashedName<'g>) -> Demand<'g>
+    ensures { demand_view result ∷ [] ≡ base_demands (hashed_view name.entry ∷ []) }
 {
-    let package_id = id.package_id().repr();
     Demand {
-        from: FeatureName {
-            package_id,
-            label: id.label(),
-        },
-        to: FeatureName::base(package_id),
+        from: name,
+        to: HashedName::base(name.id),
         form: Form::FeatureToBase,
         line: None,
     }
@@ -89,15 +84,15 @@ fn push_entry<'g>(
 ) -> Result<(), AllocError>
     ensures { OnOk result (map demand_view demands.new.items ≡ map demand_view demands.old.items ++ at_demands nodes.now links.now (entry_at_view at.entry)) }
 {
-    let id = at.package_id;
-    let from = FeatureName::named(id, at.feature);
+    let id = at.id;
+    let from = HashedName::named(id, at.feature);
     match at.entry {
         Entry::OwnFeature(name) => {
-            let to = FeatureName::named(id, name);
+            let to = HashedName::named(id, name);
             push_lead(from, to, Form::NamedFeature, demands)
         }
         Entry::Dependency(name) => {
-            let to = FeatureName::dep(id, name);
+            let to = HashedName::dep(id, name);
             push_lead(from, to, Form::NamedFeatureDepColon, demands)
         }
         Entry::Strong(name, feature) => {
@@ -113,12 +108,12 @@ fn push_entry<'g>(
 }
 
 fn push_lead<'g>(
-    from: FeatureName<'g>,
-    to: FeatureName<'g>,
+    from: HashedName<'g>,
+    to: HashedName<'g>,
     form: Form<'g>,
     demands: &mut Vec<Demand<'g>>,
 ) -> Result<(), AllocError>
-    ensures { OnOk result (map demand_view demands.new.items ≡ map demand_view demands.old.items ++ leads (form_view form.entry) (name_view from.entry) (name_view to.entry) ∷ []) }
+    ensures { OnOk result (map demand_view demands.new.items ≡ map demand_view demands.old.items ++ leads (form_view form.entry) (hashed_view from.entry) (hashed_view to.entry) ∷ []) }
 {
     let line = None;
     demands.push(Demand {
@@ -131,50 +126,46 @@ fn push_lead<'g>(
 }
 
 fn push_dependency<'g>(
-    from: FeatureName<'g>,
+    from: HashedName<'g>,
     name: &'g str,
     nodes: &NodeTable<'g>,
     demands: &mut Vec<Demand<'g>>,
 ) -> Result<(), AllocError>
-    ensures { OnOk result (map demand_view demands.new.items ≡ map demand_view demands.old.items ++ dependency_demands nodes.now from.entry.package_id.now (name_view from.entry) name.entry.now) }
+    ensures { OnOk result (map demand_view demands.new.items ≡ map demand_view demands.old.items ++ dependency_demands nodes.now from.entry.id.text.now (hashed_view from.entry) name.entry.now) }
 {
-    let dep = FeatureName::dep(from.package_id, name);
+    let dep = HashedName::dep(from.id, name);
     push_lead(from, dep, Form::NamedFeatureDepColon, demands)?;
-    if nodes.contains(dep) {
-        let to = FeatureName::named(from.package_id, name);
+    if nodes.has(dep) {
+        let to = HashedName::named(from.id, name);
         push_lead(from, to, Form::NamedFeature, demands)?;
     }
     Ok(())
 }
 
 fn push_slash<'g>(
-    from: FeatureName<'g>,
+    from: HashedName<'g>,
     name: &'g str,
     feature: &'g str,
     form: Form<'g>,
     links: &LinkTable<'g>,
     demands: &mut Vec<Demand<'g>>,
 ) -> Result<(), AllocError>
-    ensures { OnOk result (map demand_view demands.new.items ≡ map demand_view demands.old.items ++ flat_map (slash_demands (form_view form.entry) (name_view from.entry) feature.entry.now) (links_named links.now from.entry.package_id.now name.entry.now)) }
+    ensures { OnOk result (map demand_view demands.new.items ≡ map demand_view demands.old.items ++ flat_map (slash_demands (form_view form.entry) (hashed_view from.entry) feature.entry.now) (links_named links.now from.entry.id.text.now name.entry.now)) }
 {
-    let key = LinkName {
-        from: from.package_id,
-        name,
-    };
-    match links.named(key) {
+    match links.named(from.id, name) {
         Some(group) => push_slash_links(from, feature, form, group, demands),
         None => Ok(()),
     }
 }
 
 fn push_slash_links<'g>(
-    from: FeatureName<'g>,
+    from: HashedName<'g>,
     feature: &'g str,
     form: Form<'g>,
     links: &[LinkAt<'g>],
     demands: &mut Vec<Demand<'g>>,
 ) -> Result<(), AllocError>
-    ensures { OnOk result (map demand_view demands.new.items ≡ map demand_view demands.old.items ++ flat_map (slash_demands (form_view form.entry) (name_view from.entry) feature.entry.now) (map link_view links.now)) }
+    ensures { OnOk result (map demand_view demands.new.items ≡ map demand_view demands.old.items ++ flat_map (slash_demands (form_view form.entry) (hashed_view from.entry) feature.entry.now) (map link_view links.now)) }
 {
     for link in links {
         push_slash_link(from, feature, form, *link, demands)?;
@@ -183,28 +174,28 @@ fn push_slash_links<'g>(
 }
 
 fn push_slash_link<'g>(
-    from: FeatureName<'g>,
+    from: HashedName<'g>,
     feature: &'g str,
     form: Form<'g>,
     link: LinkAt<'g>,
     demands: &mut Vec<Demand<'g>>,
 ) -> Result<(), AllocError>
-    ensures { OnOk result (map demand_view demands.new.items ≡ map demand_view demands.old.items ++ slash_demands (form_view form.entry) (name_view from.entry) feature.entry.now (link_view link.entry)) }
+    ensures { OnOk result (map demand_view demands.new.items ≡ map demand_view demands.old.items ++ slash_demands (form_view form.entry) (hashed_view from.entry) feature.entry.now (link_view link.entry)) }
 {
     let row = link.row;
-    let to = FeatureName::named(row.to.as_str(), feature);
+    let to = HashedName::named(HashedId::of(row.to.as_str()), feature);
     push_slash_lines(from, to, form, link.number, &row.lines, demands)
 }
 
 fn push_slash_lines<'g>(
-    from: FeatureName<'g>,
-    to: FeatureName<'g>,
+    from: HashedName<'g>,
+    to: HashedName<'g>,
     form: Form<'g>,
     link: usize,
     lines: &[LineRow],
     demands: &mut Vec<Demand<'g>>,
 ) -> Result<(), AllocError>
-    ensures { OnOk result (map demand_view demands.new.items ≡ map demand_view demands.old.items ++ map (λ line. leads_by (form_view form.entry) (name_view from.entry) (name_view to.entry) (link, line.0)) (numbered lines.now)) }
+    ensures { OnOk result (map demand_view demands.new.items ≡ map demand_view demands.old.items ++ map (λ line. leads_by (form_view form.entry) (hashed_view from.entry) (hashed_view to.entry) (link, line.0)) (numbered lines.now)) }
 {
     for (number, _) in lines.iter().enumerate() {
         push_by_line(from, to, form, (link, number), demands)?;
@@ -213,13 +204,13 @@ fn push_slash_lines<'g>(
 }
 
 fn push_by_line<'g>(
-    from: FeatureName<'g>,
-    to: FeatureName<'g>,
+    from: HashedName<'g>,
+    to: HashedName<'g>,
     form: Form<'g>,
     place: (usize, usize),
     demands: &mut Vec<Demand<'g>>,
 ) -> Result<(), AllocError>
-    ensures { OnOk result (map demand_view demands.new.items ≡ map demand_view demands.old.items ++ leads_by (form_view form.entry) (name_view from.entry) (name_view to.entry) place ∷ []) }
+    ensures { OnOk result (map demand_view demands.new.items ≡ map demand_view demands.old.items ++ leads_by (form_view form.entry) (hashed_view from.entry) (hashed_view to.entry) place ∷ []) }
 {
     let line = Some(place);
     demands.push(Demand {
@@ -231,8 +222,8 @@ fn push_by_line<'g>(
     Ok(())
 }
 
-fn push_links<'g>(links: &[LinkAt<'g>], demands: &mut Vec<Demand<'g>>) -> Result<(), AllocError>
-    ensures { OnOk result (map demand_view demands.new.items ≡ map demand_view demands.old.items ++ flat_map link_demands (map link_view links.now)) }
+fn push_links<'g>(links: &[LinkEnds<'g>], demands: &mut Vec<Demand<'g>>) -> Result<(), AllocError>
+    ensures { OnOk result (map demand_view demands.new.items ≡ map demand_view demands.old.items ++ flat_map link_demands (map ends_view links.now)) }
 {
     for link in links {
         push_link(*link, demands)?;
@@ -240,87 +231,85 @@ fn push_links<'g>(links: &[LinkAt<'g>], demands: &mut Vec<Demand<'g>>) -> Result
     Ok(())
 }
 
-fn push_link<'g>(link: LinkAt<'g>, demands: &mut Vec<Demand<'g>>) -> Result<(), AllocError>
-    ensures { OnOk result (map demand_view demands.new.items ≡ map demand_view demands.old.items ++ link_demands (link_view link.entry)) }
+fn push_link<'g>(link: LinkEnds<'g>, demands: &mut Vec<Demand<'g>>) -> Result<(), AllocError>
+    ensures { OnOk result (map demand_view demands.new.items ≡ map demand_view demands.old.items ++ link_demands (ends_view link.entry)) }
 {
-    let row = link.row;
+    let row = link.at.row;
     push_lines(link, &row.lines, demands)
 }
 
 fn push_lines<'g>(
-    link: LinkAt<'g>,
+    link: LinkEnds<'g>,
     lines: &'g [LineRow],
     demands: &mut Vec<Demand<'g>>,
 ) -> Result<(), AllocError>
-    ensures { OnOk result (map demand_view demands.new.items ≡ map demand_view demands.old.items ++ flat_map (λ line. line_demands link.entry.row.now ((link.entry.number, line.0), line.1)) (numbered lines.entry.now)) }
+    ensures { OnOk result (map demand_view demands.new.items ≡ map demand_view demands.old.items ++ flat_map (λ line. line_demands link.entry.at.row.now ((link.entry.at.number, line.0), line.1)) (numbered lines.entry.now)) }
 {
     for (number, row) in lines.iter().enumerate() {
-        let place = (link.number, number);
+        let place = (link.at.number, number);
         push_line(link, LineAt { place, row }, demands)?;
     }
     Ok(())
 }
 
 fn push_line<'g>(
-    link: LinkAt<'g>,
+    link: LinkEnds<'g>,
     at: LineAt<'g>,
     demands: &mut Vec<Demand<'g>>,
 ) -> Result<(), AllocError>
-    ensures { OnOk result (map demand_view demands.new.items ≡ map demand_view demands.old.items ++ line_demands link.entry.row.now (line_view at.entry)) }
+    ensures { OnOk result (map demand_view demands.new.items ≡ map demand_view demands.old.items ++ line_demands link.entry.at.row.now (line_view at.entry)) }
 {
     let from = line_start(link, at);
-    let row = link.row;
-    let id = row.to.as_str();
     push_by_line(
         from,
-        FeatureName::base(id),
+        HashedName::base(link.to),
         Form::DependenciesSection,
         at.place,
         demands,
     )?;
-    push_default(from, id, at, demands)?;
+    push_default(from, link.to, at, demands)?;
     let line = at.row;
-    push_listed(from, id, &line.features, at.place, demands)
+    push_listed(from, link.to, &line.features, at.place, demands)
 }
 
-fn line_start<'g>(link: LinkAt<'g>, at: LineAt<'g>) -> FeatureName<'g>
-    ensures { name_view result ≡ line_start link.entry.row.now at.entry.row.now }
+fn line_start<'g>(link: LinkEnds<'g>, at: LineAt<'g>) -> HashedName<'g>
+    ensures { hashed_view result ≡ line_start link.entry.at.row.now at.entry.row.now }
 {
-    let (row, line) = (link.row, at.row);
+    let (row, line) = (link.at.row, at.row);
     if line.optional {
-        FeatureName::dep(row.from.as_str(), row.name.as_str())
+        HashedName::dep(link.from, row.name.as_str())
     } else {
-        FeatureName::base(row.from.as_str())
+        HashedName::base(link.from)
     }
 }
 
 fn push_default<'g>(
-    from: FeatureName<'g>,
-    id: &'g str,
+    from: HashedName<'g>,
+    id: HashedId<'g>,
     at: LineAt<'g>,
     demands: &mut Vec<Demand<'g>>,
 ) -> Result<(), AllocError>
-    ensures { OnOk result (map demand_view demands.new.items ≡ map demand_view demands.old.items ++ map (λ g. leads_by DependenciesSection (name_view from.entry) g at.entry.place) (default_of id.entry.now at.entry.row.now)) }
+    ensures { OnOk result (map demand_view demands.new.items ≡ map demand_view demands.old.items ++ map (λ g. leads_by DependenciesSection (hashed_view from.entry) g at.entry.place) (default_of id.entry.text.now at.entry.row.now)) }
 {
     let line = at.row;
     if line.default_features {
-        let to = FeatureName::named(id, "default");
+        let to = HashedName::named(id, "default");
         push_by_line(from, to, Form::DependenciesSection, at.place, demands)?;
     }
     Ok(())
 }
 
 fn push_listed<'g>(
-    from: FeatureName<'g>,
-    id: &'g str,
+    from: HashedName<'g>,
+    id: HashedId<'g>,
     names: &'g [String],
     place: (usize, usize),
     demands: &mut Vec<Demand<'g>>,
 ) -> Result<(), AllocError>
-    ensures { OnOk result (map demand_view demands.new.items ≡ map demand_view demands.old.items ++ map (λ g. leads_by DependenciesSection (name_view from.entry) g place) (map (named_of id.entry.now) (map string_bytes names.entry.now))) }
+    ensures { OnOk result (map demand_view demands.new.items ≡ map demand_view demands.old.items ++ map (λ g. leads_by DependenciesSection (hashed_view from.entry) g place) (map (named_of id.entry.text.now) (map string_bytes names.entry.now))) }
 {
     for name in names {
-        let to = FeatureName::named(id, name.as_str());
+        let to = HashedName::named(id, name.as_str());
         push_by_line(from, to, Form::DependenciesSection, place, demands)?;
     }
     Ok(())

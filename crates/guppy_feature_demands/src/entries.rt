@@ -8,6 +8,7 @@ ghost use Rattle.guppy_feature_demands.specs.EntryAtView.{entry_at_view};
 ghost use Rattle.guppy_feature_demands.specs.NamedRows.{named_view};
 
 use crate::entry::{Entry, entry_of};
+use crate::hashed_id::HashedId;
 use crate::named_entries::{NamedRow, named_entries};
 use crate::package_at::PackageAt;
 use std::alloc::{AllocError, Global};
@@ -15,7 +16,7 @@ use std::alloc::{AllocError, Global};
 /// An entry of a feature's list, the name of the feature, and the id of its package.
 #[derive(Clone, Copy)]
 pub(crate) struct EntryAt<'g> {
-    pub package_id: &'g str,
+    pub id: HashedId<'g>,
     pub feature: &'g str,
     pub entry: Entry<'g>,
 }
@@ -43,15 +44,16 @@ fn push_package<'g>(
 {
     let row = at.row;
     let features = named_entries(alloc, &row.features)?;
-    push_features(row.id.as_str(), features.as_slice(), entries)
+    let id = HashedId::of(row.id.as_str());
+    push_features(id, features.as_slice(), entries)
 }
 
 fn push_features<'g>(
-    id: &'g str,
+    id: HashedId<'g>,
     features: &[NamedRow<'g>],
     entries: &mut Vec<EntryAt<'g>>,
 ) -> Result<(), AllocError>
-    ensures { OnOk result (map entry_at_view entries.new.items ≡ map entry_at_view entries.old.items ++ flat_map (feature_entries id.entry.now) (map named_view features.now)) }
+    ensures { OnOk result (map entry_at_view entries.new.items ≡ map entry_at_view entries.old.items ++ flat_map (feature_entries id.entry.text.now) (map named_view features.now)) }
 {
     for feature in features {
         push_feature(id, *feature, entries)?;
@@ -60,31 +62,27 @@ fn push_features<'g>(
 }
 
 fn push_feature<'g>(
-    id: &'g str,
+    id: HashedId<'g>,
     feature: NamedRow<'g>,
     entries: &mut Vec<EntryAt<'g>>,
 ) -> Result<(), AllocError>
-    ensures { OnOk result (map entry_at_view entries.new.items ≡ map entry_at_view entries.old.items ++ feature_entries id.entry.now (named_view feature.entry)) }
+    ensures { OnOk result (map entry_at_view entries.new.items ≡ map entry_at_view entries.old.items ++ feature_entries id.entry.text.now (named_view feature.entry)) }
 {
     let row = feature.row;
     push_entries(id, row.name.as_str(), &row.enables, entries)
 }
 
 fn push_entries<'g>(
-    package_id: &'g str,
+    id: HashedId<'g>,
     feature: &'g str,
     texts: &'g [String],
     entries: &mut Vec<EntryAt<'g>>,
 ) -> Result<(), AllocError>
-    ensures { OnOk result (map entry_at_view entries.new.items ≡ map entry_at_view entries.old.items ++ map (λ text. record { package_id = package_id.entry.now; feature = feature.entry.now; entry = entry_value text }) (map string_bytes texts.entry.now)) }
+    ensures { OnOk result (map entry_at_view entries.new.items ≡ map entry_at_view entries.old.items ++ map (λ text. record { package_id = id.entry.text.now; feature = feature.entry.now; entry = entry_value text }) (map string_bytes texts.entry.now)) }
 {
     for text in texts {
         let entry = entry_of(text.as_str());
-        entries.push(EntryAt {
-            package_id,
-            feature,
-            entry,
-        })?;
+        entries.push(EntryAt { id, feature, entry })?;
     }
     Ok(())
 }

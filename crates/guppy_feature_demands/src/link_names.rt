@@ -2,19 +2,23 @@
 
 ghost use Rattle.std.specs.Prelude.{◌≡◌, ◌++◌, ◌∷◌, [], IfNone, IfOk, IfSome, OnOk, map};
 ghost use Rattle.indexmap.specs.IndexMap.{get};
-ghost use Rattle.guppy_feature_demands.specs.LinkNames.{NamesLinks, key_eq, links_in};
+ghost use Rattle.workspace_record.specs.Records.{Text};
+ghost use Rattle.guppy_feature_demands.specs.LinkNames.{IsNameOf, NamesLinks, key_eq, links_in};
 ghost use Rattle.guppy_feature_demands.specs.Numbered.{links_named};
-ghost use Rattle.guppy_feature_demands.specs.NumberedViews.{link_view};
+ghost use Rattle.guppy_feature_demands.specs.NumberedViews.{ends_view, link_view};
 ghost use Rattle.guppy_feature_demands.specs.declared.link_names.LinkName.{LinkName};
 
+use crate::hashed_id::HashedId;
+use crate::link_ends::LinkEnds;
 use crate::numbered::LinkAt;
 use indexmap::IndexMap;
 use std::alloc::{AllocError, Global};
 use std::hash::{Hash, Hasher};
 
-/// A package's id, and the name of a dependency.
+/// A package's id with its hash, and the name of a dependency.
 #[derive(Clone, Copy)]
 pub(crate) struct LinkName<'g> {
+    pub hash: u64,
     pub from: &'g str,
     pub name: &'g str,
 }
@@ -28,7 +32,7 @@ impl PartialEq for LinkName<'_> {
     ghost laws = { partial_equiv_from_equiv keys_equivalence };
 
     fn eq(&self, other: &Self) -> bool {
-        self.from == other.from && self.name == other.name
+        self.hash == other.hash && (self.from == other.from && self.name == other.name)
     }
 }
 
@@ -46,8 +50,21 @@ impl Hash for LinkName<'_> {
     ghost respects_eq = { same_key_writes };
 
     fn hash<H: Hasher>(&self, state: &mut H) {
-        self.from.hash(state);
-        self.name.hash(state);
+        state.write_u64(self.hash);
+        state.write(self.name.as_bytes());
+    }
+}
+
+impl<'g> LinkName<'g> {
+    /// The name of a dependency of this package.
+    pub(crate) fn of(id: HashedId<'g>, name: &'g str) -> LinkName<'g>
+        ensures { IsNameOf id.entry.text.now name.entry.now result }
+    {
+        LinkName {
+            hash: id.hash,
+            from: id.text,
+            name,
+        }
     }
 }
 
@@ -76,15 +93,15 @@ impl<'g> LinkNames<'g> {
 
 pub(crate) fn link_names<'g>(
     alloc: Global,
-    links: &[LinkAt<'g>],
+    links: &[LinkEnds<'g>],
 ) -> Result<LinkNames<'g>, AllocError>
-    ensures { IfOk result (NamesLinks (map link_view links.now)) }
+    ensures { IfOk result (NamesLinks (map ends_view links.now)) }
 {
     let mut names: LinkNames<'g> = LinkNames {
         groups: IndexMap::new(alloc),
     };
-    for link in links {
-        push_link(alloc, &mut names, *link)?;
+    for ends in links {
+        push_link(alloc, &mut names, *ends)?;
     }
     Ok(names)
 }
@@ -92,15 +109,13 @@ pub(crate) fn link_names<'g>(
 fn push_link<'g>(
     alloc: Global,
     names: &mut LinkNames<'g>,
-    link: LinkAt<'g>,
+    ends: LinkEnds<'g>,
 ) -> Result<(), AllocError>
-    ensures { OnOk result ((q : LinkName) → links_in (get key_eq names.new.groups q) ≡ links_in (get key_eq names.old.groups q) ++ links_named (link_view link.entry ∷ []) q.from.now q.name.now) }
+    ensures { OnOk result ((id name : Text) (q : LinkName) → IsNameOf id name q → links_in (get key_eq names.new.groups q) ≡ links_in (get key_eq names.old.groups q) ++ links_named (ends_view ends.entry ∷ []) id name) }
 {
+    let link = ends.at;
     let row = link.row;
-    let key = LinkName {
-        from: row.from.as_str(),
-        name: row.name.as_str(),
-    };
+    let key = LinkName::of(ends.from, row.name.as_str());
     let group = names.groups.entry(key)?.or_insert(Vec::new(alloc));
     group.push(link)?;
     Ok(())

@@ -2,8 +2,10 @@
 
 ghost use Rattle.std.specs.Prelude.{◌≡◌, [], IfNone, IfOk, IfSome, map};
 ghost use Rattle.guppy_feature_demands.specs.Numbered.{links_named, numbered};
-ghost use Rattle.guppy_feature_demands.specs.NumberedViews.{link_view};
+ghost use Rattle.guppy_feature_demands.specs.NumberedViews.{ends_view, link_view};
 
+use crate::hashed_id::HashedId;
+use crate::link_ends::LinkEnds;
 use crate::link_names::{LinkName, LinkNames, link_names};
 use crate::numbered::{LinkAt, numbered_links};
 use guppy_row_parts::LinkRow;
@@ -12,7 +14,7 @@ use std::marker::Model;
 
 /// Links with their numbers.
 pub(crate) struct LinkTable<'g> {
-    all: Vec<LinkAt<'g>>,
+    all: Vec<LinkEnds<'g>>,
     names: LinkNames<'g>,
 }
 
@@ -27,13 +29,13 @@ impl<'g> Model for LinkTable<'g> {
     ghost use Rattle.std.specs.Prelude.{ℕ, List, map};
     ghost use Rattle.workspace_record.specs.Records.{Link};
     ghost use Rattle.guppy_feature_demands.specs.LinkNames.{NamesLinks};
-    ghost use Rattle.guppy_feature_demands.specs.NumberedViews.{link_view};
+    ghost use Rattle.guppy_feature_demands.specs.NumberedViews.{ends_view};
 
     ghost Value = { List (ℕ × Link) };
 
-    ghost view = { λ t. map link_view t.all.items };
+    ghost view = { λ t. map ends_view t.all.items };
 
-    ghost invariant = { λ t. NamesLinks (map link_view t.all.items) t.names };
+    ghost invariant = { λ t. NamesLinks (map ends_view t.all.items) t.names };
 }
 
 impl<'g> LinkTable<'g> {
@@ -47,17 +49,17 @@ impl<'g> LinkTable<'g> {
     }
 
     /// All links.
-    pub(crate) fn all(&self) -> &[LinkAt<'g>]
-        ensures { map link_view result.now ≡ self.now }
+    pub(crate) fn all(&self) -> &[LinkEnds<'g>]
+        ensures { map ends_view result.now ≡ self.now }
     {
         &self.all
     }
 
     /// The package's links under a name, if there are any.
-    pub(crate) fn named(&self, key: LinkName<'g>) -> Option<&[LinkAt<'g>]>
-        ensures some { IfSome result (λ group. map link_view group.now ≡ links_named self.now key.entry.from.now key.entry.name.now) }
-        ensures none { IfNone result (links_named self.now key.entry.from.now key.entry.name.now ≡ []) }
+    pub(crate) fn named(&self, id: HashedId<'g>, name: &'g str) -> Option<&[LinkAt<'g>]>
+        ensures some { IfSome result (λ group. map link_view group.now ≡ links_named self.now id.entry.text.now name.entry.now) }
+        ensures none { IfNone result (links_named self.now id.entry.text.now name.entry.now ≡ []) }
     {
-        self.names.links(key)
+        self.names.links(LinkName::of(id, name))
     }
 }

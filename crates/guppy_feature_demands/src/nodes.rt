@@ -1,14 +1,17 @@
 //! The nodes of a feature graph, each found by its feature.
 
-ghost use Rattle.std.specs.Prelude.{◌≡◌, ◌∷◌, ◌++◌, ◌<◌, IfOk, OnOk, Some, length, map, slice_get, string_bytes};
-ghost use Rattle.std.specs.List.{flat_map};
+ghost use Rattle.std.specs.Prelude.{◌≡◌, ◌∷◌, ◌++◌, [], IfOk, OnOk, length, map, string_bytes, if◌then◌else◌};
+ghost use Rattle.std.specs.List.{flat_map, list_any};
 ghost use Rattle.indexmap.specs.IndexSet.{insert_key};
 ghost use Rattle.workspace_record.specs.Features.{feature_eq};
 ghost use Rattle.guppy_feature_ids.specs.IdViews.{id_view};
+ghost use Rattle.guppy_feature_demands.specs.HashedViews.{hashed_view};
 ghost use Rattle.guppy_feature_demands.specs.NameViews.{name_view};
 ghost use Rattle.guppy_feature_demands.specs.Nodes.{base_of, named_of, dep_of, features_of, first_of_each, nodes_of, is_node, number_of};
 
 use crate::feature_name::FeatureName;
+use crate::hashed_id::HashedId;
+use crate::hashed_name::HashedName;
 use crate::package_at::PackageAt;
 use guppy_feature_ids::FeatureId;
 use guppy_row_parts::{FeatureRow, PackageId};
@@ -18,24 +21,28 @@ use std::marker::Model;
 
 /// Features, each with its number: its place in the list.
 pub struct NodeTable<'g> {
-    ids: IndexSet<FeatureId<'g>>,
+    ids: Vec<FeatureId<'g>>,
+    names: IndexSet<HashedName<'g>>,
 }
 
 // Written out, so that a function that lets one go takes one step.
 impl Drop for NodeTable<'_> {
     fn drop(self) {
-        let NodeTable { ids: _ } = self;
+        let NodeTable { ids: _, names: _ } = self;
     }
 }
 
 impl<'g> Model for NodeTable<'g> {
-    ghost use Rattle.std.specs.Prelude.{List, map};
+    ghost use Rattle.std.specs.Prelude.{◌≡◌, List, map};
     ghost use Rattle.workspace_record.specs.Features.{FeatureValue};
     ghost use Rattle.guppy_feature_ids.specs.IdViews.{id_view};
+    ghost use Rattle.guppy_feature_demands.specs.HashedViews.{hashed_view};
 
     ghost Value = { List FeatureValue };
 
-    ghost view = { λ t. map id_view t.ids.keys };
+    ghost view = { λ t. map hashed_view t.names.keys };
+
+    ghost invariant = { λ t. map id_view t.ids.items ≡ map hashed_view t.names.keys };
 }
 
 impl<'g> NodeTable<'g> {
@@ -44,31 +51,51 @@ impl<'g> NodeTable<'g> {
         ensures nodes { IfOk result (λ t. t ≡ nodes_of (map (λ p. p.row.now) packages.now)) }
     {
         let features = features_of(alloc, packages)?;
-        let ids = first_of_each(alloc, &features)?;
-        Ok(NodeTable { ids })
+        first_of_each(alloc, &features)
     }
 
     /// The features, in the order of their numbers.
     pub fn ids(&self) -> &[FeatureId<'g>]
         ensures value { map id_view result.now ≡ self.now }
     {
-        self.ids.as_slice()
+        &self.ids
+    }
+
+    /// The same, with the hashes of the packages' ids.
+    pub(crate) fn names(&self) -> &[HashedName<'g>]
+        ensures value { map hashed_view result.now ≡ self.now }
+    {
+        self.names.as_slice()
     }
 
     /// Whether there is such a feature.
     pub fn contains(&self, feature: FeatureName<'_>) -> bool
         ensures answer { result ≡ is_node self.now (name_view feature.entry) }
     {
-        self.ids.contains(feature)
+        self.has(feature.hashed())
     }
 
     /// The number of a feature; the number of features where there is none.
     pub fn number_of(&self, feature: FeatureName<'_>) -> usize
         ensures number { result ≡ number_of self.now (name_view feature.entry) }
     {
-        match self.ids.get_index_of(feature) {
+        self.place_of(feature.hashed())
+    }
+
+    /// Whether there is such a feature.
+    pub(crate) fn has(&self, name: HashedName<'_>) -> bool
+        ensures answer { result ≡ is_node self.now (hashed_view name.entry) }
+    {
+        self.names.contains(&name)
+    }
+
+    /// The number of a feature; the number of features where there is none.
+    pub(crate) fn place_of(&self, name: HashedName<'_>) -> usize
+        ensures number { result ≡ number_of self.now (hashed_view name.entry) }
+    {
+        match self.names.get_index_of(&name) {
             Some(number) => number,
-            None => self.ids.len(),
+            None => self.names.len(),
         }
     }
 
@@ -76,7 +103,7 @@ impl<'g> NodeTable<'g> {
     pub fn len(&self) -> usize
         ensures count { result ≡ length self.now }
     {
-        self.ids.len()
+        self.names.len()
     }
 }
 
@@ -128,15 +155,31 @@ fn push_dependencies<'g>(
     Ok(())
 }
 
-fn first_of_each<'g>(
-    alloc: Global,
-    features: &[FeatureId<'g>],
-) -> Result<IndexSet<FeatureId<'g>>, AllocError>
-    ensures { IfOk result (λ set. map id_view set.keys ≡ first_of_each feature_eq (map id_view features.now)) }
+fn first_of_each<'g>(alloc: Global, features: &[FeatureId<'g>]) -> Result<NodeTable<'g>, AllocError>
+    ensures { IfOk result (λ t. t ≡ first_of_each feature_eq (map id_view features.now)) }
 {
-    let mut set: IndexSet<FeatureId<'g>> = IndexSet::with_capacity(alloc, features.len())?;
+    let mut ids: Vec<FeatureId<'g>> = Vec::with_capacity(alloc, features.len())?;
+    let mut names: IndexSet<HashedName<'g>> = IndexSet::with_capacity(alloc, features.len())?;
+    let mut last = HashedId::of("");
     for feature in features {
-        set.insert(*feature)?;
+        let name = HashedName::of(last, *feature);
+        last = name.id;
+        push_first(name, *feature, &mut names, &mut ids)?;
     }
-    Ok(set)
+    Ok(NodeTable { ids, names })
+}
+
+fn push_first<'g>(
+    name: HashedName<'g>,
+    id: FeatureId<'g>,
+    names: &mut IndexSet<HashedName<'g>>,
+    ids: &mut Vec<FeatureId<'g>>,
+) -> Result<(), AllocError>
+    ensures names { OnOk result (map hashed_view names.new.keys ≡ insert_key feature_eq (map hashed_view names.old.keys) (hashed_view name.entry)) }
+    ensures ids { OnOk result (map id_view ids.new.items ≡ (if list_any (feature_eq (hashed_view name.entry)) (map hashed_view names.old.keys) then map id_view ids.old.items else map id_view ids.old.items ++ id_view id.entry ∷ [])) }
+{
+    if names.insert(name)? {
+        ids.push(id)?;
+    }
+    Ok(())
 }

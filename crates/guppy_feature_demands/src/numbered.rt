@@ -2,8 +2,10 @@
 
 ghost use Rattle.std.specs.Prelude.{◌≡◌, IfOk, map};
 ghost use Rattle.guppy_feature_demands.specs.Numbered.{numbered};
-ghost use Rattle.guppy_feature_demands.specs.NumberedViews.{link_view};
+ghost use Rattle.guppy_feature_demands.specs.NumberedViews.{ends_view};
 
+use crate::hashed_id::HashedId;
+use crate::link_ends::LinkEnds;
 use guppy_row_parts::{LineRow, LinkRow};
 use std::alloc::{AllocError, Global};
 
@@ -24,12 +26,15 @@ pub(crate) struct LineAt<'g> {
 pub(crate) fn numbered_links<'g>(
     alloc: Global,
     links: &'g [LinkRow],
-) -> Result<Vec<LinkAt<'g>>, AllocError>
-    ensures { IfOk result (λ v. map link_view v.items ≡ numbered links.entry.now) }
+) -> Result<Vec<LinkEnds<'g>>, AllocError>
+    ensures { IfOk result (λ v. map ends_view v.items ≡ numbered links.entry.now) }
 {
-    let mut all: Vec<LinkAt<'g>> = Vec::with_capacity(alloc, links.len())?;
+    let mut all: Vec<LinkEnds<'g>> = Vec::with_capacity(alloc, links.len())?;
+    let mut last = HashedId::of("");
     for (number, row) in links.iter().enumerate() {
-        all.push(LinkAt { number, row })?;
+        let ends = LinkEnds::of(LinkAt { number, row }, last);
+        last = ends.from;
+        all.push(ends)?;
     }
     Ok(all)
 }

@@ -3,12 +3,14 @@
 ghost use Rattle.std.specs.Prelude.{◌≡◌, ◌∷◌, [], IfOk, OnOk, ◌++◌, filter, length, map};
 ghost use Rattle.guppy_feature_demands.specs.Demands.{is_between_nodes, kept_demands, with_numbers};
 ghost use Rattle.guppy_feature_demands.specs.DemandViews.{demand_view, numbered_view};
-ghost use Rattle.guppy_feature_demands.specs.NameViews.{name_view};
+ghost use Rattle.guppy_feature_demands.specs.HashedViews.{hashed_view};
 ghost use Rattle.guppy_feature_demands.specs.Nodes.{number_of};
 
 use crate::demand::{Demand, NumberedDemand};
-use crate::feature_name::FeatureName;
+use crate::hashed_id::HashedId;
+use crate::hashed_name::HashedName;
 use crate::nodes::NodeTable;
+use guppy_feature_ids::FeatureLabel;
 use std::alloc::{AllocError, Global};
 
 /// The demands between two different nodes, which are told by their numbers.
@@ -20,10 +22,11 @@ pub(crate) fn kept_demands<'g>(
     ensures { IfOk result (λ v. map numbered_view v.items ≡ kept_demands nodes.now (map demand_view demands.now)) }
 {
     let mut from = LastNumber::of(nodes);
+    let mut base = LastNumber::of(nodes);
     let mut to = LastNumber::of(nodes);
-    let mut kept: Vec<NumberedDemand<'g>> = Vec::new(alloc);
+    let mut kept: Vec<NumberedDemand<'g>> = Vec::with_capacity(alloc, demands.len())?;
     for demand in demands {
-        let numbered = with_numbers(&mut from, &mut to, *demand);
+        let numbered = with_numbers(&mut from, &mut base, &mut to, *demand);
         push_kept(nodes, numbered, &mut kept)?;
     }
     Ok(kept)
@@ -44,19 +47,39 @@ fn push_kept<'g>(
 
 fn with_numbers<'g>(
     from: &mut LastNumber<'_, 'g>,
+    base: &mut LastNumber<'_, 'g>,
     to: &mut LastNumber<'_, 'g>,
     demand: Demand<'g>,
 ) -> NumberedDemand<'g>
-    requires { to.old.nodes.now ≡ from.old.nodes.now }
+    requires base { base.old.nodes.now ≡ from.old.nodes.now }
+    requires to { to.old.nodes.now ≡ from.old.nodes.now }
     ensures value { numbered_view result ≡ with_numbers from.old.nodes.now (demand_view demand.entry) }
     ensures from { from.new.nodes.now ≡ from.old.nodes.now }
+    ensures base { base.new.nodes.now ≡ base.old.nodes.now }
     ensures to { to.new.nodes.now ≡ to.old.nodes.now }
 {
     NumberedDemand {
         from: from.number_of(demand.from),
-        to: to.number_of(demand.to),
+        to: number_to(base, to, demand.to),
         form: demand.form,
         line: demand.line,
+    }
+}
+
+// Demands that lead to a package and to features of it take turns, so both are kept in mind.
+fn number_to<'g>(
+    base: &mut LastNumber<'_, 'g>,
+    other: &mut LastNumber<'_, 'g>,
+    feature: HashedName<'g>,
+) -> usize
+    requires { other.old.nodes.now ≡ base.old.nodes.now }
+    ensures number { result ≡ number_of base.old.nodes.now (hashed_view feature.entry) }
+    ensures base { base.new.nodes.now ≡ base.old.nodes.now }
+    ensures other { other.new.nodes.now ≡ other.old.nodes.now }
+{
+    match feature.label {
+        FeatureLabel::Base => base.number_of(feature),
+        FeatureLabel::Named(_) | FeatureLabel::OptionalDependency(_) => other.number_of(feature),
     }
 }
 
@@ -65,17 +88,17 @@ fn with_numbers<'g>(
 #[derive(Clone, Copy)]
 struct LastNumber<'a, 'g> {
     nodes: &'a NodeTable<'g>,
-    feature: FeatureName<'g>,
+    feature: HashedName<'g>,
     number: usize,
-    ghost known: { number ≡ number_of nodes.now (name_view feature) },
+    ghost known: { number ≡ number_of nodes.now (hashed_view feature) },
 }
 
 impl<'a, 'g> LastNumber<'a, 'g> {
     fn of(nodes: &'a NodeTable<'g>) -> LastNumber<'a, 'g>
         ensures { result.nodes.now ≡ nodes.entry.now }
     {
-        let feature = FeatureName::base("");
-        let number = nodes.number_of(feature);
+        let feature = HashedName::base(HashedId::of(""));
+        let number = nodes.place_of(feature);
         LastNumber {
             nodes,
             feature,
@@ -84,13 +107,13 @@ impl<'a, 'g> LastNumber<'a, 'g> {
     }
 
     /// The number of a feature; the number of features where there is none.
-    fn number_of(&mut self, feature: FeatureName<'g>) -> usize
-        ensures number { result ≡ number_of self.old.nodes.now (name_view feature.entry) }
+    fn number_of(&mut self, feature: HashedName<'g>) -> usize
+        ensures number { result ≡ number_of self.old.nodes.now (hashed_view feature.entry) }
         ensures nodes { self.new.nodes.now ≡ self.old.nodes.now }
     {
         if feature != self.feature {
             let nodes = self.nodes;
-            let number = nodes.number_of(feature);
+            let number = nodes.place_of(feature);
             *self = LastNumber {
                 nodes,
                 feature,

@@ -28,7 +28,7 @@ pub struct FeatureParts<'g> {
 
 /// What the rows of packages and links say of features. Takes time in proportion to packages,
 /// features, entries and lines, each with the texts that it names.
-#[tactic(auto, using(crate::proofs::EntriesFacts::demands_by_entries, crate::proofs::EntriesFacts::warnings_by_entries))]
+#[tactic(auto, using(crate::proofs::EntriesFacts::demands_by_entries))]
 pub fn feature_parts<'g>(
     alloc: Global,
     packages: &[PackageAt<'g>],
@@ -43,7 +43,7 @@ pub fn feature_parts<'g>(
     let entries = entries_of(alloc, packages)?;
     let all = demands_of(alloc, &entries, &nodes, &table)?;
     let demands = kept_demands(alloc, &nodes, &all)?;
-    let warnings = warnings_of(alloc, &entries, links, &nodes, &table)?;
+    let warnings = warnings_of(alloc, &entries, &nodes, &table)?;
     Ok(FeatureParts {
         nodes,
         demands,

@@ -2,27 +2,28 @@
 
 ghost use Rattle.std.specs.Prelude.{◌≡◌, ◌∷◌, ◌++◌, [], IfOk, OnOk, map, string_bytes};
 ghost use Rattle.std.specs.List.{flat_map};
-ghost use Rattle.guppy_row_parts.specs.Warnings.{MissingFeature, SelfLoop};
+ghost use Rattle.guppy_row_parts.specs.Warnings.{AddNamedFeatureEdges, MissingFeature, SelfLoop};
 ghost use Rattle.guppy_feature_ids.specs.LabelViews.{label_view};
 ghost use Rattle.guppy_feature_ids.specs.Printing.{label_text};
 ghost use Rattle.guppy_row_parts.specs.WarningViews.{stage_view, warning_view};
 ghost use Rattle.guppy_feature_demands.specs.EntriesAt.{at_warnings};
 ghost use Rattle.guppy_feature_demands.specs.EntryAtView.{entry_at_view};
-ghost use Rattle.guppy_feature_demands.specs.NameViews.{name_view};
+ghost use Rattle.guppy_feature_demands.specs.HashedViews.{hashed_view};
 ghost use Rattle.guppy_feature_demands.specs.Nodes.{named_of};
 ghost use Rattle.guppy_feature_demands.specs.Numbered.{links_named};
-ghost use Rattle.guppy_feature_demands.specs.NumberedViews.{link_view};
+ghost use Rattle.guppy_feature_demands.specs.NumberedViews.{ends_view, link_view};
 ghost use Rattle.guppy_feature_demands.specs.StageViews.{place_view};
 ghost use Rattle.guppy_feature_demands.specs.Warnings.{line_warnings, link_warnings, missing, optional_warnings, own_warnings, slash_warnings};
 
 use crate::entries::EntryAt;
 use crate::entry::Entry;
-use crate::feature_name::FeatureName;
-use crate::link_names::LinkName;
+use crate::hashed_id::HashedId;
+use crate::hashed_name::HashedName;
+use crate::link_ends::LinkEnds;
 use crate::link_table::LinkTable;
 use crate::nodes::NodeTable;
 use crate::numbered::LinkAt;
-use guppy_row_parts::{FeatureBuildStage, FeatureGraphWarning, LineRow, LinkRow, PackageId};
+use guppy_row_parts::{FeatureBuildStage, FeatureGraphWarning, LineRow, PackageId};
 use std::alloc::{AllocError, Global};
 
 /// Where a feature is named: by an entry of a package's feature, or by a package's dependency.
@@ -36,15 +37,14 @@ pub(crate) enum StageAt<'g> {
 pub(crate) fn warnings_of<'g>(
     alloc: Global,
     entries: &[EntryAt<'g>],
-    rows: &'g [LinkRow],
     nodes: &NodeTable<'g>,
     links: &LinkTable<'g>,
 ) -> Result<Vec<FeatureGraphWarning>, AllocError>
-    ensures { IfOk result (λ v. map warning_view v.items ≡ flat_map (at_warnings nodes.now links.now) (map entry_at_view entries.now) ++ flat_map (link_warnings nodes.now) rows.entry.now) }
+    ensures { IfOk result (λ v. map warning_view v.items ≡ flat_map (at_warnings nodes.now links.now) (map entry_at_view entries.now) ++ flat_map (λ link. link_warnings nodes.now link.1) links.now) }
 {
     let mut warnings: Vec<FeatureGraphWarning> = Vec::new(alloc);
     push_entries(alloc, entries, nodes, links, &mut warnings)?;
-    push_links(alloc, rows, nodes, &mut warnings)?;
+    push_links(alloc, links.all(), nodes, &mut warnings)?;
     Ok(warnings)
 }
 
@@ -72,59 +72,57 @@ fn push_entry<'g>(
 ) -> Result<(), AllocError>
     ensures { OnOk result (map warning_view warnings.new.items ≡ map warning_view warnings.old.items ++ at_warnings nodes.now links.now (entry_at_view at.entry)) }
 {
-    let (id, from) = (at.package_id, at.feature);
+    let (id, from) = (at.id, at.feature);
     match at.entry {
         Entry::OwnFeature(name) => push_own(alloc, id, from, name, nodes, warnings),
         Entry::Dependency(name) => {
-            let dep = FeatureName::dep(id, name);
-            push_missing(alloc, StageAt::Entry(id, from), dep, nodes, warnings)
+            let dep = HashedName::dep(id, name);
+            push_missing(alloc, StageAt::Entry(id.text, from), dep, nodes, warnings)
         }
         Entry::Strong(name, feature) | Entry::Weak(name, feature) => {
-            let key = LinkName { from: id, name };
-            push_slash(
-                alloc,
-                StageAt::Entry(id, from),
-                key,
-                feature,
-                nodes,
-                links,
-                warnings,
-            )
+            push_slash(alloc, at, name, feature, nodes, links, warnings)
         }
     }
 }
 
 fn push_own<'g>(
     alloc: Global,
-    id: &'g str,
+    id: HashedId<'g>,
     from: &'g str,
     name: &'g str,
     nodes: &NodeTable<'g>,
     warnings: &mut Vec<FeatureGraphWarning>,
 ) -> Result<(), AllocError>
-    ensures { OnOk result (map warning_view warnings.new.items ≡ map warning_view warnings.old.items ++ own_warnings nodes.now id.entry.now from.entry.now name.entry.now) }
+    ensures { OnOk result (map warning_view warnings.new.items ≡ map warning_view warnings.old.items ++ own_warnings nodes.now id.entry.text.now from.entry.now name.entry.now) }
 {
     if name == from {
-        warnings.push(self_loop(alloc, id, from)?)?;
+        warnings.push(self_loop(alloc, id.text, from)?)?;
         Ok(())
     } else {
-        let feature = FeatureName::named(id, name);
-        push_missing(alloc, StageAt::Entry(id, from), feature, nodes, warnings)
+        let feature = HashedName::named(id, name);
+        push_missing(
+            alloc,
+            StageAt::Entry(id.text, from),
+            feature,
+            nodes,
+            warnings,
+        )
     }
 }
 
 fn push_slash<'g>(
     alloc: Global,
-    stage: StageAt<'g>,
-    key: LinkName<'g>,
+    at: EntryAt<'g>,
+    name: &'g str,
     feature: &'g str,
     nodes: &NodeTable<'g>,
     links: &LinkTable<'g>,
     warnings: &mut Vec<FeatureGraphWarning>,
 ) -> Result<(), AllocError>
-    ensures { OnOk result (map warning_view warnings.new.items ≡ map warning_view warnings.old.items ++ slash_warnings nodes.now (place_view stage.entry) feature.entry.now (links_named links.now key.entry.from.now key.entry.name.now)) }
+    ensures { OnOk result (map warning_view warnings.new.items ≡ map warning_view warnings.old.items ++ slash_warnings nodes.now (AddNamedFeatureEdges at.entry.id.text.now at.entry.feature.now) feature.entry.now (links_named links.now at.entry.id.text.now name.entry.now)) }
 {
-    match links.named(key) {
+    let stage = StageAt::Entry(at.id.text, at.feature);
+    match links.named(at.id, name) {
         Some(group) => push_slash_links(alloc, stage, feature, group, nodes, warnings),
         None => Ok(()),
     }
@@ -157,32 +155,44 @@ fn push_slash_link<'g>(
     ensures { OnOk result (map warning_view warnings.new.items ≡ map warning_view warnings.old.items ++ missing nodes.now (place_view stage.entry) (named_of link.entry.row.now.to feature.entry.now)) }
 {
     let row = link.row;
-    let to = FeatureName::named(row.to.as_str(), feature);
+    let to = HashedName::named(HashedId::of(row.to.as_str()), feature);
     push_missing(alloc, stage, to, nodes, warnings)
 }
 
 fn push_links<'g>(
     alloc: Global,
-    rows: &'g [LinkRow],
+    links: &[LinkEnds<'g>],
     nodes: &NodeTable<'g>,
     warnings: &mut Vec<FeatureGraphWarning>,
 ) -> Result<(), AllocError>
-    ensures { OnOk result (map warning_view warnings.new.items ≡ map warning_view warnings.old.items ++ flat_map (link_warnings nodes.now) rows.entry.now) }
+    ensures { OnOk result (map warning_view warnings.new.items ≡ map warning_view warnings.old.items ++ flat_map (λ link. link_warnings nodes.now link.1) (map ends_view links.now)) }
 {
-    for row in rows {
-        push_lines(alloc, row, &row.lines, nodes, warnings)?;
+    for link in links {
+        push_link(alloc, *link, nodes, warnings)?;
     }
     Ok(())
 }
 
+fn push_link<'g>(
+    alloc: Global,
+    link: LinkEnds<'g>,
+    nodes: &NodeTable<'g>,
+    warnings: &mut Vec<FeatureGraphWarning>,
+) -> Result<(), AllocError>
+    ensures { OnOk result (map warning_view warnings.new.items ≡ map warning_view warnings.old.items ++ link_warnings nodes.now link.entry.at.row.now) }
+{
+    let row = link.at.row;
+    push_lines(alloc, link, &row.lines, nodes, warnings)
+}
+
 fn push_lines<'g>(
     alloc: Global,
-    link: &'g LinkRow,
+    link: LinkEnds<'g>,
     lines: &'g [LineRow],
     nodes: &NodeTable<'g>,
     warnings: &mut Vec<FeatureGraphWarning>,
 ) -> Result<(), AllocError>
-    ensures { OnOk result (map warning_view warnings.new.items ≡ map warning_view warnings.old.items ++ flat_map (line_warnings nodes.now link.entry.now) lines.entry.now) }
+    ensures { OnOk result (map warning_view warnings.new.items ≡ map warning_view warnings.old.items ++ flat_map (line_warnings nodes.now link.entry.at.row.now) lines.entry.now) }
 {
     for line in lines {
         push_line(alloc, link, line, nodes, warnings)?;
@@ -192,37 +202,32 @@ fn push_lines<'g>(
 
 fn push_line<'g>(
     alloc: Global,
-    link: &'g LinkRow,
+    link: LinkEnds<'g>,
     line: &'g LineRow,
     nodes: &NodeTable<'g>,
     warnings: &mut Vec<FeatureGraphWarning>,
 ) -> Result<(), AllocError>
-    ensures { OnOk result (map warning_view warnings.new.items ≡ map warning_view warnings.old.items ++ line_warnings nodes.now link.entry.now line.entry.now) }
+    ensures { OnOk result (map warning_view warnings.new.items ≡ map warning_view warnings.old.items ++ line_warnings nodes.now link.entry.at.row.now line.entry.now) }
 {
-    let stage = StageAt::Line(link.from.as_str(), link.name.as_str());
+    let row = link.at.row;
+    let stage = StageAt::Line(link.from.text, row.name.as_str());
     push_optional(alloc, stage, link, line, nodes, warnings)?;
-    push_listed(
-        alloc,
-        stage,
-        link.to.as_str(),
-        &line.features,
-        nodes,
-        warnings,
-    )
+    push_listed(alloc, stage, link.to, &line.features, nodes, warnings)
 }
 
 fn push_optional<'g>(
     alloc: Global,
     stage: StageAt<'g>,
-    link: &'g LinkRow,
+    link: LinkEnds<'g>,
     line: &'g LineRow,
     nodes: &NodeTable<'g>,
     warnings: &mut Vec<FeatureGraphWarning>,
 ) -> Result<(), AllocError>
-    ensures { OnOk result (map warning_view warnings.new.items ≡ map warning_view warnings.old.items ++ optional_warnings nodes.now (place_view stage.entry) link.entry.now line.entry.now) }
+    ensures { OnOk result (map warning_view warnings.new.items ≡ map warning_view warnings.old.items ++ optional_warnings nodes.now (place_view stage.entry) link.entry.at.row.now line.entry.now) }
 {
     if line.optional {
-        let dep = FeatureName::dep(link.from.as_str(), link.name.as_str());
+        let row = link.at.row;
+        let dep = HashedName::dep(link.from, row.name.as_str());
         push_missing(alloc, stage, dep, nodes, warnings)
     } else {
         Ok(())
@@ -232,15 +237,15 @@ fn push_optional<'g>(
 fn push_listed<'g>(
     alloc: Global,
     stage: StageAt<'g>,
-    to: &'g str,
+    to: HashedId<'g>,
     names: &'g [String],
     nodes: &NodeTable<'g>,
     warnings: &mut Vec<FeatureGraphWarning>,
 ) -> Result<(), AllocError>
-    ensures { OnOk result (map warning_view warnings.new.items ≡ map warning_view warnings.old.items ++ flat_map (λ x. missing nodes.now (place_view stage.entry) (named_of to.entry.now x)) (map string_bytes names.entry.now)) }
+    ensures { OnOk result (map warning_view warnings.new.items ≡ map warning_view warnings.old.items ++ flat_map (λ x. missing nodes.now (place_view stage.entry) (named_of to.entry.text.now x)) (map string_bytes names.entry.now)) }
 {
     for name in names {
-        let feature = FeatureName::named(to, name.as_str());
+        let feature = HashedName::named(to, name.as_str());
         push_missing(alloc, stage, feature, nodes, warnings)?;
     }
     Ok(())
@@ -249,13 +254,13 @@ fn push_listed<'g>(
 fn push_missing<'g>(
     alloc: Global,
     stage: StageAt<'g>,
-    feature: FeatureName<'g>,
+    feature: HashedName<'g>,
     nodes: &NodeTable<'g>,
     warnings: &mut Vec<FeatureGraphWarning>,
 ) -> Result<(), AllocError>
-    ensures { OnOk result (map warning_view warnings.new.items ≡ map warning_view warnings.old.items ++ missing nodes.now (place_view stage.entry) (name_view feature.entry)) }
+    ensures { OnOk result (map warning_view warnings.new.items ≡ map warning_view warnings.old.items ++ missing nodes.now (place_view stage.entry) (hashed_view feature.entry)) }
 {
-    if !nodes.contains(feature) {
+    if !nodes.has(feature) {
         warnings.push(missing_feature(alloc, stage, feature)?)?;
     }
     Ok(())
@@ -264,12 +269,12 @@ fn push_missing<'g>(
 fn missing_feature(
     alloc: Global,
     stage: StageAt<'_>,
-    feature: FeatureName<'_>,
+    feature: HashedName<'_>,
 ) -> Result<FeatureGraphWarning, AllocError>
-    ensures { IfOk result (λ w. warning_view w ≡ MissingFeature (place_view stage.entry) feature.entry.package_id.now (label_text (label_view feature.entry.label))) }
+    ensures { IfOk result (λ w. warning_view w ≡ MissingFeature (place_view stage.entry) feature.entry.id.text.now (label_text (label_view feature.entry.label))) }
 {
     let stage = stage_of(alloc, stage)?;
-    let package_id = id_of(alloc, feature.package_id)?;
+    let package_id = id_of(alloc, feature.id.text)?;
     let label = feature.label;
     let feature_name = format!(in alloc; "{label}")?;
     Ok(FeatureGraphWarning::MissingFeature {

@@ -7,5 +7,5 @@ use Rattle.guppy_feature_demands.proofs.demands.push_lines.Goals as goal
 
 pub loop-number-preserved : goal.loop-number-preserved
 loop-number-preserved c =
-    let said = λ (line : ℕ × Line). line_demands c.args.link.row.now ((c.args.link.number, line.0), line.1) in
+    let said = λ (line : ℕ × Line). line_demands c.args.link.at.row.now ((c.args.link.at.number, line.0), line.1) in
     numbered_flat c.args.lines.now c.loop-number.number c.index-lines-number.result said c.loop-number-test.true _ _ _ c.loop-number.invariant (c.in_ok-push_line.ensures ∙ ap (λ (row : Line). map demand_view c.loop-number.demands.items ++ said (c.loop-number.number, row)) c.index-lines-number.is)

@@ -6,4 +6,4 @@ use Rattle.guppy_feature_demands.specs.Numbered.{numbered}
 use Rattle.guppy_feature_demands.proofs.demands.push_lines.Given as goal
 
 abbrev pub invariant-loop-number : goal.invariant-loop-number
-invariant-loop-number l = map demand_view l.demands.items ≡ map demand_view l.fn.demands.items ++ flat_map (λ line. line_demands l.link.row.now ((l.link.number, line.0), line.1)) (numbered (take l.number l.lines))
+invariant-loop-number l = map demand_view l.demands.items ≡ map demand_view l.fn.demands.items ++ flat_map (λ line. line_demands l.link.at.row.now ((l.link.at.number, line.0), line.1)) (numbered (take l.number l.lines))

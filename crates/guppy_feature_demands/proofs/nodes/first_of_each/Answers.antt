@@ -1,9 +1,18 @@
-use Rattle.std.proofs.Common.{rules}
+use Rattle.std.proofs.Common.{◌∙◌, map, ap}
 use Rattle.workspace_record.specs.Equality.{equivalence}
-use Rattle.workspace_record.specs.Features.{features_decide}
+use Rattle.workspace_record.specs.Features.{feature_eq, features_decide}
+use Rattle.indexmap.specs.IndexSet.{insert_key}
 use Rattle.guppy_feature_ids.specs.IdViews.{id_view}
-use Rattle.guppy_feature_demands.proofs.FirstFacts.{first_more}
+use Rattle.guppy_feature_demands.specs.HashedViews.{hashed_view}
+use Rattle.guppy_feature_demands.proofs.FirstFacts.{first_next, inserted_both}
 use Rattle.guppy_feature_demands.proofs.nodes.first_of_each.Goals as goal
 
 pub loop-feature-preserved : goal.loop-feature-preserved
-loop-feature-preserved c = first_more (equivalence features_decide) id_view c.args.features.now c.loop-feature.feature-index c.feature-item.result c.loop-feature-test.true c.loop-feature.set.keys c.insert.new.self.keys c.loop-feature.invariant (search rules)
+loop-feature-preserved c =
+    let before = c.loop-feature.invariant in
+    let pushed = c.in_ok-push_first.ensures in
+    let old = map hashed_view c.loop-feature.names.keys in
+    record {
+      kept = first_next (equivalence features_decide) id_view c.args.features.now c.loop-feature.feature-index c.feature-item.result c.loop-feature-test.true old (map hashed_view c.push_first.new.names.keys) before.kept (pushed.names ∙ ap (insert_key feature_eq old) (c.of-name.ensures ∙ ap id_view c.feature-item.is));
+      same = inserted_both feature_eq old (map id_view c.loop-feature.ids.items) _ _ (hashed_view c.of-name.result) (id_view c.feature-item.result) before.same c.of-name.ensures pushed.names pushed.ids;
+    }

@@ -7,5 +7,6 @@ abbrev pub invariant-loop-demand : goal.invariant-loop-demand
 invariant-loop-demand l = record {
   kept : map numbered_view l.kept.items ≡ kept_demands l.nodes (map demand_view (take l.demand-index l.demands));
   from : l.from.nodes.now ≡ l.nodes;
+  base : l.base.nodes.now ≡ l.nodes;
   to : l.to.nodes.now ≡ l.nodes;
 }

@@ -5,4 +5,4 @@ use Rattle.guppy_feature_demands.specs.Warnings.{line_warnings}
 use Rattle.guppy_feature_demands.proofs.warnings.push_lines.Given as goal
 
 abbrev pub invariant-loop-line : goal.invariant-loop-line
-invariant-loop-line l = map warning_view l.warnings.items ≡ map warning_view l.fn.warnings.items ++ flat_map (line_warnings l.nodes l.link) (take l.line-index l.lines)
+invariant-loop-line l = map warning_view l.warnings.items ≡ map warning_view l.fn.warnings.items ++ flat_map (line_warnings l.nodes l.link.at.row.now) (take l.line-index l.lines)
