@@ -1,3 +1,4 @@
+pub mod EntryFacts
 pub mod GroupFacts
 pub mod JoinFacts
 pub mod WeightFacts

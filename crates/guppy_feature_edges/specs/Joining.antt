@@ -60,10 +60,6 @@ same_edge = on join_key key_eq
 abbrev pub is_outweighed : List NumberedValue → Key → Bool
 is_outweighed ds key = list_any (key_eq key) (map weight_key ds)
 
--- the weights are those of the demands
-pub record FindsWeights (ds : List NumberedValue) (weights : List Key) : Type 0 where
-  pub each : (key : Key) → list_any (key_eq key) weights ≡ is_outweighed ds key
-
 -- a demand of the same pair has a weight to which this one gives way
 abbrev pub is_dropped : List NumberedValue → NumberedValue → Bool
 is_dropped ds d = list_any (λ w. is_outweighed ds (ends_of d, w)) (gives_way_to d.form)

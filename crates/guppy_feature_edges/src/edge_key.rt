@@ -1,7 +1,7 @@
 ghost use Rattle.std.specs.Prelude.{◌≡◌, [], ◌∷◌, map};
 ghost use Rattle.guppy_feature_demands.specs.DemandViews.{numbered_view};
 ghost use Rattle.guppy_feature_edges.specs.Joining.{ends_of, join_key, weight_key};
-ghost use Rattle.guppy_feature_edges.specs.KeyViews.{key_view};
+ghost use Rattle.guppy_feature_edges.specs.KeyViews.{key_view, key_word};
 
 use guppy_feature_demands::{Form, NumberedDemand};
 use std::hash::{Hash, Hasher};
@@ -43,14 +43,23 @@ impl Hash for EdgeKey<'_> {
     ghost respects_eq = { same_key_writes };
 
     fn hash<H: Hasher>(&self, state: &mut H) {
-        state.write_usize(self.from);
-        state.write_usize(self.to);
-        state.write_usize(self.sort);
-        self.name.hash(state);
+        state.write_usize(self.word());
+        if !self.name.is_empty() {
+            self.name.hash(state);
+        }
     }
 }
 
 impl<'g> EdgeKey<'g> {
+    // The ends and the sort in one word, which may be that of other keys too.
+    fn word(&self) -> usize
+        ensures { result ≡ key_word (key_view self.now) }
+    {
+        let from = self.from.wrapping_mul(4_294_967_296);
+        let to = self.to.wrapping_mul(4);
+        from.wrapping_add(to).wrapping_add(self.sort)
+    }
+
     fn of(demand: NumberedDemand<'g>, sort: usize, name: &'g str) -> EdgeKey<'g>
         ensures { key_view result ≡ (ends_of (numbered_view demand.entry), (sort, name.entry.now)) }
     {

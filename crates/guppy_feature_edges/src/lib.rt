@@ -4,10 +4,8 @@
 #![tactic(auto)]
 
 mod edge_key;
-mod heads;
+mod groups;
 mod joining;
-mod line_groups;
-mod line_map;
 mod weights;
 
 pub use crate::joining::{JoinedEdge, joined_edges};

@@ -1,17 +1,18 @@
 //! The demands that give way to others.
 
-ghost use Rattle.std.specs.Prelude.{◌≡◌, ◌||◌, IfOk, OnOk, map};
+ghost use Rattle.std.specs.Prelude.{◌≡◌, ◌||◌, IfOk, OnOk, map, true};
 ghost use Rattle.std.specs.List.{list_any};
 ghost use Rattle.guppy_feature_demands.specs.DemandViews.{form_view, numbered_view};
-ghost use Rattle.guppy_feature_edges.specs.Joining.{FindsWeights, Key, ends_of, gives_way_to, key_eq, weight_key};
+ghost use Rattle.guppy_feature_edges.specs.Joining.{Key, ends_of, gives_way_to, key_eq, weight_key};
 ghost use Rattle.guppy_feature_edges.specs.KeyViews.{key_view};
+ghost use Rattle.guppy_feature_edges.specs.Weights.{FindsWeights, is_weighty};
 
 use crate::edge_key::EdgeKey;
 use guppy_feature_demands::{Form, NumberedDemand};
 use indexmap::IndexSet;
 use std::alloc::{AllocError, Global};
 
-/// The weights of the demands.
+/// The weights of the demands to which others may give way.
 pub(crate) fn weights_of<'g>(
     alloc: Global,
     demands: &[NumberedDemand<'g>],
@@ -29,9 +30,12 @@ fn insert_weight<'g>(
     set: &mut IndexSet<EdgeKey<'g>>,
     demand: NumberedDemand<'g>,
 ) -> Result<(), AllocError>
-    ensures { OnOk result ((key : Key) → list_any (key_eq key) (map key_view set.new.keys) ≡ (list_any (key_eq key) (map key_view set.old.keys) || key_eq key (weight_key (numbered_view demand.entry)))) }
+    ensures { OnOk result ((key : Key) → is_weighty key ≡ true → list_any (key_eq key) (map key_view set.new.keys) ≡ (list_any (key_eq key) (map key_view set.old.keys) || key_eq key (weight_key (numbered_view demand.entry)))) }
 {
-    set.insert(EdgeKey::weight(demand))?;
+    let weight = EdgeKey::weight(demand);
+    if weight.sort < 2 {
+        set.insert(weight)?;
+    }
     Ok(())
 }
 

@@ -1,6 +1,6 @@
 use Rattle.std.proofs.Common.{map, take}
 use Rattle.guppy_feature_demands.specs.DemandViews.{numbered_view}
-use Rattle.guppy_feature_edges.specs.Joining.{FindsWeights}
+use Rattle.guppy_feature_edges.specs.Weights.{FindsWeights}
 use Rattle.guppy_feature_edges.specs.KeyViews.{key_view}
 use Rattle.guppy_feature_edges.proofs.weights.weights_of.Given as goal
 
