@@ -6,8 +6,8 @@ ghost use Rattle.package_rules.specs.Found.{finds};
 ghost use Rattle.record_rules.specs.Binaries.{binary_id, may_have_tests, platform_of, binaries_of, binaries};
 ghost use Rattle.record_rules.specs.BinaryView.{binary_view};
 
-use package_rules::text_sets::text_set;
 use indexmap::IndexSet;
+use package_rules::text_sets::text_set;
 use std::alloc::{AllocError, Global};
 use std::cmp::Ordering;
 use test_lister::BuildPlatform;

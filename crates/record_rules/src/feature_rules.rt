@@ -5,9 +5,9 @@ ghost use Rattle.std.specs.List.{list_all};
 ghost use Rattle.package_rules.specs.Found.{finds};
 ghost use Rattle.record_rules.specs.RecordRules.{has_distinct_features, has_required_features};
 
+use indexmap::IndexSet;
 use package_rules::distinct::{first_repeated_text, is_distinct};
 use package_rules::text_sets::text_set;
-use indexmap::IndexSet;
 use std::alloc::{AllocError, Global};
 use workspace_record::{FeatureRecord, PackageRecord, TargetRecord};
 

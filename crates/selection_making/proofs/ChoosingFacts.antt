@@ -1,5 +1,5 @@
 -- Tests chosen from listings, one binary after another.
-use Rattle.std.proofs.Common.{◌≡◌, ◌↔◌, ◌⊎◌, inl, inr, ⊎_elim, ℕ, zero, suc, ◌+◌, ◌<◌, List, [], ◌∷◌, ◌++◌, length, get_or, take, map, refl, sym, ◌∙◌, ap, subst, Contains, Some, Option, String, Vec, string_bytes, add-one, arith, drop, take_all}
+use Rattle.std.proofs.Common.{◌≡◌, ◌↔◌, ◌⊎◌, inl, inr, ⊎_elim, ℕ, zero, suc, ◌+◌, ◌<◌, List, [], ◌∷◌, ◌++◌, length, get_or, take, map, refl, sym, ◌∙◌, ap, subst, Contains, Bor, Some, Option, String, Vec, string_bytes, add-one, arith, drop, take_all}
 use Rattle.std.proofs.lemmas.List.{append-nil, drop_all, length-map}
 use Rattle.std.specs.Global.{Global}
 use Rattle.std.specs.List.{zip}
@@ -67,10 +67,17 @@ module _ (filters : CompiledQuestion) (b : asked.Binary) (id : Text) where
     λ s. ⊎_elim (λ h. record { under = h.under; named = Contains-append_left front (name ∷ []) pair.1 h.named; passes = h.passes }) (λ h. record { under = h.under; named = Contains-append_right front (name ∷ []) pair.1 h.named; passes = h.passes }) s,
   )
 
-  pub one_name_more : (names : List (String Global)) (i : ℕ) (d x : String Global) (name : Text) (old mid new : List (Text × Text)) → i < length names → x ≡ get_or names i d → string_bytes x ≡ name → Adds (IsPassing filters b id (texts (take i names))) old mid → Adds (IsPassing filters b id (name ∷ [])) mid new → Adds (IsPassing filters b id (texts (take (i + 1) names))) old new
-  one_name_more names i d x name old mid new lt at called first second =
-      let more : texts (take (i + 1) names) ≡ texts (take i names) ++ name ∷ [] = more_of string_bytes names i d x lt at ∙ ap (λ n. texts (take i names) ++ n ∷ []) called in
-      rw more (adds_then _ _ _ old mid new first second (names_cases (texts (take i names)) name))
+  pub one_name_more : (names : List (Bor Text)) (i : ℕ) (d : Bor Text) (old mid new : List (Text × Text)) → i < length names → Adds (IsPassing filters b id (map (λ t. t.now) (take i names))) old mid → Adds (IsPassing filters b id ((get_or names i d).now ∷ [])) mid new → Adds (IsPassing filters b id (map (λ t. t.now) (take (i + 1) names))) old new
+  one_name_more names i d old mid new lt first second =
+      rw (more_of (λ (t : Bor Text). t.now) names i d (get_or names i d) lt refl) (adds_then _ _ _ old mid new first second (names_cases (map (λ t. t.now) (take i names)) (get_or names i d).now))
+
+  -- the same names in another order
+  pub passing_alike : (names others : List Text) (old new : List (Text × Text)) → ((x : Text) → Contains names x ↔ Contains others x) → Adds (IsPassing filters b id names) old new → Adds (IsPassing filters b id others) old new
+  passing_alike names others old new same =
+      adds_alike _ _ old new (λ pair. (
+        λ h. record { under = h.under; named = (same pair.1).0 h.named; passes = h.passes },
+        λ h. record { under = h.under; named = (same pair.1).1 h.named; passes = h.passes },
+      ))
 
   -- one test, which passes or does not
   pub passing_added : (name : Text) (old new : List (Text × Text)) → Pass filters (record { binary = b; name = name }) → new ≡ old ++ (id, name) ∷ [] → Adds (IsPassing filters b id (name ∷ [])) old new

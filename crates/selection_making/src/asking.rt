@@ -1,7 +1,8 @@
 //! Asking for the tests of the planned binaries, and choosing from the answers.
 
-ghost use Rattle.std.specs.Prelude.{◌≡◌, ◌∷◌, [], IfOk, OnOk, length, map};
+ghost use Rattle.std.specs.Prelude.{◌≡◌, ◌∷◌, [], ◌↔◌, Contains, IfOk, OnOk, length, map};
 ghost use Rattle.list_facts.specs.Texts.{texts, pair_of};
+ghost use Rattle.workspace_record.specs.Records.{Text};
 ghost use Rattle.record_rules.specs.BinaryView.{binary_view};
 ghost use Rattle.selection_making.specs.Choosing.{AreListed, CarriesOut, IsTestOf, ids_of};
 ghost use Rattle.selection_making.specs.Kept.{Adds};
@@ -102,7 +103,28 @@ fn push_chosen<'f>(
 {
     let asked = AskedBinary::of(alloc, binary)?;
     let ready = ReadyFilters::new(alloc, filters, asked.query())?;
-    push_passing(alloc, &ready, searchers, binary.id.as_str(), names, chosen)
+    let ordered = in_order(alloc, names)?;
+    push_passing(
+        alloc,
+        &ready,
+        searchers,
+        binary.id.as_str(),
+        &ordered,
+        chosen,
+    )
+}
+
+/// The names in ascending order. Binaries are planned in the order of their ids, so what is chosen is
+/// then ascending as it is made.
+fn in_order<'a>(alloc: Global, names: &'a [String]) -> Result<Vec<&'a str>, AllocError>
+    ensures { IfOk result (λ v. (x : Text) → Contains (map (λ t. t.now) v.items) x ↔ Contains (texts names.entry.now) x) }
+{
+    let mut ordered: Vec<&'a str> = Vec::with_capacity(alloc, names.len())?;
+    for name in names {
+        ordered.push(name.as_str())?;
+    }
+    ordered.sort()?;
+    Ok(ordered)
 }
 
 /// The tests with these names of which the filters hold, each under the binary's id.
@@ -111,14 +133,14 @@ fn push_passing<'f>(
     ready: &ReadyFilters<'f>,
     searchers: &mut [Matcher<'f>],
     id: &str,
-    names: &[String],
+    names: &[&str],
     chosen: &mut Vec<(String, String)>,
 ) -> Result<(), AllocError>
-    ensures added { (q : CompiledQuestion) (b : Binary) → IsReadyFor (map matcher_pattern searchers.old) q b (ready_view ready.now) → OnOk result (Adds (IsPassing q b id.now (texts names.now)) (map pair_of chosen.old.items) (map pair_of chosen.new.items)) }
+    ensures added { (q : CompiledQuestion) (b : Binary) → IsReadyFor (map matcher_pattern searchers.old) q b (ready_view ready.now) → OnOk result (Adds (IsPassing q b id.now (map (λ t. t.now) names.now)) (map pair_of chosen.old.items) (map pair_of chosen.new.items)) }
     ensures same { map matcher_pattern searchers.new ≡ map matcher_pattern searchers.old }
 {
     for name in names {
-        push_if_passing(alloc, ready, searchers, id, name.as_str(), chosen)?;
+        push_if_passing(alloc, ready, searchers, id, *name, chosen)?;
     }
     Ok(())
 }

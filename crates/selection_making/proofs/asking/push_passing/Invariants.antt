@@ -1,6 +1,6 @@
 use Rattle.std.proofs.Common.{◌≡◌, map, take}
 use Rattle.regex.specs.Strings.{matcher_pattern}
-use Rattle.list_facts.specs.Texts.{pair_of, texts}
+use Rattle.list_facts.specs.Texts.{pair_of}
 use Rattle.nextest_filter_queries.specs.Queries.{Binary}
 use Rattle.nextest_filter_readiness.specs.Questions.{ready_view}
 use Rattle.selection_making.specs.Kept.{Adds}
@@ -11,5 +11,5 @@ use Rattle.selection_making.proofs.asking.push_passing.Given as goal
 abbrev pub invariant-loop-name : goal.invariant-loop-name
 invariant-loop-name l = record {
   same : map matcher_pattern l.searchers ≡ map matcher_pattern l.fn.searchers;
-  added : (q : CompiledQuestion) (b : Binary) → IsReadyFor (map matcher_pattern l.fn.searchers) q b (ready_view l.ready) → Adds (IsPassing q b l.id (texts (take l.name-index l.names))) (map pair_of l.fn.chosen.items) (map pair_of l.chosen.items);
+  added : (q : CompiledQuestion) (b : Binary) → IsReadyFor (map matcher_pattern l.fn.searchers) q b (ready_view l.ready) → Adds (IsPassing q b l.id (map (λ t. t.now) (take l.name-index l.names))) (map pair_of l.fn.chosen.items) (map pair_of l.chosen.items);
 }
