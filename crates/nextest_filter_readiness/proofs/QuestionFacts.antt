@@ -1,6 +1,7 @@
 -- The filters of a question, made ready, say the same together.
-use Rattle.std.proofs.Common.{◌≡◌, ◌∙◌, ◌↔◌, ◌+◌, ◌<◌, ◌≤◌, ℕ, zero, suc, inl, inr, refl, sym, ap, subst, arith, Bool, true, false, true≢false, IsTrue, List, [], ◌∷◌, ◌++◌, length, map, append_assoc, Some, slice_get, slice_index_or, Contains}
+use Rattle.std.proofs.Common.{◌≡◌, ◌∙◌, ◌↔◌, ◌+◌, ◌<◌, ◌≤◌, ℕ, zero, suc, ◌||◌, ◌⊎◌, inl, inr, refl, sym, ap, subst, arith, Bool, true, false, true≢false, IsTrue, List, [], ◌∷◌, ◌++◌, length, map, append_assoc, Some, slice_get, slice_index_or, Contains}
 use Rattle.std.specs.Prelude.{take, drop, nat_lt}
+use Rattle.std.specs.List.{list_any}
 use Rattle.std.proofs.lemmas.Bool.{ltb-true, lt-ltb}
 use Rattle.std.proofs.lemmas.List.{length-map, map_more, length-append, append-nil, drop_more, drop_all}
 use Rattle.list_facts.proofs.Membership.{Contains-first, Contains-rest, Contains-none, Contains-cons_cases}
@@ -9,11 +10,11 @@ use Rattle.workspace_record.specs.Records.{Text}
 use Rattle.nextest_filter_queries.specs.NameTests.{NameTest}
 use Rattle.nextest_filter_queries.specs.Queries as asked
 use Rattle.nextest_filter_queries.specs.Queries.{binary_of}
-use Rattle.nextest_filter_evaluation.specs.Compiled.{Leaf, Packages, Kind, Platform, Binary, BinaryId, Test, Group, Default, All}
+use Rattle.nextest_filter_evaluation.specs.Compiled.{Leaf, Packages, Kind, Platform, Binary, BinaryId, Test, Group, Default, All, is_group}
 use Rattle.nextest_filter_evaluation.specs.Compiled as compiled
-use Rattle.nextest_filter_evaluation.specs.Formulas.{Formula, Holds}
+use Rattle.nextest_filter_evaluation.specs.Formulas.{Formula, Holds, has_leaf}
 use Rattle.nextest_filter_evaluation.specs.Meaning.{DefaultHolds, LeafHolds, Passes}
-use Rattle.nextest_filter_evaluation.proofs.FormulaFacts.{each_of, holds_alike}
+use Rattle.nextest_filter_evaluation.proofs.FormulaFacts.{each_map, each_of, each_without, holds_alike}
 use Rattle.nextest_filter_readiness.specs.Searches.{HasAt, searches}
 use Rattle.nextest_filter_readiness.specs.Ready.{HoldsOf, IsReady, IsSuited, Question, Says}
 use Rattle.nextest_filter_readiness.specs.Questions.{AllHold, AllSay, AreReady, IsFirst, IsGrouped, Lent, ReadyView, all_searches, lent_searches}
@@ -191,6 +192,31 @@ module _ (member other : NameTest → Type 0) (default another : Type 0) (t : as
   pub filter_alike : (f : Formula Leaf) → Holds (LeafHolds member default t) f ↔ Holds (LeafHolds other another t) f
   filter_alike f = holds_alike _ _ f (each_of _ f leaf_alike)
 
+-- the same of a filter that names no group, whatever is said of groups
+module _ (member other : NameTest → Type 0) (default another : Type 0) (t : asked.Test) (defaults : default ↔ another) where
+  leaf_without : (l : Leaf) → is_group l ≡ false → LeafHolds member default t l ↔ LeafHolds other another t l
+  leaf_without (Packages ids) e = same _
+  leaf_without (Kind test span) e = same _
+  leaf_without (Platform platform span) e = same _
+  leaf_without (Binary test span) e = same _
+  leaf_without (BinaryId test span) e = same _
+  leaf_without (Test test span) e = same _
+  leaf_without (Group test span) e = absurd (true≢false e)
+  leaf_without Default e = defaults
+  leaf_without All e = same _
+  leaf_without compiled.None e = same _
+
+  filter_without : (f : Formula Leaf) → has_leaf is_group f ≡ false → Holds (LeafHolds member default t) f ↔ Holds (LeafHolds other another t) f
+  filter_without f none = holds_alike _ _ f (each_map _ _ f leaf_without (each_without is_group f none))
+
+left_off : (a b : Bool) → (a || b) ≡ false → a ≡ false
+left_off true b e = e
+left_off false b e = refl
+
+right_off : (a b : Bool) → (a || b) ≡ false → b ≡ false
+right_off true b e = absurd (true≢false e)
+right_off false b e = e
+
 -- a first place is never denied
 first_undenied : {F : Type 0} (P : F → Type 0) (fs : List F) → ((k : ℕ) → IsFirst P fs k → ⊥) → ⊥
 first_undenied P [] none = none 0 refl
@@ -205,6 +231,16 @@ alike_so P Q R [] [] h are = tt
 alike_so P Q R [] (g ∷ gs) h are = are
 alike_so P Q R (f ∷ fs) [] h are = are
 alike_so P Q R (f ∷ fs) (g ∷ gs) h are = (iff_trans are.0 (h g), alike_so P Q R fs gs h are.1)
+
+alike_without : {F G : Type 0} (P : F → Type 0) (Q R : G → Type 0) (test : G → Bool) (fs : List F) (gs : List G) → ((g : G) → test g ≡ false → Q g ↔ R g) → list_any test gs ≡ false → AreAlike P Q fs gs → AreAlike P R fs gs
+unfolding AreAlike
+alike_without P Q R test [] [] h none are = tt
+alike_without P Q R test [] (g ∷ gs) h none are = are
+alike_without P Q R test (f ∷ fs) [] h none are = are
+alike_without P Q R test (f ∷ fs) (g ∷ gs) h none are = (
+  iff_trans are.0 (h g (left_off (test g) (list_any test gs) none)),
+  alike_without P Q R test fs gs h (right_off (test g) (list_any test gs) none) are.1,
+)
 
 turned : {F G : Type 0} (P : F → Type 0) (Q : G → Type 0) (fs : List F) (gs : List G) → AreAlike P Q fs gs → AreAlike Q P gs fs
 unfolding AreAlike
@@ -222,6 +258,10 @@ module _ (b : asked.Binary) (name : Text) where
   said : (cx : ReadyContext) (group : ℕ) (member : NameTest → Type 0) (default : Type 0) → binary_of cx.binary_query ≡ b → ((m : NameTest) → IsSuited (map (λ t. t.now) cx.group_names.now) group m ↔ member m) → (IsTrue cx.default ↔ default) → (f : Formula Leaf) → Holds (HoldsOf cx group name) f ↔ Holds (LeafHolds member default there) f
   said cx group member default at members defaults f =
       subst (λ x. Holds (LeafHolds (IsSuited (map (λ t. t.now) cx.group_names.now) group) (IsTrue cx.default) (record { binary = x; name = name })) f ↔ Holds (LeafHolds member default there) f) (sym at) (filter_alike _ _ _ _ there members defaults f)
+
+  said_without : (cx : ReadyContext) (group : ℕ) (member : NameTest → Type 0) (default : Type 0) → binary_of cx.binary_query ≡ b → (IsTrue cx.default ↔ default) → (f : Formula Leaf) → has_leaf is_group f ≡ false → Holds (HoldsOf cx group name) f ↔ Holds (LeafHolds member default there) f
+  said_without cx group member default at defaults f none =
+      subst (λ x. Holds (LeafHolds (IsSuited (map (λ t. t.now) cx.group_names.now) group) (IsTrue cx.default) (record { binary = x; name = name })) f ↔ Holds (LeafHolds member default there) f) (sym at) (filter_without _ _ _ _ there defaults f none)
 
   nobody : (names : List Text) (group : ℕ) → names ≡ [] → (m : NameTest) → IsSuited names group m ↔ ⊥
   nobody names group e m = (λ w. no_some (subst (λ ns. slice_get ns group ≡ Some w.0) e w.1), λ x. absurd x)
@@ -267,7 +307,7 @@ module _ (b : asked.Binary) (name : Text) where
             alike_so _ _ _ R.texts F.texts (said grouped group (IsGrouped F there) (DefaultHolds F.default there) binary_2 members (λ _. holds, λ _. default_2)) (ready_alike grouped (lent_searches F) group name at_2 F.texts R.texts texts_are (subst (λ k. HasAt (lent_searches F) k (all_searches F.texts)) (sym same_2) stand_rest.1))
 
     -- an answer to what is ready is one to the filters
-    pub answers_alike : (answer : Bool) → (IsTrue answer ↔ AllSay (lent_searches F) R name) → IsTrue answer ↔ AllHold F there
+    answers_alike : (answer : Bool) → (IsTrue answer ↔ AllSay (lent_searches F) R name) → IsTrue answer ↔ AllHold F there
     answers_alike true h = (
       λ e.
           let w = h.0 e in
@@ -280,3 +320,35 @@ module _ (b : asked.Binary) (name : Text) where
       λ w.
           absurd (first_undenied (Holds (Says (lent_searches F) 0 name)) R.groups (λ k is. true≢false (sym (h.1 (default_says.1 w.0, (k, is, some_alike _ _ F.texts R.texts (turned _ _ R.texts F.texts (texts_say w.0 k is)) w.1)))))),
     )
+
+    -- the same where no text names a group, and no group is looked for
+    module _ (T : ReadyView) (default_same : T.default ≡ R.default) (texts_same : T.texts ≡ R.texts) (no_groups : T.groups ≡ []) (none : list_any (has_leaf is_group) F.texts ≡ false) where
+      texts_say_without : DefaultHolds F.default there → (group : ℕ) → AreAlike (Holds (Says (lent_searches F) group name)) (Passes F.default (IsGrouped F there) there) R.texts F.texts
+      texts_say_without holds group =
+          alike_without _ _ _ (has_leaf is_group) R.texts F.texts (said_without grouped group (IsGrouped F there) (DefaultHolds F.default there) binary_2 (λ _. holds, λ _. default_2)) none (ready_alike grouped (lent_searches F) group name at_2 F.texts R.texts texts_are (subst (λ k. HasAt (lent_searches F) k (all_searches F.texts)) (sym same_2) stand_rest.1))
+
+      default_of : Holds (Says (lent_searches F) 0 name) T.default ↔ DefaultHolds F.default there
+      default_of = subst (λ d. Holds (Says (lent_searches F) 0 name) d ↔ DefaultHolds F.default there) (sym default_same) default_says
+
+      answers_without : (answer : Bool) → (IsTrue answer ↔ AllSay (lent_searches F) T name) → IsTrue answer ↔ AllHold F there
+      answers_without true h = (
+        λ e.
+            let w = h.0 e in
+            let holds = default_of.0 w.0 in
+            (holds, some_alike _ _ R.texts F.texts (texts_say_without holds w.1.0) (subst (λ ts. (q : Formula Question) × Contains ts q × Holds (Says (lent_searches F) w.1.0 name) q) texts_same w.1.2)),
+        λ _. refl,
+      )
+      answers_without false h = (
+        λ e. absurd (true≢false (sym e)),
+        λ w.
+            let first : IsFirst (Holds (Says (lent_searches F) 0 name)) T.groups 0 = subst (λ gs. IsFirst (Holds (Says (lent_searches F) 0 name)) gs 0) (sym no_groups) refl in
+            let some = some_alike _ _ F.texts R.texts (turned _ _ R.texts F.texts (texts_say_without w.0 0)) w.1 in
+            absurd (true≢false (sym (h.1 (default_of.1 w.0, (0, first, subst (λ ts. (q : Formula Question) × Contains ts q × Holds (Says (lent_searches F) 0 name) q) (sym texts_same) some))))),
+      )
+
+    -- the same of what is ready with the filters of the groups, or without them where no text names a group
+    pub answers_either : (T : ReadyView) → T.default ≡ R.default → T.texts ≡ R.texts → (T.groups ≡ R.groups) ⊎ ((T.groups ≡ []) × (list_any (has_leaf is_group) F.texts ≡ false)) → (answer : Bool) → (IsTrue answer ↔ AllSay (lent_searches F) T name) → IsTrue answer ↔ AllHold F there
+    answers_either T default_same texts_same (inl groups_same) answer says =
+        let whole : T ≡ R = λ i. record { default = default_same i; groups = groups_same i; texts = texts_same i } in
+        answers_alike answer (subst (λ V. IsTrue answer ↔ AllSay (lent_searches F) V name) whole says)
+    answers_either T default_same texts_same (inr left) answer says = answers_without T default_same texts_same left.0 left.1 answer says

@@ -1,10 +1,11 @@
 //! The filters of a question made ready for the tests of one binary.
 
-ghost use Rattle.std.specs.Prelude.{◌≡◌, ◌+◌, ◌<◌, ◌↔◌, ◌^◌, IfOk, IsTrue, length, map};
+ghost use Rattle.std.specs.Prelude.{◌≡◌, ◌+◌, ◌<◌, ◌↔◌, ◌⊎◌, ◌^◌, [], false, IfOk, IsTrue, length, map};
+ghost use Rattle.std.specs.List.{list_any};
 ghost use Rattle.regex.specs.Strings.{matcher_pattern};
 ghost use Rattle.nextest_filter_queries.specs.Queries.{binary_of};
-ghost use Rattle.nextest_filter_evaluation.specs.Compiled.{compiled_of};
-ghost use Rattle.nextest_filter_evaluation.specs.Formulas.{Holds};
+ghost use Rattle.nextest_filter_evaluation.specs.Compiled.{compiled_of, is_group};
+ghost use Rattle.nextest_filter_evaluation.specs.Formulas.{Holds, has_leaf};
 ghost use Rattle.nextest_filter_readiness.specs.Questions.{AllSay, AnswerAlike, AreReady, IsFirst, all_searches, lent_of, lent_searches, ready_view};
 ghost use Rattle.nextest_filter_readiness.specs.Ready.{Says, ready_of};
 
@@ -41,9 +42,10 @@ impl<'f> ReadyFilters<'f> {
         let (groups, at) = reduced_all(alloc, &filters.groups, &ungrouped, at)?;
         let grouped = ReadyContext::new(binary_query, &filters.group_names, true);
         let (texts, _) = reduced_all(alloc, &filters.texts, &grouped, at)?;
+        let kept = asked_groups(alloc, groups, &filters.texts);
         Ok(ReadyFilters {
             default,
-            groups,
+            groups: kept,
             texts,
         })
     }
@@ -61,6 +63,29 @@ impl<'f> ReadyFilters<'f> {
         let texts = self.texts.as_slice();
         first_of(texts, searchers, group, name) < texts.len()
     }
+}
+
+/// The filters of the groups, if some text names a group; else none, so that no test's group is looked for.
+fn asked_groups<'f>(
+    alloc: Global,
+    groups: Vec<ReadyExpr<'f>>,
+    texts: &[&CompiledExpr],
+) -> Vec<ReadyExpr<'f>>
+    ensures { (result ≡ groups.entry)
+        ⊎ ((result.items ≡ []) × (list_any (λ f. has_leaf is_group (compiled_of f.now)) texts.now ≡ false)) }
+{
+    if name_groups(texts) {
+        groups
+    } else {
+        Vec::new(alloc)
+    }
+}
+
+/// Whether some of the filters names a group.
+fn name_groups(filters: &[&CompiledExpr]) -> bool
+    ensures { result ≡ list_any (λ f. has_leaf is_group (compiled_of f.now)) filters.now }
+{
+    filters.iter().any(|filter| filter.has_group_matchers())
 }
 
 /// The filters, whose searchers begin at a place, made ready, and the place behind them.
