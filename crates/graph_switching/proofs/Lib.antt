@@ -1,4 +1,5 @@
 pub mod PlacesOn
+pub mod IndexedFacts
 pub mod SourceFacts
 pub mod LinksOn
 pub mod OrderFacts

@@ -1,3 +1,4 @@
 pub mod LinesOn
+pub mod IndexedFeatures
 pub mod DependencyOrders
 pub mod Laws

@@ -1,6 +1,7 @@
 //! The package graph with just the lines that are on, and the order in which its packages build.
 #![tactic(auto)]
 
+mod indexed_features;
 pub mod laws;
 mod lines_on;
 mod ordering;

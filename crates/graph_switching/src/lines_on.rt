@@ -8,9 +8,8 @@ ghost use Rattle.feature_account.specs.Lines.{counts_for};
 ghost use Rattle.feature_account.specs.RuleList.{line_start};
 ghost use Rattle.graph_switching.specs.LinesOn.{line_is_on};
 
+use crate::indexed_features::IndexedFeatures;
 use feature_account::lines::is_in_force;
-use feature_switching::FeaturesOn;
-use feature_switching::availability::start_is_on;
 use std::alloc::{AllocError, Global};
 use workspace_record::{LineKind, LineRecord, LinkRecord, PlatformTable};
 
@@ -18,7 +17,7 @@ use workspace_record::{LineKind, LineRecord, LinkRecord, PlatformTable};
 pub(crate) fn places_on(
     alloc: Global,
     in_workspace: bool,
-    features: &FeaturesOn,
+    features: &IndexedFeatures<'_>,
     table: &PlatformTable,
     link: &LinkRecord,
 ) -> Result<Vec<usize>, AllocError>
@@ -37,7 +36,7 @@ pub(crate) fn places_on(
 
 fn line_is_on(
     in_workspace: bool,
-    features: &FeaturesOn,
+    features: &IndexedFeatures<'_>,
     table: &PlatformTable,
     link: &LinkRecord,
     line: &LineRecord,
@@ -47,6 +46,17 @@ fn line_is_on(
     counts_for(in_workspace, line.kind)
         && is_in_force(table, &line.spec)
         && start_is_on(features, link, line)
+}
+
+/// Whether that is on from which the line is: the link's source, or the optional dependency of its name.
+fn start_is_on(features: &IndexedFeatures<'_>, link: &LinkRecord, line: &LineRecord) -> bool
+    ensures { result ≡ concluded_set features.now (line_start link.now line.now) }
+{
+    if line.optional {
+        features.contains_dep(link.from.as_str(), link.name.as_str())
+    } else {
+        features.contains_base(link.from.as_str())
+    }
 }
 
 fn counts_for(in_workspace: bool, kind: LineKind) -> bool

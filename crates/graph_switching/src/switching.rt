@@ -5,6 +5,7 @@ ghost use Rattle.package_rules.specs.Kept.{AreKept};
 ghost use Rattle.guppy_package_table.specs.Tables.{IsTableOf};
 ghost use Rattle.graph_switching.specs.LinesOn.{is_link_on, link_on, links_on, with_lines_on};
 
+use crate::indexed_features::IndexedFeatures;
 use crate::lines_on::places_on;
 use feature_switching::FeaturesOn;
 use guppy_package_graph::PackageGraph;
@@ -13,7 +14,8 @@ use workspace_record::{LinkRecord, PlatformTable};
 
 /// The graph of the same packages with exactly the lines that are on where these features are: those
 /// that count on the table's platform and whose start is among the features. A link stays where a line
-/// of it does. Takes time in proportion to packages, lines and the logarithm of the features.
+/// of it does. Takes time in proportion to packages, lines and features, and to the logarithm of the
+/// features for each line of an optional dependency.
 pub fn switched_on(
     alloc: Global,
     graph: &PackageGraph,
@@ -23,7 +25,8 @@ pub fn switched_on(
     ensures kept { IfOk result (λ g. AreKept g.packages g.links g.workspace) }
     ensures table { IfOk result (IsTableOf graph.now.packages (links_on graph.now features.now table.now) graph.now.workspace) }
 {
-    let links = links_on(alloc, graph, features, table)?;
+    let indexed = IndexedFeatures::of(alloc, features)?;
+    let links = links_on(alloc, graph, &indexed, table)?;
     graph.with_links(alloc, links)
 }
 
@@ -31,7 +34,7 @@ pub fn switched_on(
 fn links_on(
     alloc: Global,
     graph: &PackageGraph,
-    features: &FeaturesOn,
+    features: &IndexedFeatures<'_>,
     table: &PlatformTable,
 ) -> Result<Vec<LinkRecord>, AllocError>
     ensures links { IfOk result (λ v. v.items ≡ links_on graph.now features.now table.now) }
@@ -49,7 +52,7 @@ fn links_on(
 fn push_link_on(
     alloc: Global,
     in_workspace: bool,
-    features: &FeaturesOn,
+    features: &IndexedFeatures<'_>,
     table: &PlatformTable,
     row: &LinkRecord,
     links: &mut Vec<LinkRecord>,
