@@ -5,7 +5,7 @@ use Rattle.std.specs.Global.{Global}
 use Rattle.std.specs.List.{zip}
 use Rattle.list_facts.specs.Ascending.{IsAscendingOf, pair_cmp}
 use Rattle.list_facts.specs.Texts.{texts}
-use Rattle.list_facts.proofs.Membership.{Contains-none, Contains-first, Contains-rest, Contains-cons_cases, Contains-append_left, Contains-append_right, Contains-append_cases}
+use Rattle.list_facts.proofs.Membership.{Contains-none, Contains-first, Contains-rest, Contains-cons_cases, Contains-append_left, Contains-append_right, Contains-append_cases, Contains-map, Contains-map_cases}
 use Rattle.list_facts.proofs.Lists.{map-map}
 use Rattle.workspace_record.specs.Records.{Text}
 use Rattle.test_lister.specs.Listers.{Shown}
@@ -19,13 +19,13 @@ use Rattle.nextest_filter_queries.specs.Queries as asked
 use Rattle.nextest_filtering.proofs.PickFacts.{more_of}
 use Rattle.selection_making.specs.Choosing.{AreListed, IsCarriedOut, IsListed, IsMatched, IsTestOf, ids_of}
 use Rattle.selection_making.specs.Kept.{Adds}
-use Rattle.selection_making.specs.Passing.{IsPassing}
+use Rattle.selection_making.specs.Passing.{ArePassing, IsPassing}
 use Rattle.selection_making.specs.Plans.{PassesIn}
 use Rattle.selection_making.specs.Queries.{binary_asked}
 use Rattle.question_filters.specs.QuestionFilters.{CompiledQuestion, Pass}
 use Rattle.selection_making.specs.Selections.{Selected}
 use Rattle.selection_making.specs.Told.{Told, told_by, told_of}
-use Rattle.selection_making.proofs.KeptFacts.{adds_alike, adds_none, adds_one, adds_then}
+use Rattle.selection_making.proofs.KeptFacts.{adds_none, adds_one, adds_then}
 
 -- one pair more of two lists
 module _ {A B : Type 0} where
@@ -56,43 +56,55 @@ lent_back f old new n count same =
     let whole : new ++ drop (length new) old ≡ new = ap (λ ys. new ++ ys) (drop_all (length new) old (omega arith)) ∙ append-nil new in
     ap (λ ys. map f (take n ys)) whole ∙ ap (map f) (take_all n new (omega arith)) ∙ same
 
--- tests with more names of which the filters hold
-module _ (filters : CompiledQuestion) (b : asked.Binary) (id : Text) where
-  pub no_names : (pair : Text × Text) → IsPassing filters b id [] pair → ⊥
-  no_names pair h = Contains-none pair.1 h.named
+-- names of one binary of which the filters hold
+module _ (filters : CompiledQuestion) (b : asked.Binary) where
+  pub no_names : (name : Text) → IsPassing filters b [] name → ⊥
+  no_names name h = Contains-none name h.named
 
-  names_cases : (front : List Text) (name : Text) (pair : Text × Text) → IsPassing filters b id (front ++ name ∷ []) pair ↔ (IsPassing filters b id front pair ⊎ IsPassing filters b id (name ∷ []) pair)
-  names_cases front name pair = (
-    λ h. ⊎_elim (λ i. inl (record { under = h.under; named = i; passes = h.passes })) (λ i. inr (record { under = h.under; named = i; passes = h.passes })) (Contains-append_cases front (name ∷ []) pair.1 h.named),
-    λ s. ⊎_elim (λ h. record { under = h.under; named = Contains-append_left front (name ∷ []) pair.1 h.named; passes = h.passes }) (λ h. record { under = h.under; named = Contains-append_right front (name ∷ []) pair.1 h.named; passes = h.passes }) s,
+  names_cases : (front : List Text) (last name : Text) → IsPassing filters b (front ++ last ∷ []) name ↔ (IsPassing filters b front name ⊎ IsPassing filters b (last ∷ []) name)
+  names_cases front last name = (
+    λ h. ⊎_elim (λ i. inl (record { named = i; passes = h.passes })) (λ i. inr (record { named = i; passes = h.passes })) (Contains-append_cases front (last ∷ []) name h.named),
+    λ s. ⊎_elim (λ h. record { named = Contains-append_left front (last ∷ []) name h.named; passes = h.passes }) (λ h. record { named = Contains-append_right front (last ∷ []) name h.named; passes = h.passes }) s,
   )
 
-  pub one_name_more : (names : List (Bor Text)) (i : ℕ) (d : Bor Text) (old mid new : List (Text × Text)) → i < length names → Adds (IsPassing filters b id (map (λ t. t.now) (take i names))) old mid → Adds (IsPassing filters b id ((get_or names i d).now ∷ [])) mid new → Adds (IsPassing filters b id (map (λ t. t.now) (take (i + 1) names))) old new
-  one_name_more names i d old mid new lt first second =
-      rw (more_of (λ (t : Bor Text). t.now) names i d (get_or names i d) lt refl) (adds_then _ _ _ old mid new first second (names_cases (map (λ t. t.now) (take i names)) (get_or names i d).now))
+  -- one name more of a listing
+  pub one_name_more : (names : List (String Global)) (i : ℕ) (d : String Global) (name : Text) (old mid new : List Text) → i < length names → d ≡ get_or names i d → name ≡ string_bytes d → Adds (IsPassing filters b (texts (take i names))) old mid → Adds (IsPassing filters b (name ∷ [])) mid new → Adds (IsPassing filters b (texts (take (i + 1) names))) old new
+  one_name_more names i d name old mid new lt is named first second =
+      rw (more_of string_bytes names i d d lt is) (adds_then _ _ _ old mid new first (subst (λ x. Adds (IsPassing filters b (x ∷ [])) mid new) named second) (names_cases (texts (take i names)) (string_bytes d)))
 
-  -- the same names in another order
-  pub passing_alike : (names others : List Text) (old new : List (Text × Text)) → ((x : Text) → Contains names x ↔ Contains others x) → Adds (IsPassing filters b id names) old new → Adds (IsPassing filters b id others) old new
-  passing_alike names others old new same =
-      adds_alike _ _ old new (λ pair. (
-        λ h. record { under = h.under; named = (same pair.1).0 h.named; passes = h.passes },
-        λ h. record { under = h.under; named = (same pair.1).1 h.named; passes = h.passes },
-      ))
-
-  -- one test, which passes or does not
-  pub passing_added : (name : Text) (old new : List (Text × Text)) → Pass filters (record { binary = b; name = name }) → new ≡ old ++ (id, name) ∷ [] → Adds (IsPassing filters b id (name ∷ [])) old new
+  -- one name, of whose test they hold or do not
+  pub passing_added : (name : Text) (old new : List Text) → Pass filters (record { binary = b; name = name }) → new ≡ old ++ name ∷ [] → Adds (IsPassing filters b (name ∷ [])) old new
   passing_added name old new holds grown =
-      adds_one _ old new (id, name) grown (record { under = refl; named = Contains-first name []; passes = holds }) (λ pair h. ⊎_elim (λ e. λ i. (h.under i, e i)) (λ n. absurd (Contains-none pair.1 n)) (Contains-cons_cases name [] pair.1 h.named))
+      adds_one _ old new name grown (record { named = Contains-first name []; passes = holds }) (λ other h. ⊎_elim (λ e. e) (λ n. absurd (Contains-none other n)) (Contains-cons_cases name [] other h.named))
 
-  pub not_passing : (name : Text) (xs : List (Text × Text)) → (Pass filters (record { binary = b; name = name }) → ⊥) → Adds (IsPassing filters b id (name ∷ [])) xs xs
+  pub not_passing : (name : Text) (xs : List Text) → (Pass filters (record { binary = b; name = name }) → ⊥) → Adds (IsPassing filters b (name ∷ [])) xs xs
   not_passing name xs fails =
-      adds_none _ xs (λ pair h. ⊎_elim (λ e. fails (subst (λ n. Pass filters (record { binary = b; name = n })) (sym e) h.passes)) (λ n. Contains-none pair.1 n) (Contains-cons_cases name [] pair.1 h.named))
+      adds_none _ xs (λ other h. ⊎_elim (λ e. fails (subst (λ n. Pass filters (record { binary = b; name = n })) (sym e) h.passes)) (λ n. Contains-none other n) (Contains-cons_cases name [] other h.named))
 
--- the tests of a binary of the record
-pub passing_of : (filters : CompiledQuestion) (b : Binary) (a : asked.Binary) (names : List (String Global)) (old new : List (Text × Text)) → a ≡ binary_asked b → Adds (IsPassing filters a b.id (texts names)) old new → Adds (IsTestOf (PassesIn filters) b names) old new
-passing_of filters b a names old new same h =
-    let over : Adds (IsPassing filters (binary_asked b) b.id (texts names)) old new = subst (λ x. Adds (IsPassing filters x b.id (texts names)) old new) same h in
-    adds_alike _ _ old new (λ pair. (λ p. record { id = p.under; listed = p.named; is_held = p.passes }, λ t. record { under = t.id; named = t.listed; passes = t.is_held })) over
+  -- the names that were found, in another order
+  pub passing_in_order : (names found sorted : List Text) → Adds (IsPassing filters b names) [] found → ((x : Text) → Contains sorted x ↔ Contains found x) → ArePassing filters b names sorted
+  passing_in_order names found sorted added same name = (
+    λ h. ⊎_elim (λ n. absurd (Contains-none name n)) (λ p. p) ((added name).0 ((same name).0 h)),
+    λ p. (same name).1 ((added name).1 (inr p)),
+  )
+
+-- the tests of these names, under the id of a binary of the record
+pub tests_added : (filters : CompiledQuestion) (b : Binary) (a : asked.Binary) (names : List (String Global)) (passing : List (Bor Text)) (old new : List (Text × Text)) → a ≡ binary_asked b → ArePassing filters a (texts names) (map (λ t. t.now) passing) → new ≡ old ++ map (λ (t : Bor Text). (b.id, t.now)) passing → Adds (IsTestOf (PassesIn filters) b names) old new
+tests_added filters b a names passing old new same are grown pair =
+    let under : Bor Text → Text × Text = λ t. (b.id, t.now) in
+    let now : Bor Text → Text = λ t. t.now in
+    let to : Contains (map under passing) pair → IsTestOf (PassesIn filters) b names pair = λ h.
+    let (t, there, is) = Contains-map_cases under passing pair h in
+    let p = (are t.now).0 (Contains-map now passing t there) in
+    subst (IsTestOf (PassesIn filters) b names) is (record { id = refl; listed = p.named; is_held = subst (λ x. Pass filters (record { binary = x; name = t.now })) same p.passes }) in
+    let from : IsTestOf (PassesIn filters) b names pair → Contains (map under passing) pair = λ h.
+    let p : IsPassing filters a (texts names) pair.1 = record { named = h.listed; passes = subst (λ x. Pass filters (record { binary = x; name = pair.1 })) (sym same) h.is_held } in
+    let (t, there, is) = Contains-map_cases now passing pair.1 ((are pair.1).1 p) in
+    subst (Contains (map under passing)) (λ i. (h.id i, is i)) (Contains-map under passing t there) in
+    rw grown (
+      λ h. ⊎_elim (λ l. inl l) (λ r. inr (to r)) (Contains-append_cases old (map under passing) pair h),
+      λ s. ⊎_elim (λ l. Contains-append_left old (map under passing) pair l) (λ t. Contains-append_right old (map under passing) pair (from t)) s,
+    )
 
 module _ (holds : Binary → Text → Type 0) where
   -- the tests of one binary more

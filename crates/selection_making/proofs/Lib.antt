@@ -12,3 +12,4 @@ pub mod ReasonLaws
 pub mod SelectingFacts
 pub mod TellingFacts
 pub mod WantedFacts
+pub mod AscendingFacts

@@ -1,12 +1,11 @@
 //! Asking for the tests of the planned binaries, and choosing from the answers.
 
-ghost use Rattle.std.specs.Prelude.{◌≡◌, ◌∷◌, [], ◌↔◌, Contains, IfOk, OnOk, length, map};
+ghost use Rattle.std.specs.Prelude.{◌≡◌, ◌∷◌, ◌++◌, [], IfOk, OnOk, length, map};
 ghost use Rattle.list_facts.specs.Texts.{texts, pair_of};
-ghost use Rattle.workspace_record.specs.Records.{Text};
 ghost use Rattle.record_rules.specs.BinaryView.{binary_view};
 ghost use Rattle.selection_making.specs.Choosing.{AreListed, CarriesOut, IsTestOf, ids_of};
 ghost use Rattle.selection_making.specs.Kept.{Adds};
-ghost use Rattle.selection_making.specs.Passing.{IsPassing};
+ghost use Rattle.selection_making.specs.Passing.{ArePassing, IsPassing};
 ghost use Rattle.selection_making.specs.Plans.{PassesIn};
 ghost use Rattle.nextest_filter_queries.specs.Queries.{Binary};
 ghost use Rattle.nextest_filter_readiness.specs.Questions.{lent_of, lent_searches, ready_view};
@@ -14,10 +13,10 @@ ghost use Rattle.question_filters.specs.QuestionFilters.{CompiledQuestion, IsRea
 ghost use Rattle.regex.specs.Strings.{matcher_pattern};
 ghost use Rattle.selection_making.specs.Told.{told_by, told_of};
 
+use crate::ascending_pairs::ascending_pairs;
 use crate::asked_queries::AskedBinary;
 use crate::plan::Plan;
 use crate::selection::Selection;
-use list_facts::sorted_pairs;
 use nextest_filter_readiness::{LentFilters, ReadyFilters};
 use question_filters::lent_filters;
 use record_checks::SelectError;
@@ -86,7 +85,7 @@ fn choose(
         let binary = &plan.asked[place];
         push_chosen(alloc, &filters, &mut searchers, binary, names, &mut chosen)?;
     }
-    sorted_pairs(chosen)
+    ascending_pairs(chosen)
 }
 
 fn push_chosen<'f>(
@@ -103,63 +102,70 @@ fn push_chosen<'f>(
 {
     let asked = AskedBinary::of(alloc, binary)?;
     let ready = ReadyFilters::new(alloc, filters, asked.query())?;
-    let ordered = in_order(alloc, names)?;
-    push_passing(
-        alloc,
-        &ready,
-        searchers,
-        binary.id.as_str(),
-        &ordered,
-        chosen,
-    )
+    let passing = passing_names(alloc, &ready, searchers, names)?;
+    push_tests(alloc, binary.id.as_str(), &passing, chosen)
 }
 
-/// The names in ascending order. Binaries are planned in the order of their ids, so what is chosen is
-/// then ascending as it is made.
-fn in_order<'a>(alloc: Global, names: &'a [String]) -> Result<Vec<&'a str>, AllocError>
-    ensures { IfOk result (λ v. (x : Text) → Contains (map (λ t. t.now) v.items) x ↔ Contains (texts names.entry.now) x) }
-{
-    let mut ordered: Vec<&'a str> = Vec::with_capacity(alloc, names.len())?;
-    for name in names {
-        ordered.push(name.as_str())?;
-    }
-    ordered.sort()?;
-    Ok(ordered)
-}
-
-/// The tests with these names of which the filters hold, each under the binary's id.
-fn push_passing<'f>(
+/// Those of the names of which the filters hold, ascending. Binaries are planned in the order of their
+/// ids, so what is chosen is then ascending as it is made.
+fn passing_names<'a, 'f>(
     alloc: Global,
     ready: &ReadyFilters<'f>,
     searchers: &mut [Matcher<'f>],
-    id: &str,
-    names: &[&str],
-    chosen: &mut Vec<(String, String)>,
-) -> Result<(), AllocError>
-    ensures added { (q : CompiledQuestion) (b : Binary) → IsReadyFor (map matcher_pattern searchers.old) q b (ready_view ready.now) → OnOk result (Adds (IsPassing q b id.now (map (λ t. t.now) names.now)) (map pair_of chosen.old.items) (map pair_of chosen.new.items)) }
+    names: &'a [String],
+) -> Result<Vec<&'a str>, AllocError>
+    ensures passing { (q : CompiledQuestion) (b : Binary) → IsReadyFor (map matcher_pattern searchers.old) q b (ready_view ready.now) → IfOk result (λ v. ArePassing q b (texts names.entry.now) (map (λ t. t.now) v.items)) }
     ensures same { map matcher_pattern searchers.new ≡ map matcher_pattern searchers.old }
 {
+    let mut passing: Vec<&'a str> = Vec::new(alloc);
     for name in names {
-        push_if_passing(alloc, ready, searchers, id, *name, chosen)?;
+        push_if_passing(ready, searchers, name.as_str(), &mut passing)?;
+    }
+    passing.sort()?;
+    Ok(passing)
+}
+
+/// Adds the name if the filters hold of the test.
+fn push_if_passing<'a, 'f>(
+    ready: &ReadyFilters<'f>,
+    searchers: &mut [Matcher<'f>],
+    name: &'a str,
+    passing: &mut Vec<&'a str>,
+) -> Result<(), AllocError>
+    ensures added { (q : CompiledQuestion) (b : Binary) → IsReadyFor (map matcher_pattern searchers.old) q b (ready_view ready.now) → OnOk result (Adds (IsPassing q b (name.entry.now ∷ [])) (map (λ t. t.now) passing.old.items) (map (λ t. t.now) passing.new.items)) }
+    ensures same { map matcher_pattern searchers.new ≡ map matcher_pattern searchers.old }
+{
+    if ready.hold(searchers, name) {
+        passing.push(name)?;
     }
     Ok(())
 }
 
-fn push_if_passing<'f>(
+/// Adds the tests with these names, each under the binary's id.
+fn push_tests(
     alloc: Global,
-    ready: &ReadyFilters<'f>,
-    searchers: &mut [Matcher<'f>],
+    id: &str,
+    names: &[&str],
+    chosen: &mut Vec<(String, String)>,
+) -> Result<(), AllocError>
+    ensures { OnOk result (map pair_of chosen.new.items ≡ map pair_of chosen.old.items ++ map (λ name. (id.now, name.now)) names.now) }
+{
+    for name in names {
+        push_test(alloc, id, *name, chosen)?;
+    }
+    Ok(())
+}
+
+fn push_test(
+    alloc: Global,
     id: &str,
     name: &str,
     chosen: &mut Vec<(String, String)>,
 ) -> Result<(), AllocError>
-    ensures added { (q : CompiledQuestion) (b : Binary) → IsReadyFor (map matcher_pattern searchers.old) q b (ready_view ready.now) → OnOk result (Adds (IsPassing q b id.now (name.now ∷ [])) (map pair_of chosen.old.items) (map pair_of chosen.new.items)) }
-    ensures same { map matcher_pattern searchers.new ≡ map matcher_pattern searchers.old }
+    ensures { OnOk result (map pair_of chosen.new.items ≡ map pair_of chosen.old.items ++ (id.now, name.now) ∷ []) }
 {
-    if ready.hold(searchers, name) {
-        let id = String::from_str(alloc, id)?;
-        chosen.push((id, String::from_str(alloc, name)?))?;
-    }
+    let id = String::from_str(alloc, id)?;
+    chosen.push((id, String::from_str(alloc, name)?))?;
     Ok(())
 }
 

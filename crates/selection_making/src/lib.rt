@@ -1,6 +1,7 @@
 //! The selection of tests: what is to be asked, what a lister answers, what is chosen and reported.
 #![tactic(auto)]
 
+mod ascending_pairs;
 mod asked_binaries;
 mod asked_queries;
 mod asking;

@@ -32,4 +32,4 @@ returns c =
     let found = map pair_of c.loop-place.chosen.items in
     let one : Adds (IsListed holds (take i asked) listings) [] found = subst (λ ls. Adds (IsListed holds (take i asked) ls) [] found) (take_all i listings c.loop-place-test.false) c.loop-place.invariant.listed in
     let all : Adds (IsListed holds asked listings) [] found = subst (λ bs. Adds (IsListed holds bs listings) [] found) (take_all i asked (omega (arith, c.loop-place-test.false, c.requires))) one in
-    if_ok_so _ _ c.sorted_pairs.result (λ v ascending. listed_all holds asked listings found (map pair_of v.items) all ascending) c.sorted_pairs.ensures
+    if_ok_so _ _ c.ascending_pairs.result (λ v ascending. listed_all holds asked listings found (map pair_of v.items) all ascending) c.ascending_pairs.ensures
