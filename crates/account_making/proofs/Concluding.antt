@@ -1,18 +1,16 @@
 -- Features that are concluded one after another by open rules.
-use Rattle.std.proofs.Common.{◌≡◌, ℕ, ◌<◌, ◌&&◌, ◌||◌, Bool, true, false, not, List, [], ◌∷◌, ◌++◌, Some, append-nil, append_assoc, refl, sym, ap, subst, ◌∙◌, ◌↔◌, slice_get, length, filter, Contains, true≢false}
-use Rattle.std.specs.List.{list_any}
-use Rattle.std.proofs.lemmas.List.Folds.{list_any-append}
+use Rattle.std.proofs.Common.{◌≡◌, ℕ, ◌<◌, true, not, List, [], ◌∷◌, ◌++◌, Some, append-nil, append_assoc, refl, sym, subst, slice_get, length, filter}
 use Rattle.list_facts.proofs.Tests.{and_not_parts, not_mono}
 use Rattle.list_facts.proofs.Membership.{Contains-append_left, Contains-append_right, Contains-first}
 use Rattle.list_facts.proofs.Counting.{length-filter-lt}
 use Rattle.workspace_record.specs.Features.{FeatureValue}
-use Rattle.feature_account.specs.Accounts.{conclusions, concluded_set, concludes, MayStand, IsSound, IsFirstOpen}
+use Rattle.feature_account.specs.Accounts.{concluded_set, concludes, MayStand, IsSound, IsFirstOpen}
 use Rattle.feature_account.specs.Closed.{FeatureSet, has_premises, is_open}
 use Rattle.feature_account.specs.declared.rule.Premises.{Premises}
 use Rattle.feature_account.specs.declared.rule.Premises.TheVariants as premises
 use Rattle.feature_account.specs.declared.rule.Rule.{Rule}
 use Rattle.feature_account.proofs.ConcludedFacts.{concluded_iff}
-use Rattle.feature_account.proofs.AccountFacts.{concludes-push, conclusions-push, IsSoundAfter-push, Contains-slice_get}
+use Rattle.feature_account.proofs.AccountFacts.{IsSoundAfter-push, Contains-slice_get}
 use Rattle.account_making.specs.Lowest.{IsLowestAfter}
 
 -- the number of an open rule may be the next entry

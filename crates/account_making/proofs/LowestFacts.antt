@@ -1,5 +1,5 @@
 -- Two lowest accounts of one list of rules are the same.
-use Rattle.std.proofs.Common.{◌≡◌, ℕ, ◌<◌, ◌≤◌, ⊎_elim, true, false, List, [], ◌∷◌, ◌++◌, Some, sym, ap, ◌∙◌, refl, subst, take, append-nil, append_assoc, slice_get, Contains, true≢false, arith, get_or-take, length-take}
+use Rattle.std.proofs.Common.{◌≡◌, ℕ, ◌<◌, ◌≤◌, ⊎_elim, List, [], ◌∷◌, ◌++◌, Some, sym, ap, ◌∙◌, refl, subst, take, append-nil, append_assoc, slice_get, Contains, true≢false, arith, get_or-take, length-take}
 use Rattle.std.proofs.lemmas.Bool.{cases_lt}
 use Rattle.std.proofs.lemmas.Option.{slice_get_within, get_or_from_slice_get}
 use Rattle.feature_account.specs.Accounts.{concludes, IsFirstOpen}

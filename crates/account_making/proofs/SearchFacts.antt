@@ -1,13 +1,10 @@
 -- The search for the lowest open rule: what holds between two looks.
-use Rattle.std.proofs.Common.{◌≡◌, ◌↔◌, ℕ, zero, suc, ◌+◌, ◌*◌, ◌<◌, ◌≤◌, Bool, true, false, cond, ◌&&◌, ◌||◌, not, List, [], ◌∷◌, ◌++◌, ◌⊎◌, inl, inr, ⊎_elim, IsTrue, Some, Vec, refl, sym, ap, ◌∙◌, subst, Bor, length, length-append, length-take, get_or-take, slice_get, take, nat_eq, unwrap_or, true≢false, arith}
+use Rattle.std.proofs.Common.{◌≡◌, ◌↔◌, ℕ, zero, suc, ◌+◌, ◌*◌, ◌<◌, ◌≤◌, Bool, true, false, ◌&&◌, ◌||◌, not, List, [], ◌∷◌, ◌++◌, ◌⊎◌, inl, inr, ⊎_elim, IsTrue, Some, Vec, refl, sym, ap, ◌∙◌, subst, Bor, length, length-append, length-take, get_or-take, slice_get, take, nat_eq, unwrap_or, true≢false, arith}
 use Rattle.std.specs.BTreeMap as tree
-use Rattle.std.specs.BTreeSet as set
-use Rattle.std.specs.BTreeSet.{BTreeSet, btree_set_len}
-use Rattle.std.specs.Cmp.{IsEquivalence, unsigned_Decides, unsigned_ties, nat_cmp_is}
-use Rattle.std.specs.declared.cmp.Ordering.TheVariants.{Greater}
+use Rattle.std.specs.Cmp.{IsEquivalence}
 use Rattle.std.specs.Global.{Global}
 use Rattle.std.specs.List.{list_any}
-use Rattle.std.specs.Ordering.{nat_cmp, is_gt}
+use Rattle.std.specs.Ordering.{nat_cmp}
 use Rattle.std.proofs.lemmas.Bool.{and_parts, and_from, or_cases, or_parts, or_left, or_right}
 use Rattle.std.proofs.lemmas.List.Filters.{length-filter_both}
 use Rattle.std.proofs.lemmas.Nat.{mul-le}
@@ -26,18 +23,22 @@ use Rattle.feature_account.proofs.AccountFacts.{concludes-push, conclusions-push
 use Rattle.feature_account.proofs.ClosedSets.{concludes_iff}
 use Rattle.account_making.specs.Lowest.{IsLowestAfter, IsLowestAccount, IsLooksOf}
 use Rattle.feature_account.specs.Found.{found_set}
-use Rattle.account_making.specs.Waiting.{is_premise, waiting_at, IsWaiting, has, IsEach, IsWith}
+use Rattle.account_making.specs.Waiting.{is_premise, waiting_at, IsWaiting, has, size, IsEach, IsReady, IsTakenLeast, IsWith}
+use Rattle.account_making.specs.declared.ready.Ready.{Ready}
 use Rattle.account_making.proofs.Concluding.{sound-push, lowest-push, left_out, left_out-falls, same_open}
+use Rattle.account_making.proofs.ReadyFacts.{differs, has_cases}
 
 -- what the search keeps: the account so far, and among the numbers to be looked at each open rule's
-pub record Keeps {S : Type 0} (rules : List Rule) (ready : BTreeSet ℕ) (found : IndexSet (Bor FeatureValue) S) (account : List ℕ) (looks : ℕ) : Type 0 where
+pub record Keeps {S : Type 0} (rules : List Rule) (ready : Ready) (found : IndexSet (Bor FeatureValue) S) (account : List ℕ) (looks : ℕ) : Type 0 where
   pub found_is : (f : FeatureValue) → found_set found f ≡ concludes rules account f
   pub sound : IsSound rules account
   pub lowest : IsLowestAfter rules [] account
+  pub ready_is : IsReady ready
+  pub count_is : ready.count ≡ length rules
   pub open_ready : (n : ℕ) (r : Rule) → slice_get rules n ≡ Some r → is_open (concludes rules account) r ≡ true → has ready n ≡ true
   pub known : (n : ℕ) → has ready n ≡ true → n < length rules
-  pub each : length rules ≤ looks + btree_set_len ready
-  pub few : looks + btree_set_len ready ≤ (length account + 1) * length rules
+  pub each : length rules ≤ looks + size ready
+  pub few : looks + size ready ≤ (length account + 1) * length rules
   pub left : length account + left_out rules (conclusions rules account) ≤ length rules
 
 -- a rule of a closed list is not open, and the other way round
@@ -68,9 +69,6 @@ newly_open s t c grown r h =
         let both = and_parts (t f) (t g) e in
         ⊎_elim (λ a. ⊎_elim (λ b. inl (and_from (s f) (s g) a b)) (λ b. inr (or_right (feature_eq c f) (feature_eq c g) b)) (was_or_is g both.1)) (λ a. inr (or_left (feature_eq c f) (feature_eq c g) a)) (was_or_is f both.0)
 
-not_below : (m n : ℕ) → m < n → is_gt (nat_cmp n m) ≡ false → ⊥
-not_below m n lt e = true≢false (ap is_gt (nat_cmp_is n m Greater lt) ∙ e)
-
 -- what stands at a number among the first stands there in the whole list
 from_take : {X : Type 0} (n : ℕ) (xs : List X) (m : ℕ) (x : X) → slice_get (take n xs) m ≡ Some x → slice_get xs m ≡ Some x
 from_take n xs m x at =
@@ -93,14 +91,16 @@ outweighed after before count woken ready lt few =
     omega (arith, row, few)
 
 -- at the beginning each number is to be looked at
-pub search_begins : {S : Type 0} (rules : List Rule) (ready : BTreeSet ℕ) (found : IndexSet (Bor FeatureValue) S) (account : List ℕ) → account ≡ [] → IsEach (length rules) ready → found.keys ≡ [] → Keeps rules ready found account 0
+pub search_begins : {S : Type 0} (rules : List Rule) (ready : Ready) (found : IndexSet (Bor FeatureValue) S) (account : List ℕ) → account ≡ [] → IsEach (length rules) ready → found.keys ≡ [] → Keeps rules ready found account 0
 search_begins rules ready found account none all empty = subst (λ xs. Keeps rules ready found xs 0) (sym none) (
-    let count = all.count_is in
+    let count = all.size_is in
     let both = length-filter_both (λ (r : Rule). not (concluded_set [] r.conclusion)) (λ r. not (not (concluded_set [] r.conclusion))) (λ r. refl) rules in
     record {
       found_is = λ f. ap (list_any (λ (k : Bor FeatureValue). feature_eq f k.now)) empty;
       sound = tt;
       lowest = tt;
+      ready_is = all.ready_is;
+      count_is = all.count_is;
       open_ready = λ n r at h. all.finds n (slice_get_within rules n r at);
       known = all.known;
       each = omega (arith, count);
@@ -109,23 +109,12 @@ search_begins rules ready found account none all empty = subst (λ xs. Keeps rul
     })
 
 -- One look: the least number is taken out.
-module _ {S : Type 0} (rules : List Rule) (ready rest : BTreeSet ℕ) (found : IndexSet (Bor FeatureValue) S) (account : List ℕ) (looks n : ℕ) (rule : Rule) (before : Keeps rules ready found account looks) (stands : slice_get rules n ≡ Some rule) (taken : set.Updates nat_cmp ready rest n false) (count : btree_set_len rest + 1 ≡ btree_set_len ready) where
-  rest_has : (m : ℕ) → has rest m ≡ cond (nat_eq n m) false (has ready m)
-  rest_has m = taken.0 m ∙ ap (λ b. cond b false (has ready m)) (sym (unsigned_ties n m))
-
+module _ {S : Type 0} (rules : List Rule) (ready rest : Ready) (found : IndexSet (Bor FeatureValue) S) (account : List ℕ) (looks n : ℕ) (rule : Rule) (before : Keeps rules ready found account looks) (stands : slice_get rules n ≡ Some rule) (taken : IsTakenLeast ready rest n) where
   was_ready : (m : ℕ) → has rest m ≡ true → has ready m ≡ true
-  was_ready m h = by (nat_eq n m) (sym (rest_has m) ∙ h)
-    where
-      by : (b : Bool) → cond b false (has ready m) ≡ true → has ready m ≡ true
-      by true e = absurd (true≢false (sym e))
-      by false e = e
+  was_ready m h = (and_parts (not (nat_eq n m)) (has ready m) (sym (taken.rest m) ∙ h)).1
 
   still_ready : (m : ℕ) → has ready m ≡ true → (n ≡ m → ⊥) → has rest m ≡ true
-  still_ready m h differ = rest_has m ∙ by (nat_eq n m) (λ e. differ ((unsigned_Decides n m).0 e))
-    where
-      by : (b : Bool) → (b ≡ true → ⊥) → cond b false (has ready m) ≡ true
-      by true never = absurd (never refl)
-      by false never = h
+  still_ready m h apart = taken.rest m ∙ and_from (not (nat_eq n m)) (has ready m) (ap not (differs n m apart)) h
 
   same_rule : (m : ℕ) (r : Rule) → slice_get rules m ≡ Some r → n ≡ m → r ≡ rule
   same_rule m r at e = ap (λ o. unwrap_or o r) (sym at ∙ ap (slice_get rules) (sym e) ∙ stands)
@@ -135,8 +124,11 @@ module _ {S : Type 0} (rules : List Rule) (ready rest : BTreeSet ℕ) (found : I
   passes_over shut =
       let each = before.each in
       let few = before.few in
+      let count = taken.size_is in
       record {
         found_is = before.found_is;
+        ready_is = taken.ready_is;
+        count_is = taken.count_is ∙ before.count_is;
         sound = before.sound;
         lowest = before.lowest;
         left = before.left;
@@ -147,12 +139,12 @@ module _ {S : Type 0} (rules : List Rule) (ready rest : BTreeSet ℕ) (found : I
       }
 
   -- an open rule is the next entry, and the rules that wait for its conclusion are to be looked at
-  module _ (opened : is_open (found_set found) rule ≡ true) (least : set.IsLowerBound nat_cmp ready n) {T : Type 0} (waiting : IndexMap (Bor FeatureValue) (Vec ℕ Global) T) (waits : IsWaiting rules waiting) (woken : BTreeSet ℕ) (more : IndexSet (Bor FeatureValue) S) (with_rule : (f : FeatureValue) → found_set more f ≡ (found_set found f || (feature_eq f rule.conclusion || false))) (wakes : IsWith rest (waiting_at waiting rule.conclusion) woken) where
+  module _ (opened : is_open (found_set found) rule ≡ true) {T : Type 0} (waiting : IndexMap (Bor FeatureValue) (Vec ℕ Global) T) (waits : IsWaiting rules waiting) (woken : Ready) (more : IndexSet (Bor FeatureValue) S) (with_rule : (f : FeatureValue) → found_set more f ≡ (found_set found f || (feature_eq f rule.conclusion || false))) (wakes : IsWith rest (waiting_at waiting rule.conclusion) woken) where
     is_opened : is_open (concludes rules account) rule ≡ true
     is_opened = sym (same_open (found_set found) (concludes rules account) before.found_is rule) ∙ opened
 
     below_shut : (m : ℕ) (r : Rule) → m < n → slice_get rules m ≡ Some r → is_open (concludes rules account) r ≡ true → ⊥
-    below_shut m r lt at h = not_below m n lt (least m (before.open_ready m r at h))
+    below_shut m r lt at h = let le = taken.least m (before.open_ready m r at h) in omega (arith, lt, le)
 
     first : IsFirstOpen rules (concludes rules account) n
     first =
@@ -175,39 +167,43 @@ module _ {S : Type 0} (rules : List Rule) (ready rest : BTreeSet ℕ) (found : I
             sym ((and_not_parts _ _ o).1) ∙ concludes-push rules account n rule stands rule.conclusion ∙ or_right (concludes rules account rule.conclusion) _ (or_left _ _ ((features_decide rule.conclusion rule.conclusion).1 refl))
 
     -- fewer rules are left out, so that the numbers woken again are outweighed
-    pub looks_end : left_out rules (conclusions rules (account ++ n ∷ [])) * (length rules + 1) + btree_set_len woken < left_out rules (conclusions rules account) * (length rules + 1) + btree_set_len ready
+    pub looks_end : left_out rules (conclusions rules (account ++ n ∷ [])) * (length rules + 1) + size woken < left_out rules (conclusions rules account) * (length rules + 1) + size ready
     looks_end =
         let lt : left_out rules (conclusions rules (account ++ n ∷ [])) < left_out rules (conclusions rules account) = subst (λ (xs : List FeatureValue). left_out rules xs < left_out rules (conclusions rules account)) (sym (conclusions-push rules account n rule stands)) (left_out-falls rules (conclusions rules account) n rule stands is_opened) in
+        let count = taken.size_is in
         let fewer = wakes.few in
         let waiting_few = waits.few rule.conclusion in
-        outweighed _ _ (length rules) (btree_set_len woken) (btree_set_len ready) lt (omega (arith, count, fewer, waiting_few))
+        outweighed _ _ (length rules) (size woken) (size ready) lt (omega (arith, count, fewer, waiting_few))
 
     pub goes_on : Keeps rules woken more (account ++ n ∷ []) (looks + 1)
     goes_on =
         let each = before.each in
         let few = before.few in
         let left = before.left in
+        let count = taken.size_is in
         let wake_more = wakes.more in
         let wake_few = wakes.few in
         let waiting_few = waits.few rule.conclusion in
         let falls = left_out-falls rules (conclusions rules account) n rule stands is_opened in
         let pushed = conclusions-push rules account n rule stands in
-        let size = length-append account (n ∷ []) in
+        let long = length-append account (n ∷ []) in
         record {
           found_is = λ f. with_rule f ∙ ap (λ b. b || (feature_eq f rule.conclusion || false)) (before.found_is f) ∙ sym (concludes-push rules account n rule stands f);
           sound = sound-push rules account n rule before.sound stands is_opened;
           lowest = lowest-push rules [] account n before.lowest first;
+          ready_is = wakes.ready_is;
+          count_is = wakes.count_is ∙ taken.count_is ∙ before.count_is;
           open_ready = now_open;
           known = λ m h. ⊎_elim (λ new. waits.known m rule.conclusion new) (λ old. before.known m (was_ready m old)) (or_cases _ _ (sym (wakes.finds m) ∙ h));
           each = omega (arith, each, count, wake_more);
-          few = one_round (length account) (length rules) looks (btree_set_len woken) (length (account ++ n ∷ [])) size (omega (arith, few, count, wake_few, waiting_few));
-          left = subst (λ (xs : List FeatureValue). length (account ++ n ∷ []) + left_out rules xs ≤ length rules) (sym pushed) (omega (arith, left, falls, size));
+          few = one_round (length account) (length rules) looks (size woken) (length (account ++ n ∷ [])) long (omega (arith, few, count, wake_few, waiting_few));
+          left = subst (λ (xs : List FeatureValue). length (account ++ n ∷ []) + left_out rules xs ≤ length rules) (sym pushed) (omega (arith, left, falls, long));
         }
 
 -- at the end no rule is open
-module _ {S : Type 0} (rules : List Rule) (ready : BTreeSet ℕ) (found : IndexSet (Bor FeatureValue) S) (account : List ℕ) (looks : ℕ) (kept : Keeps rules ready found account looks) (empty : btree_set_len ready ≡ 0) where
+module _ {S : Type 0} (rules : List Rule) (ready : Ready) (found : IndexSet (Bor FeatureValue) S) (account : List ℕ) (looks : ℕ) (kept : Keeps rules ready found account looks) (empty : size ready ≡ 0) where
   nothing_ready : (n : ℕ) → has ready n ≡ true → ⊥
-  nothing_ready n h = none ready.keys empty h
+  nothing_ready n h = ⊎_elim (λ p. let after = p.0 in let below = p.1 in omega (arith, after, below, empty)) (none ready.woken.keys (omega (arith, empty))) (has_cases ready n h)
     where
       none : (ks : List ℕ) → length ks ≡ 0 → list_any (tree.is_at (nat_cmp n)) ks ≡ true → ⊥
       none [] e t = true≢false (sym t)

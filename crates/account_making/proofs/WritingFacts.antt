@@ -1,5 +1,5 @@
 -- A writer to which nothing was written.
-use Rattle.std.proofs.Common.{ℕ, List, [], ◌++◌, Option, Some, None, refl, sym, append-nil}
+use Rattle.std.proofs.Common.{ℕ, List, [], Option, Some, None, refl, sym, append-nil}
 use Rattle.std.specs.Io.KnownBytes.{Appends}
 use Rattle.list_facts.specs.Writers.{AddsUpTo}
 

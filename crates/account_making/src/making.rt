@@ -7,7 +7,7 @@ ghost use Rattle.feature_account.specs.Closed.{IsOn};
 ghost use Rattle.account_making.specs.Lowest.{IsLowestAccount, IsLooksOf};
 
 use crate::account::Account;
-use crate::ready::{each_number, take_least, wake};
+use crate::ready::Ready;
 use crate::waiting::waiting_rules;
 use feature_account::Rule;
 use feature_account::found::{insert, is_open};
@@ -25,17 +25,17 @@ pub fn account_of(alloc: Global, rules: &[Rule]) -> Result<Account, AllocError>
     ensures looks { IfOk result (λ a. IsLooksOf rules.now a.rules.items a.looks) }
 {
     let waiting = waiting_rules(alloc, rules)?;
-    let mut ready = each_number(alloc, rules.len())?;
+    let mut ready = Ready::each(alloc, rules.len());
     let mut found: IndexSet<&Feature> = IndexSet::new(alloc);
     let mut account = Vec::new(alloc);
     let mut looks = 0;
-    while let Some(number) = take_least(&mut ready) {
+    while let Some(number) = ready.take_least() {
         looks += 1;
         let rule = &rules[number];
         if is_open(&found, rule) {
             insert(&mut found, &rule.conclusion)?;
             account.push(number)?;
-            wake(&mut ready, &waiting, &rule.conclusion)?;
+            ready.wake(&waiting, &rule.conclusion)?;
         }
     }
     Ok(Account {

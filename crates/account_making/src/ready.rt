@@ -1,53 +1,97 @@
 //! The numbers of the rules that are still to be looked at.
 
-ghost use Rattle.std.specs.Prelude.{◌≡◌, OnOk, IfOk, IfSome, IfNone};
-ghost use Rattle.std.specs.BTreeSet.{btree_set_len};
-ghost use Rattle.workspace_record.specs.Features.{FeatureValue};
-ghost use Rattle.account_making.specs.Waiting.{waiting_at, IsEach, IsTakenLeast, IsWith};
+ghost use Rattle.std.specs.Prelude.{◌≡◌, ◌<◌, ◌∷◌, [], ℕ, true, All, OnOk, IfSome, IfNone};
+ghost use Rattle.account_making.specs.Waiting.{waiting_at, size, IsEach, IsReady, IsTakenLeast, IsWith};
 
 use indexmap::IndexMap;
 use std::alloc::{AllocError, Global};
 use std::collections::BTreeSet;
 use workspace_record::Feature;
 
-/// The numbers of this many rules.
-pub(crate) fn each_number(alloc: Global, count: usize) -> Result<BTreeSet<usize>, AllocError>
-    ensures { IfOk result (IsEach count) }
-{
-    let mut ready = BTreeSet::new(alloc);
-    for number in 0..count {
-        ready.insert(number)?;
-    }
-    Ok(ready)
+/// Those from `next` on, none of which was ever looked at, and those before it that were woken since.
+#[derive(Drop)]
+pub(crate) struct Ready {
+    pub(crate) next: usize,
+    pub(crate) count: usize,
+    pub(crate) woken: BTreeSet<usize>,
 }
 
-/// Takes out the least number, if there is one.
-pub(crate) fn take_least(ready: &mut BTreeSet<usize>) -> Option<usize>
-    ensures least { IfSome result (IsTakenLeast ready.old ready.new) }
-    ensures none { IfNone result (btree_set_len ready.old ≡ 0) }
-{
-    ready.pop_first()
-}
-
-/// Has the rules that wait for the feature looked at again.
-pub(crate) fn wake<'a>(
-    ready: &mut BTreeSet<usize>,
-    waiting: &IndexMap<&'a Feature, Vec<usize>>,
-    feature: &'a Feature,
-) -> Result<(), AllocError>
-    ensures { OnOk result (IsWith ready.old (waiting_at waiting.now feature.entry.now) ready.new) }
-{
-    match waiting.get(&feature) {
-        Some(numbers) => insert_each(ready, numbers),
-        None => Ok(()),
+impl Ready {
+    /// The numbers of this many rules.
+    pub(crate) fn each(alloc: Global, count: usize) -> Ready
+        ensures { IsEach count result }
+    {
+        Ready {
+            next: 0,
+            count,
+            woken: BTreeSet::new(alloc),
+        }
     }
-}
 
-fn insert_each(ready: &mut BTreeSet<usize>, numbers: &[usize]) -> Result<(), AllocError>
-    ensures { OnOk result (IsWith ready.old numbers.now ready.new) }
-{
-    for number in numbers {
-        ready.insert(*number)?;
+    /// Takes out the least number, if there is one.
+    pub(crate) fn take_least(&mut self) -> Option<usize>
+        requires ready { IsReady self.old }
+        ensures least { IfSome result (IsTakenLeast self.old self.new) }
+        ensures none { IfNone result (size self.old ≡ 0) }
+    {
+        match self.woken.pop_first() {
+            Some(number) => Some(number),
+            None => self.take_next(),
+        }
     }
-    Ok(())
+
+    /// Takes out the next number that was never looked at, where none is woken.
+    fn take_next(&mut self) -> Option<usize>
+        requires ready { IsReady self.old }
+        requires none_woken { self.old.woken.keys ≡ [] }
+        ensures least { IfSome result (IsTakenLeast self.old self.new) }
+        ensures none { IfNone result (size self.old ≡ 0) }
+    {
+        let number = self.next;
+        if number < self.count {
+            self.next = number + 1;
+            Some(number)
+        } else {
+            None
+        }
+    }
+
+    /// Has the rules that wait for the feature looked at again.
+    pub(crate) fn wake<'a>(
+        &mut self,
+        waiting: &IndexMap<&'a Feature, Vec<usize>>,
+        feature: &'a Feature,
+    ) -> Result<(), AllocError>
+        requires ready { IsReady self.old }
+        requires known { All (λ n. n < self.old.count) (waiting_at waiting.now feature.now) }
+        ensures { OnOk result (IsWith self.old (waiting_at waiting.now feature.entry.now) self.new) }
+    {
+        match waiting.get(&feature) {
+            Some(numbers) => self.insert_each(numbers),
+            None => Ok(()),
+        }
+    }
+
+    fn insert_each(&mut self, numbers: &[usize]) -> Result<(), AllocError>
+        requires ready { IsReady self.old }
+        requires known { All (λ n. n < self.old.count) numbers.now }
+        ensures { OnOk result (IsWith self.old numbers.now self.new) }
+    {
+        for number in numbers {
+            self.insert(*number)?;
+        }
+        Ok(())
+    }
+
+    /// Has the rule with this number looked at again, or for the first time, as it would be anyway.
+    fn insert(&mut self, number: usize) -> Result<(), AllocError>
+        requires ready { IsReady self.old }
+        requires known { number < self.old.count }
+        ensures { OnOk result (IsWith self.old (number ∷ []) self.new) }
+    {
+        if number < self.next {
+            self.woken.insert(number)?;
+        }
+        Ok(())
+    }
 }

@@ -19,7 +19,7 @@ pub use crate::account_check::check_account;
 pub use crate::explanation_check::check_explanation;
 pub use crate::own_features::chosen_features;
 pub use crate::rule::{Premises, Rule};
-pub use crate::rule_list::rules;
+pub use crate::rule_list::{rules, rules_in};
 pub use crate::verdict::Verdict;
 pub use workspace_record::{
     Feature, FeatureChoice, FeatureRecord, GroupRecord, Label, LineKind, LineRecord, LinkRecord,

@@ -37,21 +37,20 @@ pub fn rules(
     ensures listed { IfOk result (λ v. v.items ≡ rule_list record.now choice.now table.now) }
 {
     let index = RecordIndex::of(alloc, record)?;
-    rules_by(alloc, &index, &record.links, choice, table)
+    rules_in(alloc, &index, choice, table)
 }
 
-// The rules, where the record is found by its index.
-fn rules_by(
+/// The same rules, where what is found in the record is there already.
+pub fn rules_in(
     alloc: Global,
     index: &RecordIndex<'_>,
-    links: &[LinkRecord],
     choice: &FeatureChoice,
     table: &PlatformTable,
 ) -> Result<Vec<Rule>, AllocError>
-    requires { links.now ≡ (index.now).links }
-    ensures { IfOk result (λ v. v.items ≡ rule_list index.now choice.now table.now) }
+    ensures listed { IfOk result (λ v. v.items ≡ rule_list index.now choice.now table.now) }
 {
     let mut rules = Vec::new(alloc);
+    let links = &index.record().links;
     push_rules(alloc, index, links, choice, table, &mut rules)?;
     Ok(rules)
 }

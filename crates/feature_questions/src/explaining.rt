@@ -3,11 +3,12 @@
 ghost use Rattle.std.specs.Prelude.{IfOk};
 ghost use Rattle.feature_questions.specs.Explaining.{Explains, IsExplained};
 
-use crate::questions::check_question;
+use crate::questions::question_index;
 use account_explaining::explanation_of;
 use account_making::account_of;
-use feature_account::rules;
+use feature_account::rules_in;
 use record_checks::SelectError;
+use record_index::RecordIndex;
 use std::alloc::{AllocError, Global};
 use workspace_record::{Feature, FeatureChoice, PlatformTable, WorkspaceRecord};
 
@@ -23,22 +24,22 @@ pub fn explain(
 ) -> Result<Option<Vec<usize>>, SelectError>
     ensures answer { Explains record.now choice.now table.now feature.now result }
 {
-    match check_question(alloc, record, choice) {
+    match question_index(alloc, record, choice) {
         Err(refusal) => Err(refusal),
-        Ok(()) => Ok(explanation_under(alloc, record, choice, table, feature)?),
+        Ok(index) => Ok(explanation_under(alloc, &index, choice, table, feature)?),
     }
 }
 
 fn explanation_under(
     alloc: Global,
-    record: &WorkspaceRecord,
+    index: &RecordIndex<'_>,
     choice: &FeatureChoice,
     table: &PlatformTable,
     feature: &Feature,
 ) -> Result<Option<Vec<usize>>, AllocError>
-    ensures { IfOk result (IsExplained record.now choice.now table.now feature.now) }
+    ensures { IfOk result (IsExplained index.now choice.now table.now feature.now) }
 {
-    let rules = rules(alloc, record, choice, table)?;
+    let rules = rules_in(alloc, index, choice, table)?;
     let account = account_of(alloc, &rules)?;
     explanation_of(alloc, &rules, &account.rules, feature)
 }

@@ -1,10 +1,11 @@
 //! The record of a question on features, once it is known that the question can be answered.
 
 ghost use Rattle.std.specs.Prelude.{◌≡◌};
-ghost use Rattle.feature_questions.specs.Switching.{AnswersOrRefuses, IsServed, ServesQuestion};
+ghost use Rattle.feature_questions.specs.Switching.{ServesQuestion};
 
 use crate::extras::unknown_extra;
 use record_checks::{CheckedRecord, SelectError};
+use record_index::RecordIndex;
 use std::alloc::Global;
 use workspace_record::{FeatureChoice, WorkspaceRecord};
 
@@ -23,15 +24,16 @@ pub fn checked_question<'r>(
     }
 }
 
-pub(crate) fn check_question(
+/// What is found at once in the record of a question, tested in the same way.
+pub(crate) fn question_index<'r>(
     alloc: Global,
-    record: &WorkspaceRecord,
+    record: &'r WorkspaceRecord,
     choice: &FeatureChoice,
-) -> Result<(), SelectError>
-    ensures { AnswersOrRefuses (λ _. IsServed record.now choice.now) record.now choice.now result }
+) -> Result<RecordIndex<'r>, SelectError>
+    ensures served { ServesQuestion «record».entry.now choice.now result }
 {
     match checked_question(alloc, record, choice) {
+        Ok(checked) => Ok(checked.into_index()),
         Err(refusal) => Err(refusal),
-        Ok(_) => Ok(()),
     }
 }

@@ -8,12 +8,13 @@ ghost use Rattle.feature_account.specs.RuleList.{rule_list};
 ghost use Rattle.account_making.specs.Lowest.{IsLowestAccount, IsLooksOf};
 ghost use Rattle.feature_questions.specs.Switching.{Accounts, AreOn, SwitchesOn, unknown_extra};
 
-use crate::questions::{check_question, checked_question};
+use crate::questions::{checked_question, question_index};
 use account_making::{Account, account_of};
-use feature_account::rules;
+use feature_account::rules_in;
 use feature_resolving::resolved_features;
 use feature_switching::FeaturesOn;
 use record_checks::{CheckedRecord, SelectError};
+use record_index::RecordIndex;
 use std::alloc::{AllocError, Global};
 use workspace_record::{FeatureChoice, PlatformTable, WorkspaceRecord};
 
@@ -46,23 +47,23 @@ pub fn account(
 ) -> Result<Account, SelectError>
     ensures accounts { Accounts record.now choice.now table.now result }
 {
-    match check_question(alloc, record, choice) {
+    match question_index(alloc, record, choice) {
         Err(refusal) => Err(refusal),
-        Ok(()) => Ok(account_under(alloc, record, choice, table)?),
+        Ok(index) => Ok(account_under(alloc, &index, choice, table)?),
     }
 }
 
 fn account_under(
     alloc: Global,
-    record: &WorkspaceRecord,
+    index: &RecordIndex<'_>,
     choice: &FeatureChoice,
     table: &PlatformTable,
 ) -> Result<Account, AllocError>
-    ensures lowest { IfOk result (λ a. IsLowestAccount (rule_list record.now choice.now table.now) a.rules.items) }
-    ensures on { IfOk result (λ a. (f : FeatureValue) → IsTrue (concludes (rule_list record.now choice.now table.now) a.rules.items f) ↔ IsOn (rule_list record.now choice.now table.now) f) }
-    ensures looks { IfOk result (λ a. IsLooksOf (rule_list record.now choice.now table.now) a.rules.items a.looks) }
+    ensures lowest { IfOk result (λ a. IsLowestAccount (rule_list index.now choice.now table.now) a.rules.items) }
+    ensures on { IfOk result (λ a. (f : FeatureValue) → IsTrue (concludes (rule_list index.now choice.now table.now) a.rules.items f) ↔ IsOn (rule_list index.now choice.now table.now) f) }
+    ensures looks { IfOk result (λ a. IsLooksOf (rule_list index.now choice.now table.now) a.rules.items a.looks) }
 {
-    let rules = rules(alloc, record, choice, table)?;
+    let rules = rules_in(alloc, index, choice, table)?;
     account_of(alloc, &rules)
 }
 

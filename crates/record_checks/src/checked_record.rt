@@ -117,6 +117,18 @@ impl<'r> CheckedRecord<'r> {
         &self.binaries
     }
 
+    /// What is found in the record at once; all else is let go.
+    pub fn into_index(self) -> RecordIndex<'r>
+        ensures value { result ≡ self.entry }
+    {
+        let CheckedRecord {
+            index,
+            graph: _,
+            binaries: _,
+        } = self;
+        index
+    }
+
     /// The test binaries, in the same order; all else is let go.
     pub fn into_binaries(self) -> Vec<TestBinary<'r>>
         ensures binaries { map binary_view result.items ≡ binaries self.entry }

@@ -1,6 +1,6 @@
 use Rattle.std.proofs.Common.{◌+◌, ◌*◌, length}
-use Rattle.std.specs.BTreeSet.{btree_set_len}
 use Rattle.feature_account.specs.Accounts.{conclusions}
+use Rattle.account_making.specs.Waiting.{size}
 use Rattle.account_making.proofs.Concluding.{left_out}
 use Rattle.account_making.proofs.SearchFacts.{Keeps}
 use Rattle.account_making.proofs.making.account_of.Given as goal
@@ -9,4 +9,4 @@ abbrev pub invariant-loop-number : goal.invariant-loop-number
 invariant-loop-number l = Keeps l.rules l.ready l.found l.account.items l.looks
 
 abbrev pub decreases-loop-number : goal.decreases-loop-number
-decreases-loop-number l = left_out l.rules (conclusions l.rules l.account.items) * (length l.rules + 1) + btree_set_len l.ready
+decreases-loop-number l = left_out l.rules (conclusions l.rules l.account.items) * (length l.rules + 1) + size l.ready

@@ -1,5 +1,5 @@
-use Rattle.std.proofs.Common.{◌≡◌, ◌++◌, ◌∷◌, [], cond, true, false, sym, ap, ◌∙◌, ℕ}
-use Rattle.workspace_record.specs.Features.{FeatureValue, feature_eq}
+use Rattle.std.proofs.Common.{◌++◌, ◌∷◌, [], cond, true, false, sym, ap, ◌∙◌}
+use Rattle.workspace_record.specs.Features.{feature_eq}
 use Rattle.account_making.specs.Waiting.{waiting_at}
 use Rattle.account_making.proofs.WaitingFacts.{both_added, one_added, on_ok_more, flipped}
 use Rattle.account_making.proofs.waiting.add_two.Goals as goal
