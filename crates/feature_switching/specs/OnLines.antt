@@ -1,4 +1,4 @@
--- Which lines and links are on, and which binaries are available.
+-- Which lines are on, and which binaries are available.
 use Rattle.std.specs.Prelude.{◌≡◌, true, Contains}
 use Rattle.workspace_record.specs.Records.{Text, Line, Link, Target, Workspace}
 use Rattle.workspace_record.specs.Features.{FeatureValue}
@@ -12,10 +12,6 @@ pub record LineIsOn (w : Workspace) (table : PlatformTable) (on : FeatureValue �
   pub declared : Contains link.lines line
   pub counts : counts w table link.from line ≡ true
   pub start : on (line_start link line)
-
--- a link is on where one of its lines is
-abbrev pub LinkIsOn : Workspace → PlatformTable → (FeatureValue → Type 0) → Link → Type 0
-LinkIsOn w table on link = (line : Line) × LineIsOn w table on link line
 
 -- the features that the target requires of its package are on
 abbrev pub HasRequired : (FeatureValue → Type 0) → Text → Target → Type 0

@@ -1,4 +1,4 @@
-//! The features that are on in a workspace, and what they switch on: links, and test binaries.
+//! The features that are on in a workspace, and the test binaries that they switch on.
 #![tactic(auto)]
 
 pub mod availability;

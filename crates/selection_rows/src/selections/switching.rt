@@ -1,12 +1,14 @@
 //! What the features that are on switch on, as texts.
 
-use feature_switching::availability::{is_available, link_is_on};
-use record_index::RecordIndex;
+use feature_switching::availability::is_available;
+use guppy_package_graph::PackageGraph;
 use row_program::{Answers, Row, RowFault};
 use row_records::{Question, add_feature, record_in};
 use std::alloc::Global;
 use std::fmt::Display;
-use test_select::{FeaturesOn, PlatformTable, WorkspaceRecord, features_on};
+use test_select::{
+    FeaturesOn, LinkRecord, PlatformTable, WorkspaceRecord, declared_graph, features_on, switched_on,
+};
 
 /// Tells the features that are on, or the error, and which links and targets of the record
 /// `switched.json` they switch on.
@@ -63,16 +65,34 @@ fn tell_links(
     on: &FeaturesOn,
     answers: &mut Answers,
 ) {
-    match RecordIndex::of(alloc, record) {
-        Ok(index) => {
+    match declared_graph(alloc, record) {
+        Ok(graph) => tell_links_of(alloc, &graph, table, on, answers),
+        Err(error) => answers.show("links", &error),
+    }
+}
+
+/// Tells of each link of the graph whether it is left where the lines that are on are.
+fn tell_links_of(
+    alloc: Global,
+    graph: &PackageGraph,
+    table: &PlatformTable,
+    on: &FeaturesOn,
+    answers: &mut Answers,
+) {
+    match switched_on(alloc, graph, on, table) {
+        Ok(switched) => {
             answers.begin("links");
-            for link in &record.links {
-                let is_on = link_is_on(&index, table, on, link);
+            for link in graph.link_rows() {
+                let is_on = has_link(switched.link_rows(), link);
                 add_line(&link.from, &link.name, is_on, answers);
             }
         }
         Err(refused) => answers.keep("links", Err(refused)),
     }
+}
+
+fn has_link(links: &[LinkRecord], link: &LinkRecord) -> bool {
+    links.iter().any(|it| it.from == link.from && it.to == link.to && it.name == link.name)
 }
 
 fn tell_targets(record: &WorkspaceRecord, on: &FeaturesOn, answers: &mut Answers) {
