@@ -74,7 +74,7 @@ fn items_have_numbers(values: &Vec<Value<'_>>) -> bool
     ensures { result ≡ items_have_numbers (items_view values.now.items) }
 {
     for value in values {
-        if !has_numbers(value) {
+        if holds_more(value) && !has_numbers(value) {
             return false;
         }
     }
@@ -86,9 +86,19 @@ fn members_have_numbers(members: &Vec<(&str, Value<'_>)>) -> bool
     ensures { result ≡ members_have_numbers (members_view members.now.items) }
 {
     for member in members {
-        if !has_numbers(&member.1) {
+        if holds_more(&member.1) && !has_numbers(&member.1) {
             return false;
         }
     }
     true
+}
+
+/// Whether the value is a number, or of a kind that holds other values: most of a record are texts.
+fn holds_more(value: &Value<'_>) -> bool
+    ensures { result ≡ false → has_numbers (value_view value.now) ≡ true }
+{
+    match value {
+        Value::Null | Value::Bool(_) | Value::String(_) => false,
+        Value::Number(_) | Value::Array(_) | Value::Object(_) => true,
+    }
 }
