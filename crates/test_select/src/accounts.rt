@@ -3,6 +3,7 @@
 ghost use Rattle.std.specs.Prelude.{◌≡◌, IfErr};
 ghost use Rattle.test_select.specs.Failures.{status_of};
 
+use crate::at_end::AtEnd;
 use crate::command_line::is_readable;
 use crate::failure::Failure;
 use crate::readable::print_entries;
@@ -16,13 +17,16 @@ use std::io::Write;
 pub(crate) fn print_account<'a, O: Write>(
     alloc: Global,
     asked: &ArgMatches<'a>,
+    at_end: AtEnd,
     files: &mut dyn FileSource,
     out: &mut O,
 ) -> Result<(), Failure<'a>>
     ensures { IfErr result (λ f. status_of f ≡ 1) }
 {
     let question = feature_question(alloc, named_files(asked), files)?;
-    print_account_of(alloc, &question, is_readable(asked), out)
+    print_account_of(alloc, &question, is_readable(asked), out)?;
+    at_end.let_go(question);
+    Ok(())
 }
 
 fn print_account_of<'a, O: Write>(

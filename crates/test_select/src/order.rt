@@ -5,6 +5,7 @@ ghost use Rattle.list_facts.specs.Writers.{Writes};
 ghost use Rattle.test_select.specs.Failures.{status_of};
 ghost use Rattle.test_select.specs.Orders.{order_line};
 
+use crate::at_end::AtEnd;
 use crate::failure::Failure;
 use clap::ArgMatches;
 use feature_questions::package_order;
@@ -33,6 +34,7 @@ fn write_id<W: Write>(id: &str, writer: &mut W) -> io::Result<()>
 pub(crate) fn print_order<'a, O: Write>(
     alloc: Global,
     asked: &ArgMatches<'a>,
+    at_end: AtEnd,
     files: &mut dyn FileSource,
     out: &mut O,
 ) -> Result<(), Failure<'a>>
@@ -42,5 +44,6 @@ pub(crate) fn print_order<'a, O: Write>(
     let (record, choice) = (&question.record, &question.choice);
     let ids = package_order(alloc, record, choice, &question.table)?;
     write_order(&ids, out)?;
+    at_end.let_go(question);
     Ok(())
 }

@@ -4,6 +4,7 @@ ghost use Rattle.std.specs.Prelude.{◌≡◌, ◌≤◌, IfErr};
 ghost use Rattle.test_select.specs.Failures.{status_of};
 
 use crate::accounts::print_account;
+use crate::at_end::AtEnd;
 use crate::command_line::command;
 use crate::explanations::print_explanation;
 use crate::failure::Failure;
@@ -55,7 +56,38 @@ pub fn run<S: AsStr, O: Write, E: Write>(
     ensures quiet { result ≡ 0 → E.contents err.new ≡ E.contents err.old }
     ensures bad_words { result ≡ 2 → O.contents out.new ≡ O.contents out.old }
 {
-    match try_run(alloc, words, files, out) {
+    run_with(alloc, words, AtEnd::Free, files, out, err)
+}
+
+/// The same, for a process that ends with it: what the files hold is not given back, since the system
+/// takes back all memory of the process at once.
+pub fn run_to_end<S: AsStr, O: Write, E: Write>(
+    alloc: Global,
+    words: &[S],
+    files: &mut dyn FileSource,
+    out: &mut O,
+    err: &mut E,
+) -> u8
+    ensures statuses { result ≤ 2 }
+    ensures quiet { result ≡ 0 → E.contents err.new ≡ E.contents err.old }
+    ensures bad_words { result ≡ 2 → O.contents out.new ≡ O.contents out.old }
+{
+    run_with(alloc, words, AtEnd::Leave, files, out, err)
+}
+
+fn run_with<S: AsStr, O: Write, E: Write>(
+    alloc: Global,
+    words: &[S],
+    at_end: AtEnd,
+    files: &mut dyn FileSource,
+    out: &mut O,
+    err: &mut E,
+) -> u8
+    ensures statuses { result ≤ 2 }
+    ensures quiet { result ≡ 0 → E.contents err.new ≡ E.contents err.old }
+    ensures bad_words { result ≡ 2 → O.contents out.new ≡ O.contents out.old }
+{
+    match try_run(alloc, words, at_end, files, out) {
         Ok(()) => 0,
         Err(failure) => {
             let _ = write!(err, "{failure}");
@@ -67,13 +99,14 @@ pub fn run<S: AsStr, O: Write, E: Write>(
 fn try_run<'a, S: AsStr, O: Write>(
     alloc: Global,
     words: &'a [S],
+    at_end: AtEnd,
     files: &mut dyn FileSource,
     out: &mut O,
 ) -> Result<(), Failure<'a>>
     ensures { IfErr result (λ f. status_of f ≡ 2 → O.contents out.new ≡ O.contents out.old) }
 {
     match command(alloc)?.try_get_matches_from(words) {
-        Ok(matches) => carry_out(alloc, &matches, files, out)?,
+        Ok(matches) => carry_out(alloc, &matches, at_end, files, out)?,
         Err(shown) if !shown.use_stderr() => write!(out, "{shown}")?,
         Err(error) => return Err(Failure::from(error)),
     }
@@ -85,20 +118,21 @@ fn try_run<'a, S: AsStr, O: Write>(
 fn carry_out<'a, O: Write>(
     alloc: Global,
     matches: &ArgMatches<'a>,
+    at_end: AtEnd,
     files: &mut dyn FileSource,
     out: &mut O,
 ) -> Result<(), Failure<'a>>
     ensures { IfErr result (λ f. status_of f ≡ 1) }
 {
     match matches.subcommand() {
-        Some(("tests", asked)) => print_tests(alloc, asked, files, out),
+        Some(("tests", asked)) => print_tests(alloc, asked, at_end, files, out),
         Some(("why", asked)) => print_why(alloc, asked, files, out),
-        Some(("account", asked)) => print_account(alloc, asked, files, out),
+        Some(("account", asked)) => print_account(alloc, asked, at_end, files, out),
         Some(("check", asked)) => Ok(print_verdict(alloc, asked, files, out)?),
         Some(("explain", asked)) => print_explanation(alloc, asked, files, out),
-        Some(("order", asked)) => print_order(alloc, asked, files, out),
-        Some(("features", asked)) => print_features(alloc, asked, files, out),
-        Some(("rules", asked)) => print_rules(alloc, asked, files, out),
+        Some(("order", asked)) => print_order(alloc, asked, at_end, files, out),
+        Some(("features", asked)) => print_features(alloc, asked, at_end, files, out),
+        Some(("rules", asked)) => print_rules(alloc, asked, at_end, files, out),
         _ => Ok(()),
     }
 }

@@ -3,6 +3,7 @@
 ghost use Rattle.std.specs.Prelude.{◌≡◌, IfErr};
 ghost use Rattle.test_select.specs.Failures.{status_of};
 
+use crate::at_end::AtEnd;
 use crate::failure::Failure;
 use clap::ArgMatches;
 use feature_questions::features_on;
@@ -15,6 +16,7 @@ use std::io::Write;
 pub(crate) fn print_features<'a, O: Write>(
     alloc: Global,
     asked: &ArgMatches<'a>,
+    at_end: AtEnd,
     files: &mut dyn FileSource,
     out: &mut O,
 ) -> Result<(), Failure<'a>>
@@ -24,6 +26,7 @@ pub(crate) fn print_features<'a, O: Write>(
     let (record, choice, table) = (&question.record, &question.choice, &question.table);
     let on = features_on(alloc, record, choice, table)?;
     write_features(alloc, on.as_slice(), out)?;
+    at_end.let_go(question);
     Ok(())
 }
 
@@ -31,6 +34,7 @@ pub(crate) fn print_features<'a, O: Write>(
 pub(crate) fn print_rules<'a, O: Write>(
     alloc: Global,
     asked: &ArgMatches<'a>,
+    at_end: AtEnd,
     files: &mut dyn FileSource,
     out: &mut O,
 ) -> Result<(), Failure<'a>>
@@ -41,6 +45,7 @@ pub(crate) fn print_rules<'a, O: Write>(
     features_on(alloc, record, choice, table)?;
     let rules = sourced_rules(alloc, record, choice, table)?;
     write_rules(alloc, &rules, out)?;
+    at_end.let_go(question);
     Ok(())
 }
 

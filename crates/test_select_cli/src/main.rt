@@ -5,7 +5,7 @@ use question_files::SystemFiles;
 use std::alloc::AllocGlobal;
 use std::io::{self, BufWriter, ErrorKind};
 use std::process::ExitCode;
-use test_select::run;
+use test_select::run_to_end;
 
 fn main(rt: HostRuntime) -> ExitCode {
     match run_on(&rt) {
@@ -27,11 +27,11 @@ fn words(rt: &HostRuntime) -> io::Result<Vec<String>> {
 }
 
 /// Runs the program on the words of the command line. What it prints goes out in larger parts, the last of
-/// them when `run` flushes.
+/// them when `run_to_end` flushes.
 fn run_on(rt: &HostRuntime) -> io::Result<u8> {
     let words = words(rt)?;
     let mut files = SystemFiles { rt };
     let mut out = BufWriter::new(rt.alloc(), rt.stdout())?;
     let mut err = rt.stderr();
-    Ok(run(rt.alloc(), &words, &mut files, &mut out, &mut err))
+    Ok(run_to_end(rt.alloc(), &words, &mut files, &mut out, &mut err))
 }
