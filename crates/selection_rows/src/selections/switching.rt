@@ -7,7 +7,8 @@ use row_records::{Question, add_feature, record_in};
 use std::alloc::Global;
 use std::fmt::Display;
 use test_select::{
-    FeaturesOn, LinkRecord, PlatformTable, WorkspaceRecord, declared_graph, features_on, switched_on,
+    FeaturesOn, LinkRecord, PlatformTable, WorkspaceRecord, declared_graph, features_on,
+    switched_on,
 };
 
 /// Tells the features that are on, or the error, and which links and targets of the record
