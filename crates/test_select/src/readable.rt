@@ -41,11 +41,22 @@ pub(crate) fn print_rules<'a, O: Write>(
     ensures { IfErr result (λ f. status_of f ≡ 1) }
 {
     let question = feature_question(alloc, named_files(asked), files)?;
+    print_rules_of(alloc, &question, out)?;
+    at_end.let_go(question);
+    Ok(())
+}
+
+fn print_rules_of<'a, O: Write>(
+    alloc: Global,
+    question: &FeatureQuestion,
+    out: &mut O,
+) -> Result<(), Failure<'a>>
+    ensures { IfErr result (λ f. status_of f ≡ 1) }
+{
     let (record, choice, table) = (&question.record, &question.choice, &question.table);
     features_on(alloc, record, choice, table)?;
     let rules = sourced_rules(alloc, record, choice, table)?;
     write_rules(alloc, &rules, out)?;
-    at_end.let_go(question);
     Ok(())
 }
 
