@@ -2,4 +2,5 @@ pub mod PlacesOn
 pub mod IndexedFacts
 pub mod SourceFacts
 pub mod LinksOn
+pub mod NumberingFacts
 pub mod OrderFacts

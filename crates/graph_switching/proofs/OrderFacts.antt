@@ -1,14 +1,15 @@
 -- Listings of packages reversed, as orders in which they build.
-use Rattle.std.proofs.Common.{◌≡◌, ◌≢◌, ◌∙◌, ⊎_elim, ℕ, ◌-◌, ◌<◌, ◌≤◌, Bool, true, false, true≢false, List, [], ◌∷◌, Some, All, AllPairs, Contains, ap, sym, subst, map, filter, reverse, replicate, position, length, get_or, slice_get, arith}
+use Rattle.std.proofs.Common.{◌≡◌, ◌≢◌, ◌∙◌, ⊎_elim, ℕ, ◌-◌, ◌<◌, ◌≤◌, Bool, List, [], ◌∷◌, Some, All, AllPairs, Contains, ap, sym, subst, map, filter, reverse, position, length, get_or, nat_lt, slice_get, arith}
 use Rattle.std.specs.Cmp.Lexicographic.{bytes_decides}
 use Rattle.std.specs.Str.{bytes_eq}
-use Rattle.std.proofs.lemmas.Bool.{cases_lt, cases_order}
-use Rattle.std.proofs.lemmas.List.{get_or-map, get_or-replicate, get_or-reverse, get_or_past, length-map, length-replicate, length-reverse}
+use Rattle.std.proofs.lemmas.Bool.{cases_order, lt-ltb, ltb-true}
+use Rattle.std.proofs.lemmas.List.{get_or-map, get_or-reverse, length-map, length-reverse}
 use Rattle.std.proofs.lemmas.List.Kept.{AllPairs-filter}
 use Rattle.std.proofs.lemmas.List.Quantifiers.{position-Some}
 use Rattle.std.proofs.lemmas.Option.{get_or_from_slice_get, slice_get_cases, slice_get_within}
 use Rattle.list_facts.proofs.Quantifiers.{All-from_Contains}
 use Rattle.list_facts.proofs.Membership.{Contains-filter, Contains-filter_cases, Contains-map, Contains-map_cases}
+use Rattle.numbered_graph.specs.declared.link.Link as numbered
 use Rattle.numbered_graph.specs.Listings.{IsForward, IsListing}
 use Rattle.numbered_graph.specs.Paths.{Reaches, any_link}
 use Rattle.numbered_graph.specs.Sets.{has}
@@ -94,20 +95,18 @@ module _ (packages : List Package) (apart : AllPairs (λ a b. a.id ≢ b.id) pac
       (λ (past, none). absurd (omega (arith, past, lt)))
       (slice_get_cases packages v).1
 
-  module _ (links : List Link) (on : List FeatureValue) (included : List Bool) (xs : List ℕ) (each : included ≡ replicate (length packages) true) (listing : IsListing (links_among packages links) (has (firm_flags links)) (has included) xs) where
-    is_in : (v : ℕ) → v < length packages → has included v ≡ true
-    is_in v lt = ap (λ flags. get_or flags v false) each ∙ get_or-replicate (length packages) v true false lt
+  -- a listing over links and flags that are those of the links
+  pub listed_so : (links : List Link) (between : List numbered.Link) (firm : List Bool) (count : ℕ) (xs : List ℕ) → between ≡ links_among packages links → firm ≡ firm_flags links → count ≡ length packages → IsListing between (has firm) (λ v. nat_lt v count) xs → IsListing (links_among packages links) (has (firm_flags links)) (λ v. nat_lt v (length packages)) xs
+  listed_so links between firm count xs between_are firm_are counted h =
+      subst (λ n. IsListing (links_among packages links) (has (firm_flags links)) (λ v. nat_lt v n) xs) counted
+      (subst (λ flags. IsListing (links_among packages links) (has flags) (λ v. nat_lt v count) xs) firm_are
+      (subst (λ ls. IsListing ls (has firm) (λ v. nat_lt v count) xs) between_are h))
 
+  module _ (links : List Link) (on : List FeatureValue) (xs : List ℕ) (listing : IsListing (links_among packages links) (has (firm_flags links)) (λ v. nat_lt v (length packages)) xs) where
     in_range : (v : ℕ) → Contains (reverse xs) v → v < length packages
-    in_range v inside =
-        ⊎_elim
-        (λ lt. lt)
-        (λ past.
-        let few : length included ≤ v = subst (λ n. n ≤ v) (sym (ap length each ∙ length-replicate (length packages) true)) past in
-        absurd (true≢false (sym ((listing.each v).0 (Contains-reverse_cases xs v inside)) ∙ get_or_past included v false few)))
-        (cases_lt v (length packages))
+    in_range v inside = ltb-true v (length packages) ((listing.each v).0 (Contains-reverse_cases xs v inside))
 
-    all_in_range : All (λ v. v < length packages) (reverse xs)
+    pub all_in_range : All (λ v. v < length packages) (reverse xs)
     all_in_range = All-from_Contains (λ v. v < length packages) (reverse xs) in_range
 
     abbrev ids : List Text
@@ -131,7 +130,7 @@ module _ (packages : List Package) (apart : AllPairs (λ a b. a.id ≢ b.id) pac
             (subst (IsPackageId packages) same (known_at v (in_range v there)), (concluded_iff on (base_of id)).0 passes.1),
         λ ((k, row, lt, at, same), holds).
             let here : id_of_place k ≡ id = get_or-map (λ (x : Package). x.id) packages k row [] lt ∙ ap (λ (x : Package). x.id) at ∙ same in
-            let there = Contains-map id_of_place (reverse xs) k (Contains-reverse xs k ((listing.each k).1 (is_in k lt))) in
+            let there = Contains-map id_of_place (reverse xs) k (Contains-reverse xs k ((listing.each k).1 (lt-ltb k (length packages) lt))) in
             Contains-filter is_on ids id (subst (Contains ids) here there) ((concluded_iff on (base_of id)).1 holds),
       );
       once = AllPairs-filter (λ a b. a ≢ b) is_on ids (pairs-to_ids (λ a b. b ≢ a) (λ a b. a ≢ b) (λ a b lt more differ same. differ (sym (one_place a b lt more same))) (reverse xs) all_in_range (pairs-reverse (λ x y. x ≢ y) xs listing.once));

@@ -34,6 +34,10 @@ is_link_on g on table link = list_any (is_line_on g on table link) link.lines
 abbrev pub with_lines_on : TableValue → List FeatureValue → PlatformTable → Link → Link
 with_lines_on g on table link = record link { lines = filter (is_line_on g on table link) link.lines }
 
+-- of a link of the graph that is on, the link with just its lines that are; of another nothing
+abbrev pub link_on_of : TableValue → List FeatureValue → PlatformTable → Link → List Link
+link_on_of g on table link = link_on (is_workspace_package (rows_of g) link.from) on table link
+
 -- the links that are on, each with just its lines that are
 abbrev pub links_on : TableValue → List FeatureValue → PlatformTable → List Link
 links_on g on table = map (with_lines_on g on table) (filter (is_link_on g on table) g.links)

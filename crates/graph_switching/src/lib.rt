@@ -4,6 +4,7 @@
 mod indexed_features;
 pub mod laws;
 mod lines_on;
+mod numbering;
 mod ordering;
 mod switching;
 

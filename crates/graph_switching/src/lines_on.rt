@@ -1,11 +1,14 @@
 //! Which lines of a link are on.
 
-ghost use Rattle.std.specs.Prelude.{◌≡◌, ◌<◌, All, IfOk, filter, length};
+ghost use Rattle.std.specs.Prelude.{◌≡◌, ◌<◌, ◌&&◌, not, All, IfOk, filter, length};
+ghost use Rattle.std.specs.List.{list_any};
 ghost use Rattle.std.specs.List.Sorted.{IsStrictlyIncreasing};
 ghost use Rattle.workspace_record.specs.LinesAt.{lines_at};
 ghost use Rattle.feature_account.specs.Accounts.{concluded_set};
 ghost use Rattle.feature_account.specs.Lines.{counts_for};
 ghost use Rattle.feature_account.specs.RuleList.{line_start};
+ghost use Rattle.workspace_record.specs.declared.kinds.LineKind.TheVariants.{Dev};
+ghost use Rattle.guppy_package_parts.specs.Lines.{is_kind};
 ghost use Rattle.graph_switching.specs.LinesOn.{line_is_on};
 
 use crate::indexed_features::IndexedFeatures;
@@ -32,6 +35,42 @@ pub(crate) fn places_on(
         }
     }
     Ok(places)
+}
+
+/// Whether a line of the link is on.
+pub(crate) fn has_line_on(
+    in_workspace: bool,
+    features: &IndexedFeatures<'_>,
+    table: &PlatformTable,
+    link: &LinkRecord,
+) -> bool
+    ensures { result ≡ list_any (line_is_on in_workspace features.now table.now link.now) link.now.lines }
+{
+    link.lines.iter().any(|line| line_is_on(in_workspace, features, table, link, line))
+}
+
+/// Whether a normal or a build line of the link is on.
+pub(crate) fn has_firm_line_on(
+    in_workspace: bool,
+    features: &IndexedFeatures<'_>,
+    table: &PlatformTable,
+    link: &LinkRecord,
+) -> bool
+    ensures { result ≡ list_any (λ line. not (is_kind Dev line) && line_is_on in_workspace features.now table.now link.now line) link.now.lines }
+{
+    link.lines.iter().any(|line| firm_line_is_on(in_workspace, features, table, link, line))
+}
+
+fn firm_line_is_on(
+    in_workspace: bool,
+    features: &IndexedFeatures<'_>,
+    table: &PlatformTable,
+    link: &LinkRecord,
+    line: &LineRecord,
+) -> bool
+    ensures { result ≡ (not (is_kind Dev line.now) && line_is_on in_workspace features.now table.now link.now line.now) }
+{
+    line.kind != LineKind::Dev && line_is_on(in_workspace, features, table, link, line)
 }
 
 fn line_is_on(

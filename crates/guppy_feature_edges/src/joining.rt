@@ -27,15 +27,16 @@ pub struct JoinedEdge<'g> {
 }
 
 /// The edges that are joined from these demands, in the order of their first ones. Takes time in
-/// proportion to the demands, up to sorting.
+/// proportion to the demands, up to sorting. The demands are let go before the edges are made.
 pub fn joined_edges<'g>(
     alloc: Global,
-    demands: &[NumberedDemand<'g>],
+    demands: Vec<NumberedDemand<'g>>,
 ) -> Result<Vec<JoinedEdge<'g>>, AllocError>
-    ensures joined { IfOk result (λ v. AreJoined (map numbered_view demands.now) (map joined_view v.items)) }
+    ensures joined { IfOk result (λ v. AreJoined (map numbered_view demands.entry.items) (map joined_view v.items)) }
 {
-    let weights = weights_of(alloc, demands)?;
-    let groups = groups_of(alloc, demands)?;
+    let weights = weights_of(alloc, &demands)?;
+    let groups = groups_of(alloc, &demands)?;
+    drop(demands);
     edges_of(alloc, &weights, groups)
 }
 

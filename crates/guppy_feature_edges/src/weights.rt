@@ -19,11 +19,19 @@ pub(crate) fn weights_of<'g>(
 ) -> Result<IndexSet<EdgeKey<'g>>, AllocError>
     ensures { IfOk result (λ set. FindsWeights (map numbered_view demands.now) (map key_view set.keys)) }
 {
-    let mut set: IndexSet<EdgeKey<'g>> = IndexSet::with_capacity(alloc, demands.len())?;
+    let mut set: IndexSet<EdgeKey<'g>> = IndexSet::with_capacity(alloc, weight_count(demands))?;
     for demand in demands {
         insert_weight(&mut set, *demand)?;
     }
     Ok(set)
+}
+
+/// How many of the demands have such a weight: most do not, as they stand on lines.
+fn weight_count(demands: &[NumberedDemand<'_>]) -> usize {
+    demands
+        .iter()
+        .filter(|demand| EdgeKey::weight(**demand).sort < 2)
+        .count()
 }
 
 fn insert_weight<'g>(

@@ -7,5 +7,4 @@ pub mod CycleFacts
 pub mod PackageFacts
 pub mod TakeFacts
 pub mod ListFacts
-pub mod RootOrderFacts
 pub mod InitialFacts

@@ -14,8 +14,6 @@ pub mod OffersViews
 pub mod Closures
 pub mod Depending
 pub mod CycleValues
-pub mod RootOrder
-pub mod RootPlaces
 pub mod SetParts
 pub mod PackageFeatures
 pub mod Judging

@@ -127,17 +127,10 @@ pub(crate) fn has_feature_of(set: &FeatureSet<'_>, row: &PackageRow) -> bool
 fn has_one(set: &FeatureSet<'_>, row: &PackageRow) -> bool
     ensures { result ≡ (has_label set.now row.now.id Base || (list_any (λ f. has_label set.now row.now.id (Named f.name)) row.now.features || list_any (λ n. has_label set.now row.now.id (Dep n)) row.now.optional)) }
 {
-    let base = has_label(set, row.id.as_str(), FeatureLabel::Base);
-    base || has_other(set, row)
-}
-
-// Whether one of the features that a package names, or of its optional dependencies, is in the set.
-fn has_other(set: &FeatureSet<'_>, row: &PackageRow) -> bool
-    ensures { result ≡ (list_any (λ f. has_label set.now row.now.id (Named f.name)) row.now.features || list_any (λ n. has_label set.now row.now.id (Dep n)) row.now.optional) }
-{
     let id = row.id.as_str();
-    let named = has_named(set, id, &row.features);
-    named || has_dependency(set, id, &row.optional)
+    has_label(set, id, FeatureLabel::Base)
+        || has_named(set, id, &row.features)
+        || has_dependency(set, id, &row.optional)
 }
 
 fn has_named(set: &FeatureSet<'_>, id: &str, features: &[FeatureRow]) -> bool

@@ -30,7 +30,6 @@ mod packages_of;
 mod queries;
 mod resolves;
 mod resolving;
-mod root_order;
 mod set_equality;
 mod set_parts;
 mod standard_features;

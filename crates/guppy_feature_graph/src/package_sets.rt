@@ -85,11 +85,7 @@ fn initials_of<'g>(alloc: Global, query: &PackageQuery<'g>) -> Result<PackageSet
     ensures { IfOk result (IsSetOfPackages query.now.graph (IsNamed query.now.graph (map (id_at query.now.graph) query.now.initials))) }
 {
     let ids = initial_ids(alloc, query)?;
-    match query.graph().resolve_ids(alloc, &ids) {
-        Ok(packages) => Ok(packages),
-        // Each of them is the id of a package, so memory ran out.
-        Err(_) => Err(AllocError),
-    }
+    query.graph().resolve_known(alloc, &ids)
 }
 
 fn initial_ids<'a>(

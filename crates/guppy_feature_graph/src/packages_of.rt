@@ -17,11 +17,7 @@ impl<'g> FeatureSet<'g> {
         let built = self.graph().built();
         let nodes = self.included().members(alloc)?;
         let ids = package_ids(alloc, built, &nodes)?;
-        match built.package_graph().resolve_ids(alloc, &ids) {
-            Ok(packages) => Ok(packages),
-            // Each of them is the id of a package, so memory ran out.
-            Err(_) => Err(AllocError),
-        }
+        built.package_graph().resolve_known(alloc, &ids)
     }
 }
 

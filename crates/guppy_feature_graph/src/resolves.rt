@@ -24,10 +24,7 @@ impl<'g> FeatureQuery<'g> {
     pub fn resolve(self, alloc: Global) -> Result<FeatureSet<'g>, AllocError>
         ensures reached { IfOk result (IsReachOf self.entry) }
     {
-        let edges = self.graph().built().edge_graph();
-        let direction = direction_of(self.direction());
-        let reached = reach(alloc, edges, self.starts(), direction)?;
-        Ok(FeatureSet::of(*self.graph(), reached))
+        reached_from(alloc, &self)
     }
 
     /// The features that edges lead to from the initials, where those that stand on lines are crossed
@@ -62,10 +59,7 @@ impl<'g> FeatureQuery<'g> {
         ensures err { OnErr result (visitor.new ≡ visitor.old) }
         ensures looks { looks.new ≤ looks.old + length self.entry.graph.nodes }
     {
-        match resolve_by_visitor(alloc, &self, visitor, looks) {
-            Ok(included) => Ok(FeatureSet::of(*self.graph(), included)),
-            Err(refused) => Err(refused),
-        }
+        set_by_visitor(alloc, &self, visitor, looks)
     }
 
     /// The same features as `resolve_with` gives, where a closure says which links are followed.
@@ -113,10 +107,54 @@ impl<'g> FeatureQuery<'g> {
         ensures err { OnErr result (visitor_fn.new ≡ visitor_fn.old) }
         ensures looks { looks.new ≤ looks.old + length self.entry.graph.nodes }
     {
-        match resolve_by_closure(alloc, &self, visitor_fn, looks) {
-            Ok(included) => Ok(FeatureSet::of(*self.graph(), included)),
-            Err(refused) => Err(refused),
-        }
+        set_by_closure(alloc, &self, visitor_fn, looks)
+    }
+}
+
+/// All features that edges lead to from the initials of a query.
+fn reached_from<'g>(alloc: Global, query: &FeatureQuery<'g>) -> Result<FeatureSet<'g>, AllocError>
+    ensures { IfOk result (IsReachOf query.now) }
+{
+    let edges = query.graph().built().edge_graph();
+    let direction = direction_of(query.direction());
+    let reached = reach(alloc, edges, query.starts(), direction)?;
+    Ok(FeatureSet::of(*query.graph(), reached))
+}
+
+// What is resolved of a query that is lent: letting a query go is dear where there are two ways out.
+fn set_by_visitor<'g, L: Ledger>(
+    alloc: Global,
+    query: &FeatureQuery<'g>,
+    visitor: &mut dyn FeatureLinkVisitor,
+    looks: &mut Looks<L>,
+) -> Result<FeatureSet<'g>, AllocError>
+    ensures graph { IfOk result (λ s. s.graph ≡ query.now.graph) }
+    ensures ok { IfOk result (λ s. (run : Run) × IsResolved query.now run s.included × Chain (steps visitor.old) (state visitor.old) (shown_to query.now run) (state visitor.new)) }
+    ensures same { SameSteps (steps visitor.old) (steps visitor.new) }
+    ensures err { OnErr result (visitor.new ≡ visitor.old) }
+    ensures looks { looks.new ≤ looks.old + length query.now.graph.nodes }
+{
+    match resolve_by_visitor(alloc, query, visitor, looks) {
+        Ok(included) => Ok(FeatureSet::of(*query.graph(), included)),
+        Err(refused) => Err(refused),
+    }
+}
+
+fn set_by_closure<'g, L: Ledger, F: FnMut(&FeatureLinkContext<'_>, ConditionalLink<'_>) -> bool>(
+    alloc: Global,
+    query: &FeatureQuery<'g>,
+    accepts: &mut F,
+    looks: &mut Looks<L>,
+) -> Result<FeatureSet<'g>, AllocError>
+    requires callable { F.IsAlwaysCallable accepts.old }
+    ensures graph { IfOk result (λ s. s.graph ≡ query.now.graph) }
+    ensures ok { IfOk result (λ s. (run : Run) × IsResolved query.now run s.included × Chain (AsksClosure F.FnMut query.now) accepts.old run accepts.new) }
+    ensures err { OnErr result (accepts.new ≡ accepts.old) }
+    ensures looks { looks.new ≤ looks.old + length query.now.graph.nodes }
+{
+    match resolve_by_closure(alloc, query, accepts, looks) {
+        Ok(included) => Ok(FeatureSet::of(*query.graph(), included)),
+        Err(refused) => Err(refused),
     }
 }
 

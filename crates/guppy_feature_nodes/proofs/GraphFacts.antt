@@ -3,8 +3,9 @@ use Rattle.std.proofs.Common.{◌≡◌, ℕ, ◌<◌, length, Bool, List, [], �
 use Rattle.std.specs.Option.{is_some}
 use Rattle.std.specs.Str.{bytes_eq}
 use Rattle.std.proofs.lemmas.Bool.{false≢true}
-use Rattle.std.proofs.lemmas.List.{map-append}
+use Rattle.std.proofs.lemmas.List.{length-map, map-append}
 use Rattle.std.proofs.lemmas.List.Elements.{All-contains, All-get_or}
+use Rattle.std.proofs.lemmas.List.Quantifiers.{position-Some}
 use Rattle.std.proofs.lemmas.Option.{get_or_from_slice_get, slice_get-get_or, slice_get_within}
 use Rattle.std.proofs.lemmas.Slice.Eq.{bytes_eq-Decides}
 use Rattle.list_facts.proofs.Membership.{Contains-filter_cases, Contains-map_cases}
@@ -12,11 +13,11 @@ use Rattle.list_facts.proofs.Quantifiers.{All-from_Contains, list_any-from_Conta
 use Rattle.workspace_record.specs.Records.{Link, Package, Text}
 use Rattle.workspace_record.specs.Features.{FeatureValue}
 use Rattle.guppy_package_parts.specs.Lines.{IsLineAt}
-use Rattle.guppy_package_table.specs.Tables.{TableValue, ids_of}
+use Rattle.guppy_package_table.specs.Tables.{TableValue, ids_of, place_among}
 use Rattle.guppy_feature_ids.specs.declared.link_declarations.LinkDeclarations.{LinkDeclarations}
 use Rattle.guppy_feature_demands.specs.Nodes.{base_of, first_of_each, nodes_of}
 use Rattle.guppy_feature_demands.proofs.EntryFacts.{list_any_from_position_or_len}
-use Rattle.guppy_feature_demands.proofs.NumberFacts.{at_end}
+use Rattle.guppy_feature_demands.proofs.NumberFacts.{at_end, at_place}
 use Rattle.guppy_feature_nodes.specs.GraphEdges.{AreEdges, AreEdgesWithin, EdgeValue, IsEdgeWithin, edge_at}
 use Rattle.guppy_feature_nodes.specs.Graphs.{FeatureGraphValue, IsFeatureGraph, feature_at}
 use Rattle.guppy_feature_nodes.specs.Lines.{declares_at, links_shown}
@@ -63,6 +64,17 @@ module _ (g : FeatureGraphValue) (built : IsFeatureGraph g) where
       let unknown : position (bytes_eq id) ids ≡ None = subst (λ (r : TableValue). position (bytes_eq id) (ids_of r.packages) ≡ None) same none in
       let here = list_any-from_Contains (bytes_eq id) ids id known ((bytes_eq-Decides id id).1 refl) in
       false≢true (sym (list_any_from_position_or_len (bytes_eq id) ids (at_end (bytes_eq id) ids unknown)) ∙ here)
+
+  -- and its place is where the id is found
+  pub package_placed : (node : ℕ) → node < length g.nodes → (rows : TableValue) → rows ≡ g.rows → (id : Text) → id ≡ (feature_at g node).package_id → (position (bytes_eq id) (ids_of rows.packages) ≡ Some (place_among (ids_of rows.packages) id)) × (place_among (ids_of rows.packages) id < length rows.packages)
+  package_placed node lt rows same id is = by (position (bytes_eq id) (ids_of rows.packages)) refl
+    where
+      by : (o : Option ℕ) → position (bytes_eq id) (ids_of rows.packages) ≡ o → (position (bytes_eq id) (ids_of rows.packages) ≡ Some (place_among (ids_of rows.packages) id)) × (place_among (ids_of rows.packages) id < length rows.packages)
+      by None none = absurd (package_there node lt rows same id is none)
+      by (Some v) at =
+          let here : place_among (ids_of rows.packages) id ≡ v = at_place (bytes_eq id) (ids_of rows.packages) v at in
+          let found = position-Some (bytes_eq id) (ids_of rows.packages) v [] at in
+          (at ∙ ap Some (sym here), subst (λ n. n < length rows.packages) (sym here) (subst (λ n. v < n) (length-map rows.packages (λ p. p.id)) found.0))
 
 -- the edges that were made of rows lie between the nodes that were made of them
 pub parts_within : (packages : List Package) (links rows : List Link) (edges seen : List EdgeValue) (nodes : List FeatureValue) (count : ℕ) → AreEdges packages links edges → nodes ≡ nodes_of packages → count ≡ length nodes → rows ≡ links → seen ≡ edges → AreEdgesWithin count rows seen

@@ -75,7 +75,7 @@ fn graph_parts<'g>(alloc: Global, graph: &'g PackageGraph) -> Result<GraphParts<
         demands,
         warnings,
     } = feature_parts(alloc, &packages, graph.link_rows())?;
-    let joined = joined_edges(alloc, &demands)?;
+    let joined = joined_edges(alloc, demands)?;
     let edges = node_edges(alloc, &nodes, graph.link_rows(), joined)?;
     Ok(GraphParts {
         nodes,
@@ -246,10 +246,8 @@ impl<'g> FeatureGraphData<'g> {
         ensures package { IsAt self.now.rows (feature_at self.now node).package_id (place_of result) }
     {
         let graph = self.graph;
-        match graph.metadata(self.feature_at(node).package_id()) {
-            Ok(package) => package,
-            Err(_) => unreachable!(),
-        }
+        let place = graph.number_of(self.feature_at(node).package_id());
+        graph.metadata_at(place)
     }
 
     /// How many edges there are.

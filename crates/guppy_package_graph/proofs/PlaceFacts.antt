@@ -1,9 +1,9 @@
 -- Places of packages that are still to come.
-use Rattle.std.proofs.Common.{◌≡◌, ◌↔◌, ⊎_elim, ℕ, zero, suc, ◌-◌, ◌<◌, true≢false, ◌&&◌, Bool, true, List, [], ◌∷◌, Option, Some, None, Result, Ok, Err, IfOk, MatchOption, All, Any, Contains, subst, sym, ap, refl, ◌∙◌, inr, map, filter, length, get_or, drop, nat_lt, arith, is_some, option_map, slice_get}
+use Rattle.std.proofs.Common.{◌≡◌, ◌↔◌, ◌⊎◌, ⊎_elim, inl, ℕ, zero, suc, ◌-◌, ◌<◌, true≢false, ◌&&◌, Bool, true, List, [], ◌∷◌, ◌++◌, Option, Some, None, Result, Ok, Err, IfOk, MatchOption, All, Any, Contains, subst, sym, ap, refl, ◌∙◌, inr, map, filter, length, get_or, drop, nat_lt, arith, is_some, option_map, slice_get}
 use Rattle.std.proofs.lemmas.Bool.{and_from, and_parts, lt-ltb, ltb-true}
 use Rattle.std.proofs.lemmas.List.{get_or-map, get_or-reverse, length-map, length-reverse}
-use Rattle.list_facts.proofs.Membership.{Contains-cons_cases, Contains-filter_cases, Contains-first, Contains-none}
-use Rattle.list_facts.proofs.Quantifiers.{All-from_Contains}
+use Rattle.list_facts.proofs.Membership.{Contains-append_cases, Contains-append_left, Contains-append_right, Contains-cons_cases, Contains-filter_cases, Contains-first, Contains-none}
+use Rattle.list_facts.proofs.Quantifiers.{All-from_Contains, Any-from_Contains, Any_cases}
 use Rattle.numbered_graph.specs.declared.direction.Direction.{Direction}
 use Rattle.numbered_graph.specs.declared.direction.Direction.TheVariants.{Forward, Reverse}
 use Rattle.numbered_graph.specs.declared.link.Link.{Link}
@@ -18,7 +18,7 @@ use Rattle.std.proofs.lemmas.List.Quantifiers.{position-Some}
 use Rattle.std.proofs.lemmas.Option.{get_or_from_slice_get, slice_get_within}
 use Rattle.workspace_record.specs.Records.{Member, Package, Text}
 use Rattle.guppy_package_table.specs.Tables.{TableValue, id_at, ids_of, member_of, member_path_at}
-use Rattle.guppy_package_graph.specs.Finding.{IsAt, IsMissing, IsUnknown}
+use Rattle.guppy_package_graph.specs.Finding.{IsAt, IsMissing, IsNamed, IsUnknown}
 use Rattle.std.proofs.lemmas.List.Elements.{All-cons, All-nil, All-tail}
 
 pub rest_within : (P : ℕ → Type 0) (before after : List ℕ) (r : Option ℕ) → MatchOption r ((before ≡ []) × (after ≡ [])) (λ x. before ≡ x ∷ after) → All P before → All P after
@@ -124,3 +124,26 @@ pub member_at : (g : TableValue) (id : Text) (v : ℕ) → IsAt g id v → is_so
 member_at g id v at =
     let found = position-Some (bytes_eq id) (ids_of g.packages) v [] at in
     ap (λ x. is_some (option_map (λ m. m.path) (member_of g x))) (sym ((bytes_decides id (id_at g v)).0 found.1)) ∙ member_has_path g id
+
+-- one id more names one package more, if it is that of a package
+pub named_more : (g : TableValue) (ids : List Text) (id : Text) (v : ℕ) → IsNamed g (ids ++ id ∷ []) v ↔ (IsNamed g ids v ⊎ IsAt g id v)
+named_more g ids id v = (there, back)
+  where
+    there : IsNamed g (ids ++ id ∷ []) v → IsNamed g ids v ⊎ IsAt g id v
+    there h =
+        let found = Any_cases (λ x. IsAt g x v) (ids ++ id ∷ []) h in
+        ⊎_elim
+        (λ before. inl (Any-from_Contains (λ x. IsAt g x v) ids found.0 before found.2))
+        (λ last. inr (⊎_elim (λ is. subst (λ x. IsAt g x v) (sym is) found.2) (λ later. absurd (Contains-none found.0 later)) (Contains-cons_cases id [] found.0 last)))
+        (Contains-append_cases ids (id ∷ []) found.0 found.1)
+
+    back : IsNamed g ids v ⊎ IsAt g id v → IsNamed g (ids ++ id ∷ []) v
+    back h =
+        ⊎_elim
+        (λ before. let found = Any_cases (λ x. IsAt g x v) ids before in Any-from_Contains (λ x. IsAt g x v) (ids ++ id ∷ []) found.0 (Contains-append_left ids (id ∷ []) found.0 found.1) found.2)
+        (λ at. Any-from_Contains (λ x. IsAt g x v) (ids ++ id ∷ []) id (Contains-append_right ids (id ∷ []) id (Contains-first id [])) at)
+        h
+
+-- no id names no package
+pub none_named : (g : TableValue) (v : ℕ) → IsNamed g [] v → ⊥
+none_named g v h = Contains-none (Any_cases (λ x. IsAt g x v) [] h).0 (Any_cases (λ x. IsAt g x v) [] h).1

@@ -3,7 +3,7 @@
 ghost use Rattle.std.specs.Prelude.{◌≡◌, ◌↔◌, ◌<◌, IfErr, IfOk, IsTrue, Ok, length};
 ghost use Rattle.package_rules.specs.Kept.{AreKept};
 ghost use Rattle.guppy_package_table.specs.Refusals.{IsRefusal};
-ghost use Rattle.guppy_package_table.specs.Tables.{IsTableOf, id_at, ids_of, numbered_links};
+ghost use Rattle.guppy_package_table.specs.Tables.{IsTableOf, id_at, ids_of, numbered_links, place_among};
 ghost use Rattle.numbered_graph.specs.Links.{near_at};
 ghost use Rattle.guppy_workspace_members.specs.Members.{AreByName, AreByPath};
 ghost use Rattle.guppy_package_graph.specs.AllViews.{all_graph_of, first_left};
@@ -177,7 +177,19 @@ impl PackageGraph {
         }
     }
 
-    pub(crate) fn metadata_at(&self, place: usize) -> PackageMetadata<'_>
+    /// The place of the package with an id in the order of the record; the number of packages where
+    /// there is none.
+    pub fn number_of(&self, package_id: &PackageId) -> usize
+        ensures number { result ≡ place_among (ids_of self.now.packages) package_id.now }
+    {
+        match self.table.find(package_id) {
+            Some(place) => place,
+            None => self.package_ids().len(),
+        }
+    }
+
+    /// What the graph says of the package at a place.
+    pub fn metadata_at(&self, place: usize) -> PackageMetadata<'_>
         requires { place < length self.now.packages }
         ensures graph { graph_of result ≡ self.now }
         ensures place { place_of result ≡ place }
@@ -201,8 +213,8 @@ impl PackageGraph {
         PackageLink::at(self, number)
     }
 
-    /// The place from which the link with a number is followed.
-    pub(crate) fn end_of(&self, direction: Direction, number: usize) -> usize
+    /// The place of the package from which the link with a number is followed.
+    pub fn end_of(&self, direction: Direction, number: usize) -> usize
         requires { number < length self.now.links }
         ensures end { result ≡ near_at direction (numbered_links self.now) number }
         ensures within { result < length self.now.packages }

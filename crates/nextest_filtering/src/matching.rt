@@ -28,7 +28,7 @@ impl ParseContext<'_> {
     }
 
     /// The ids of the packages that paths lead to from these, or in reverse from which paths lead to
-    /// these, by one walk from all of them.
+    /// these, by one walk from all of them. From an id of no package no path leads.
     pub(crate) fn reached(
         &self,
         alloc: Global,
@@ -37,14 +37,10 @@ impl ParseContext<'_> {
     ) -> Result<Vec<&PackageId>, AllocError>
         ensures { IfOk result (λ v. (id : Text) → Contains (map (λ i. i.now) v.items) id ↔ IsReachedOf self.now (Contains (map (λ i. i.now) starts.now)) direction id) }
     {
-        match self.graph().query_directed(alloc, starts, direction) {
-            Ok(query) => {
-                let reached = query.resolve(alloc)?;
-                let ids = in_set(alloc, self.packages(), &reached)?;
-                Ok(ids)
-            }
-            Err(_) => Err(AllocError),
-        }
+        let query = self.graph().query_known(alloc, starts, direction)?;
+        let reached = query.resolve(alloc)?;
+        let ids = in_set(alloc, self.packages(), &reached)?;
+        Ok(ids)
     }
 
     /// The ids of the packages with a feature that is said to be on and that the matcher matches.

@@ -3,13 +3,13 @@ use Rattle.numbered_graph.specs.Sets.{has}
 use Rattle.guppy_package_table.specs.Tables.{TableValue}
 use Rattle.guppy_feature_nodes.specs.Graphs.{FeatureGraphValue, feature_at}
 use Rattle.guppy_package_graph.specs.Finding.{IsNamed}
+use Rattle.guppy_package_graph.proofs.PlaceFacts.{ok_more}
 use Rattle.guppy_feature_graph.proofs.PackageFacts.{named_features}
 use Rattle.guppy_feature_graph.proofs.feature_set.FeatureSet.to_package_set.Goals as goal
 
-pub returns-in-Ok : goal.returns-in-Ok
-returns-in-Ok c =
+pub returns : goal.returns
+returns c =
     let s = c.args.self.now in
-    let set = c.in-Ok.packages.included in
     let nodes = c.in_ok-nodes.nodes.items in
     let text : Bor (List ℕ) → List ℕ = λ id. id.now in
     let of_graph : c.built-built.result.now ≡ s.graph = c.built-built.ensures ∙ c.graph.ensures.graph in
@@ -17,12 +17,13 @@ returns-in-Ok c =
     let listed : (v : ℕ) → Contains nodes v ↔ IsTrue (has s.included v) = subst (λ xs. (v : ℕ) → Contains nodes v ↔ IsTrue (has xs v)) c.included.ensures.value c.in_ok-nodes.ensures.each in
     let ids : map text c.deref-2.result.now ≡ map (λ v. (feature_at s.graph v).package_id) nodes =
     ap (map text) c.deref-2.ensures.value ∙ c.in_ok-ids.ensures ∙ ap (λ (x : FeatureGraphValue). map (λ v. (feature_at x v).package_id) c.deref.result.now) of_graph ∙ ap (map (λ v. (feature_at s.graph v).package_id)) c.deref.ensures.value in
-    let named = subst (λ (t : TableValue). (place : ℕ) → IsTrue (has set place) ↔ IsNamed t (map text c.deref-2.result.now) place) rows c.in-Ok.ensures.named.members in
     record {
-      packages = record {
-        graph = c.in-Ok.ensures.named.graph ∙ rows;
-        members = λ place.
-            let same = named_features s nodes (map text c.deref-2.result.now) place listed ids in
-            (λ h. same.0 ((named place).0 h), λ h. (named place).1 (same.1 h));
-      };
+      packages = ok_more c.resolve_known.result (λ packages h.
+          let named = subst (λ (t : TableValue). (place : ℕ) → IsTrue (has packages.included place) ↔ IsNamed t (map text c.deref-2.result.now) place) rows h.members in
+          record {
+            graph = h.graph ∙ rows;
+            members = λ place.
+                let same = named_features s nodes (map text c.deref-2.result.now) place listed ids in
+                (λ k. same.0 ((named place).0 k), λ k. (named place).1 (same.1 k));
+          }) c.resolve_known.ensures.named;
     }

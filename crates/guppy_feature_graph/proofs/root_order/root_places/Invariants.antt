@@ -1,6 +1,0 @@
-use Rattle.std.proofs.Common.{◌≡◌, map, take}
-use Rattle.guppy_feature_graph.specs.RootPlaces.{place_at, place_view}
-use Rattle.guppy_feature_graph.proofs.root_order.root_places.Given as goal
-
-abbrev pub invariant-loop-node : goal.invariant-loop-node
-invariant-loop-node l = map place_view l.places.items ≡ map (place_at l.built) (take l.node-index l.nodes)

@@ -1,0 +1,3 @@
+pub mod RootOrder
+pub mod RootPlaces
+pub mod Told
