@@ -14,7 +14,7 @@ use workspace_record::{Feature, Label};
 pub(crate) fn package_ids(alloc: Global, features: &[Feature]) -> Result<Vec<PackageId>, AllocError>
     ensures { IfOk result (λ v. v.items ≡ map (λ f. f.package_id) features.now) }
 {
-    let mut ids = Vec::new(alloc);
+    let mut ids = Vec::with_capacity(alloc, features.len())?;
     for feature in features {
         let text = String::from_str(alloc, feature.package.as_str())?;
         ids.push(PackageId::new(text))?;
@@ -31,7 +31,7 @@ pub(crate) fn feature_ids<'a>(
     requires { package_ids.now ≡ map (λ f. f.package_id) features.now }
     ensures { IfOk result (λ v. map id_view v.items ≡ features.entry.now) }
 {
-    let mut ids: Vec<FeatureId<'a>> = Vec::new(alloc);
+    let mut ids: Vec<FeatureId<'a>> = Vec::with_capacity(alloc, features.len())?;
     for (place, feature) in features.iter().enumerate() {
         ids.push(FeatureId::new(&package_ids[place], label_of(&feature.label)))?;
     }

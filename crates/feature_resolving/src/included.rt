@@ -14,7 +14,7 @@ use workspace_record::Feature;
 pub(crate) fn features_in(alloc: Global, set: &FeatureSet<'_>) -> Result<Vec<Feature>, AllocError>
     ensures { IfOk result (λ v. v.items ≡ map (feature_at set.now.graph) (listed set.now)) }
 {
-    let mut features = Vec::new(alloc);
+    let mut features = Vec::with_capacity(alloc, set.len())?;
     for id in set.feature_ids(DependencyDirection::Forward) {
         features.push(feature_of(alloc, id)?)?;
     }

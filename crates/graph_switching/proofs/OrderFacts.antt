@@ -1,5 +1,5 @@
 -- Listings of packages reversed, as orders in which they build.
-use Rattle.std.proofs.Common.{◌≡◌, ◌≢◌, ◌∙◌, ⊎_elim, ℕ, ◌-◌, ◌<◌, ◌≤◌, Bool, List, [], ◌∷◌, Some, All, AllPairs, Contains, ap, sym, subst, map, filter, reverse, position, length, get_or, nat_lt, slice_get, arith}
+use Rattle.std.proofs.Common.{◌≡◌, ◌≢◌, ◌∙◌, ⊎_elim, ℕ, ◌-◌, ◌<◌, Bool, List, [], ◌∷◌, Some, All, AllPairs, Contains, ap, sym, subst, map, filter, reverse, position, length, get_or, nat_lt, slice_get, arith}
 use Rattle.std.specs.Cmp.Lexicographic.{bytes_decides}
 use Rattle.std.specs.Str.{bytes_eq}
 use Rattle.std.proofs.lemmas.Bool.{cases_order, lt-ltb, ltb-true}

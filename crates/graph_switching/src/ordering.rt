@@ -36,7 +36,7 @@ pub fn dependency_order(
     ids_on(alloc, graph.package_ids(), &places, &indexed)
 }
 
-/// The places of all packages, those on which links lead before those from which they lead.
+/// The places of all packages, those to which links lead before those from which they lead.
 fn places_in_order(
     alloc: Global,
     count: usize,

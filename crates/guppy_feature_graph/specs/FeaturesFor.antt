@@ -41,6 +41,14 @@ pub record IsRowOf (t : TableValue) (id : Text) (place : ℕ) (row : Package) : 
 abbrev pub IsNoPackage : TableValue → Text → Error → Type 0
 IsNoPackage t id error = (error ≡ Memory) ⊎ (IsUnknown t id × (error ≡ UnknownPackageId))
 
+-- a list of the package at a place, with these labels of its row
+pub record ListsAt (of : Package → List LabelValue) (t : TableValue) (at : ℕ) (list : ListValue) : Type 0 where
+  pub row : Package
+  pub is_row : slice_get t.packages at ≡ Some row
+  pub graph : list.graph ≡ t
+  pub place : list.place ≡ at
+  pub labels : AreLabels (Contains (of row)) list.labels
+
 -- all features of the package with the id
 pub record ListsAll (t : TableValue) (id : Text) (list : ListValue) : Type 0 where
   pub row : Package

@@ -5,14 +5,15 @@ ghost use Rattle.std.specs.List.{list_any};
 ghost use Rattle.workspace_record.specs.Features.{Base, Named, Dep};
 ghost use Rattle.guppy_feature_ids.specs.LabelViews.{label_view};
 ghost use Rattle.guppy_feature_lists.specs.Labels.{labels_of};
-ghost use Rattle.guppy_feature_graph.specs.FeaturesFor.{AnswersPackage, FindsList, IsNoPackage, ListsAll, has_label};
+ghost use Rattle.guppy_feature_graph.specs.FeaturesFor.{AnswersPackage, FindsList, IsNoPackage, ListsAll, ListsAt, has_label, labels_in};
 ghost use Rattle.guppy_feature_graph.specs.Views.{feature_graph_of};
+ghost use Rattle.guppy_package_graph.specs.Views.{graph_of, place_of};
 
 use crate::feature_graph::FeatureGraph;
 use crate::feature_set::FeatureSet;
 use guppy_feature_lists::{FeatureList, package_labels};
 use guppy_feature_nodes::{FeatureLabel, FeatureName};
-use guppy_package_graph::{Error, FeatureRow, PackageId, PackageRow};
+use guppy_package_graph::{Error, FeatureRow, PackageId, PackageMetadata, PackageRow};
 use std::alloc::{AllocError, Global};
 
 impl<'g> FeatureGraph<'g> {
@@ -26,14 +27,18 @@ impl<'g> FeatureGraph<'g> {
         ensures refused { IfErr result (IsNoPackage (feature_graph_of self.now).rows package_id.now) }
     {
         match self.package_graph().metadata(package_id) {
-            Ok(package) => {
-                let labels = package_labels(alloc, package.row())?;
-                let list = FeatureList::new(alloc, package, &labels)?;
-                Ok(list)
-            }
+            Ok(package) => Ok(list_of(alloc, package)?),
             Err(error) => Err(error),
         }
     }
+}
+
+// All features of a package.
+fn list_of<'g>(alloc: Global, package: PackageMetadata<'g>) -> Result<FeatureList<'g>, AllocError>
+    ensures { IfOk result (ListsAt labels_of (graph_of «package».entry) (place_of «package».entry)) }
+{
+    let labels = package_labels(alloc, package.row())?;
+    FeatureList::new(alloc, package, &labels)
 }
 
 impl<'g> FeatureSet<'g> {
@@ -47,14 +52,10 @@ impl<'g> FeatureSet<'g> {
         ensures refused { IfErr result (IsNoPackage self.now.graph.rows package_id.now) }
     {
         match self.graph().package_graph().metadata(package_id) {
-            Ok(package) => {
-                let labels = labels_in(alloc, self, package.row())?;
-                if labels.is_empty() {
-                    return Ok(None);
-                }
-                let list = FeatureList::new(alloc, package, &labels)?;
-                Ok(Some(list))
+            Ok(package) if has_feature_of(self, package.row()) => {
+                Ok(Some(list_in(alloc, self, package)?))
             }
+            Ok(_) => Ok(None),
             Err(error) => Err(error),
         }
     }
@@ -68,6 +69,18 @@ impl<'g> FeatureSet<'g> {
             Err(error) => Err(error),
         }
     }
+}
+
+/// The features of a package that are in the set.
+pub(crate) fn list_in<'g>(
+    alloc: Global,
+    set: &FeatureSet<'g>,
+    package: PackageMetadata<'g>,
+) -> Result<FeatureList<'g>, AllocError>
+    ensures { IfOk result (ListsAt (labels_in set.now) (graph_of «package».entry) (place_of «package».entry)) }
+{
+    let labels = labels_in(alloc, set, package.row())?;
+    FeatureList::new(alloc, package, &labels)
 }
 
 // The labels of a package's row whose features are in the set.

@@ -1,14 +1,19 @@
 //! The features of a set, package by package.
 
-ghost use Rattle.std.specs.Prelude.{IfOk, map};
+ghost use Rattle.std.specs.Prelude.{◌≡◌, IfOk, length, map};
 ghost use Rattle.numbered_graph.specs.ListedViews.{in_direction};
 ghost use Rattle.guppy_package_table.specs.Tables.{id_at};
 ghost use Rattle.guppy_package_graph.specs.Directions.{direction_of};
 ghost use Rattle.guppy_package_graph.specs.SetValues.{listed};
-ghost use Rattle.guppy_feature_graph.specs.FeaturesFor.{AnswersStarts, ListEach, ListsPackages, ListsThose};
+ghost use Rattle.guppy_feature_demands.specs.Nodes.{nodes_of};
+ghost use Rattle.guppy_feature_nodes.specs.Graphs.{AreListed};
+ghost use Rattle.guppy_feature_graph.specs.FeaturesFor.{AnswersStarts, ListEach, ListsPackages};
+ghost use Rattle.guppy_feature_graph.specs.PackageFeatures.{IsOfFeature, IsPackageSetOf};
 
 use crate::feature_query::FeatureQuery;
 use crate::feature_set::FeatureSet;
+use crate::features_for::list_in;
+use crate::packages_of::packages_of;
 use guppy_feature_lists::FeatureList;
 use guppy_package_graph::{DependencyDirection, Error, PackageId, PackageSet};
 use std::alloc::{AllocError, Global};
@@ -23,40 +28,31 @@ impl<'g> FeatureSet<'g> {
     ) -> Result<Vec<FeatureList<'g>>, AllocError>
         ensures lists { IfOk result (λ lists. ListsPackages self.now direction lists.items) }
     {
-        let packages = self.to_package_set(alloc)?;
+        let packages = packages_of(alloc, self)?;
         lists_for(alloc, self, &packages, direction)
     }
 }
 
+// The list of each of the packages that have a feature in the set.
 fn lists_for<'g>(
     alloc: Global,
     set: &FeatureSet<'g>,
-    packages: &PackageSet<'_>,
+    packages: &PackageSet<'g>,
     direction: DependencyDirection,
 ) -> Result<Vec<FeatureList<'g>>, AllocError>
+    requires packages { IsPackageSetOf set.now.graph (IsOfFeature set.now) packages.now }
+    requires sized { length set.now.included ≡ length set.now.graph.nodes }
+    requires features { set.now.graph.nodes ≡ nodes_of set.now.graph.rows.packages }
+    requires listed { AreListed set.now.graph }
     ensures { IfOk result (λ lists. ListEach set.now (map (id_at packages.now.graph) (in_direction (direction_of direction) (listed packages.now))) lists.items) }
 {
     let mut lists: Vec<FeatureList<'g>> = Vec::new(alloc);
-    let mut ids = packages.package_ids(direction);
-    while let Some(id) = ids.next() {
-        let list = list_for(alloc, set, id)?;
+    let mut left = packages.packages(direction);
+    while let Some(package) = left.next() {
+        let list = list_in(alloc, set, package)?;
         lists.push(list)?;
     }
     Ok(lists)
-}
-
-fn list_for<'g>(
-    alloc: Global,
-    set: &FeatureSet<'g>,
-    package_id: &PackageId,
-) -> Result<FeatureList<'g>, AllocError>
-    ensures { IfOk result (ListsThose set.now package_id.now) }
-{
-    match set.features_for(alloc, package_id) {
-        Ok(Some(list)) => Ok(list),
-        // It is the id of a package that has a feature in the set, so memory ran out.
-        Ok(None) | Err(_) => Err(AllocError),
-    }
 }
 
 impl FeatureQuery<'_> {

@@ -1,5 +1,5 @@
 -- What holds of the edges and nodes of a graph that is built.
-use Rattle.std.proofs.Common.{◌≡◌, ℕ, ◌<◌, length, Bool, List, [], ◌∷◌, ◌++◌, All, Contains, Option, Some, None, option_and_then, slice_get, map, nat_eq, filter, position, IsTrue, refl, sym, subst, ap, ◌∙◌, arith}
+use Rattle.std.proofs.Common.{◌≡◌, ◌≢◌, ℕ, ◌<◌, length, List, [], ◌∷◌, ◌++◌, All, AllPairs, Contains, Option, Some, None, option_and_then, slice_get, map, nat_eq, filter, position, IsTrue, refl, sym, subst, ap, ◌∙◌}
 use Rattle.std.specs.Option.{is_some}
 use Rattle.std.specs.Str.{bytes_eq}
 use Rattle.std.proofs.lemmas.Bool.{false≢true}
@@ -15,14 +15,14 @@ use Rattle.workspace_record.specs.Features.{FeatureValue}
 use Rattle.guppy_package_parts.specs.Lines.{IsLineAt}
 use Rattle.guppy_package_table.specs.Tables.{TableValue, ids_of, place_among}
 use Rattle.guppy_feature_ids.specs.declared.link_declarations.LinkDeclarations.{LinkDeclarations}
-use Rattle.guppy_feature_demands.specs.Nodes.{base_of, first_of_each, nodes_of}
+use Rattle.guppy_feature_demands.specs.Nodes.{base_of, nodes_of}
 use Rattle.guppy_feature_demands.proofs.EntryFacts.{list_any_from_position_or_len}
 use Rattle.guppy_feature_demands.proofs.NumberFacts.{at_end, at_place}
 use Rattle.guppy_feature_nodes.specs.GraphEdges.{AreEdges, AreEdgesWithin, EdgeValue, IsEdgeWithin, edge_at}
-use Rattle.guppy_feature_nodes.specs.Graphs.{FeatureGraphValue, IsFeatureGraph, feature_at}
+use Rattle.guppy_feature_nodes.specs.Graphs.{AreListed, FeatureGraphValue, IsFeatureGraph, feature_at}
 use Rattle.guppy_feature_nodes.specs.Lines.{declares_at, links_shown}
 use Rattle.guppy_feature_nodes.proofs.EdgeFacts.{edges_within, first_of_each-among}
-use Rattle.guppy_feature_nodes.proofs.NodeFacts.{node_package}
+use Rattle.guppy_feature_nodes.proofs.NodeFacts.{node_package, node_row}
 
 -- what is seen of what was made of a list that grew
 pub values_more : {X Y A B : Type 0} (view : X → B) (f : Y → B) (g : A → Y) (old new : List X) (x : X) (made : List A) (a : A) → map view old ≡ map f (map g made) → view x ≡ f (g a) → new ≡ old ++ x ∷ [] → map view new ≡ map f (map g (made ++ a ∷ []))
@@ -55,6 +55,11 @@ module _ (g : FeatureGraphValue) (built : IsFeatureGraph g) where
 
   among : (node : ℕ) → node < length g.nodes → Contains g.nodes (feature_at g node)
   among node lt = (node, lt, get_or_from_slice_get g.nodes node (feature_at g node) (feature_at g node) (slice_get-get_or g.nodes node (base_of []) lt))
+
+  -- each feature is one that the row of its package lists
+  pub all_listed : AllPairs (λ a b. a.id ≢ b.id) g.rows.packages → AreListed g
+  all_listed apart v place row lt at is =
+      node_row g.rows.packages apart (feature_at g v) place row (subst (λ nodes. Contains nodes (feature_at g v)) built.nodes (among v lt)) at is
 
   -- the package of a node is found by its id
   pub package_there : (node : ℕ) → node < length g.nodes → (rows : TableValue) → rows ≡ g.rows → (id : Text) → id ≡ (feature_at g node).package_id → position (bytes_eq id) (ids_of rows.packages) ≡ None → ⊥

@@ -1,13 +1,14 @@
 -- A feature graph that is built.
-use Rattle.std.specs.Prelude.{◌≡◌, ◌<◌, ℕ, List, [], length, nat_lt, slice_index_or}
+use Rattle.std.specs.Prelude.{◌≡◌, ◌<◌, ℕ, List, [], Contains, Some, length, nat_lt, slice_get, slice_index_or}
 use Rattle.numbered_graph.specs.Listings.{IsListing}
 use Rattle.numbered_graph.specs.Paths.{Reaches}
 use Rattle.numbered_graph.specs.Sets.{has}
-use Rattle.workspace_record.specs.Records.{Link}
+use Rattle.workspace_record.specs.Records.{Link, Package}
 use Rattle.workspace_record.specs.Features.{FeatureValue}
 use Rattle.guppy_row_parts.specs.Warnings.{Warning}
-use Rattle.guppy_feature_demands.specs.Nodes.{base_of, nodes_of}
+use Rattle.guppy_feature_demands.specs.Nodes.{base_of, features_of, nodes_of}
 use Rattle.guppy_feature_demands.specs.Warnings.{warnings_of}
+use Rattle.guppy_package_graph.specs.Finding.{IsAt}
 use Rattle.guppy_package_table.specs.Tables.{TableValue}
 use Rattle.guppy_feature_nodes.specs.GraphEdges.{AreEdges, EdgeValue, edge_ends}
 use Rattle.guppy_feature_nodes.specs.Orders.{default_number, firm_edges, naming_edges}
@@ -35,6 +36,10 @@ pub record IsFeatureGraph (g : FeatureGraphValue) : Type 0 where
 -- the feature with a number; past the end one of no package
 abbrev pub feature_at : FeatureGraphValue → ℕ → FeatureValue
 feature_at g node = slice_index_or g.nodes node (base_of [])
+
+-- each feature is one that the row of its package lists
+abbrev pub AreListed : FeatureGraphValue → Type 0
+AreListed g = (v place : ℕ) (row : Package) → v < length g.nodes → IsAt g.rows (feature_at g v).package_id place → slice_get g.rows.packages place ≡ Some row → Contains (features_of row) (feature_at g v)
 
 -- the feature is a default one: from the `default` of its own package, or where that names none from the package itself, edges
 -- lead to it that stand for a feature's package and for features enabled by name

@@ -1,5 +1,5 @@
 -- What the data of a feature graph keeps beside its nodes and edges.
-use Rattle.std.specs.Prelude.{◌≡◌, All, map}
+use Rattle.std.specs.Prelude.{◌≡◌, ◌≢◌, All, AllPairs, map}
 use Rattle.numbered_graph.specs.declared.direction.Direction.TheVariants.{Forward}
 use Rattle.guppy_row_parts.specs.WarningViews.{warning_view}
 use Rattle.guppy_feature_nodes.specs.EdgeViews.{edge_view}
@@ -12,10 +12,11 @@ use Rattle.guppy_feature_nodes.specs.declared.feature_graph_data.FeatureGraphDat
 abbrev pub data_view : Inside → FeatureGraphValue
 data_view g = record { rows = g.graph.now; nodes = g.nodes; edges = map edge_view g.edges.items; warnings = map warning_view g.warnings.items; listing = g.orders.listing.items }
 
--- the graph is as the rows say; the links of the lines behind each edge are kept; the edges are kept as they are
+-- the graph is as the rows say, of which no two have one id; the links of the lines behind each edge are kept; the edges are kept as they are
 -- offered forward, and as links of nodes that are in order
 pub record IsKept (g : Inside) : Type 0 where
   pub graph : IsFeatureGraph (data_view g)
+  pub ids_apart : AllPairs (λ a b. a.id ≢ b.id) g.graph.now.packages
   pub edge_links : All (λ e. AreEdgeLinks g.graph.now.links (edge_view e).lines e.links) g.edges.items
   pub orders : AreOrders g.graph.now.links g.nodes (map edge_view g.edges.items) g.orders
   pub forward : g.forward ≡ offered Forward (data_view g)

@@ -1,4 +1,4 @@
-ghost use Rattle.std.specs.Prelude.{◌≡◌, ◌↔◌, ◌<◌, All, IfOk, IsTrue, length, map};
+ghost use Rattle.std.specs.Prelude.{◌≡◌, ◌≢◌, ◌↔◌, ◌<◌, All, AllPairs, IfOk, IsTrue, length, map};
 ghost use Rattle.std.specs.List.{list_any};
 ghost use Rattle.guppy_row_parts.specs.WarningViews.{warning_view};
 ghost use Rattle.guppy_feature_ids.specs.IdViews.{id_view};
@@ -7,7 +7,7 @@ ghost use Rattle.guppy_feature_demands.specs.Nodes.{is_node, nodes_of, number_of
 ghost use Rattle.guppy_feature_demands.specs.Warnings.{warnings_of};
 ghost use Rattle.guppy_feature_nodes.specs.EdgeViews.{edge_view};
 ghost use Rattle.guppy_feature_nodes.specs.GraphEdges.{AreEdges, IsEdgeWithin, edge_at, edge_ends};
-ghost use Rattle.guppy_feature_nodes.specs.Graphs.{IsDefault, IsEdgeListing, IsFeatureGraph, feature_at};
+ghost use Rattle.guppy_feature_nodes.specs.Graphs.{AreListed, IsDefault, IsEdgeListing, IsFeatureGraph, feature_at};
 ghost use Rattle.guppy_feature_nodes.specs.EdgeLinkViews.{AreEdgeLinks};
 ghost use Rattle.guppy_feature_nodes.specs.Lines.{declares_kind_at, links_shown};
 ghost use Rattle.guppy_feature_nodes.specs.Offering.{offered};
@@ -64,6 +64,7 @@ struct GraphParts<'g> {
 }
 
 fn graph_parts<'g>(alloc: Global, graph: &'g PackageGraph) -> Result<GraphParts<'g>, AllocError>
+    ensures apart { AllPairs (λ a b. a.id ≢ b.id) graph.entry.now.packages }
     ensures nodes { IfOk result (λ p. p.nodes ≡ nodes_of graph.entry.now.packages) }
     ensures edges { IfOk result (λ p. AreEdges graph.entry.now.packages graph.entry.now.links (map edge_view p.edges.items)) }
     ensures lines { IfOk result (λ p. All (λ e. AreEdgeLinks graph.entry.now.links (edge_view e).lines e.links) p.edges.items) }
@@ -131,6 +132,7 @@ impl<'g> FeatureGraphData<'g> {
     pub fn feature_ids(&self) -> &[FeatureId<'g>]
         ensures nodes { map id_view result.now ≡ self.now.nodes }
         ensures features { self.now.nodes ≡ nodes_of self.now.rows.packages }
+        ensures listed { AreListed self.now }
     {
         self.nodes.ids()
     }

@@ -1,19 +1,22 @@
 //! The rows of a package graph's packages, each with its id.
 
-ghost use Rattle.std.specs.Prelude.{◌≡◌, IfOk, Some, map, slice_get};
+ghost use Rattle.std.specs.Prelude.{◌≡◌, ◌≢◌, AllPairs, IfOk, Some, map, slice_get};
 ghost use Rattle.guppy_package_graph.specs.Views.{graph_of, place_of};
 
 use guppy_feature_demands::PackageAt;
 use guppy_package_graph::{PackageGraph, PackageMetadata};
 use std::alloc::{AllocError, Global};
 
+/// The packages' rows, in their order; no two have one id.
 pub(crate) fn package_rows<'g>(
     alloc: Global,
     graph: &'g PackageGraph,
 ) -> Result<Vec<PackageAt<'g>>, AllocError>
-    ensures { IfOk result (λ v. map (λ at. at.row.now) v.items ≡ graph.entry.now.packages) }
+    ensures rows { IfOk result (λ v. map (λ at. at.row.now) v.items ≡ graph.entry.now.packages) }
+    ensures apart { AllPairs (λ a b. a.id ≢ b.id) graph.entry.now.packages }
 {
-    let mut rows: Vec<PackageAt<'g>> = Vec::with_capacity(alloc, graph.package_count())?;
+    let count = graph.package_ids().len();
+    let mut rows: Vec<PackageAt<'g>> = Vec::with_capacity(alloc, count)?;
     let mut packages = graph.packages();
     while let Some(metadata) = packages.next() {
         rows.push(package_at(metadata))?;

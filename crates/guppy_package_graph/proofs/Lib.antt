@@ -2,6 +2,7 @@ pub mod ResolveFacts
 pub mod ChoiceFacts
 pub mod DirectFacts
 pub mod PlaceFacts
+pub mod StartFacts
 pub mod QueryFacts
 pub mod SetFacts
 pub mod DependFacts

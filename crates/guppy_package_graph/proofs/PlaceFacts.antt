@@ -143,7 +143,3 @@ named_more g ids id v = (there, back)
         (λ before. let found = Any_cases (λ x. IsAt g x v) ids before in Any-from_Contains (λ x. IsAt g x v) (ids ++ id ∷ []) found.0 (Contains-append_left ids (id ∷ []) found.0 found.1) found.2)
         (λ at. Any-from_Contains (λ x. IsAt g x v) (ids ++ id ∷ []) id (Contains-append_right ids (id ∷ []) id (Contains-first id [])) at)
         h
-
--- no id names no package
-pub none_named : (g : TableValue) (v : ℕ) → IsNamed g [] v → ⊥
-none_named g v h = Contains-none (Any_cases (λ x. IsAt g x v) [] h).0 (Any_cases (λ x. IsAt g x v) [] h).1

@@ -1,6 +1,6 @@
 //! The graph of packages, and what it says of each.
 
-ghost use Rattle.std.specs.Prelude.{◌≡◌, ◌↔◌, ◌<◌, IfErr, IfOk, IsTrue, Ok, length};
+ghost use Rattle.std.specs.Prelude.{◌≡◌, ◌≢◌, ◌↔◌, ◌<◌, AllPairs, IfErr, IfOk, IsTrue, Ok, length};
 ghost use Rattle.package_rules.specs.Kept.{AreKept};
 ghost use Rattle.guppy_package_table.specs.Refusals.{IsRefusal};
 ghost use Rattle.guppy_package_table.specs.Tables.{IsTableOf, id_at, ids_of, numbered_links, place_among};
@@ -124,9 +124,10 @@ impl PackageGraph {
         Workspace::of(self)
     }
 
-    /// The ids of the packages, in the order of the record.
+    /// The ids of the packages, in the order of the record. No two packages have the same.
     pub fn package_ids(&self) -> &[PackageId]
         ensures ids { result.now ≡ ids_of self.now.packages }
+        ensures apart { AllPairs (λ a b. a.id ≢ b.id) self.now.packages }
     {
         self.table.ids()
     }

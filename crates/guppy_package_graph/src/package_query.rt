@@ -1,4 +1,4 @@
-ghost use Rattle.std.specs.Prelude.{◌≡◌, ◌<◌, ◌==◌, All, IfOk, length};
+ghost use Rattle.std.specs.Prelude.{◌≡◌, ◌<◌, ◌==◌, All, AllPairs, IfOk, length};
 ghost use Rattle.std.specs.List.{list_any};
 ghost use Rattle.guppy_package_graph.specs.Views.{packages_graph_of, places_left};
 
@@ -9,7 +9,8 @@ use std::alloc::{AllocError, Global};
 use std::fmt;
 use std::marker::Model;
 
-/// Packages of a graph from which links are followed in a direction.
+/// Packages of a graph from which links are followed in a direction, each once in the order of the
+/// record.
 #[derive(Drop)]
 pub struct PackageQuery<'g> {
     graph: &'g PackageGraph,
@@ -18,14 +19,14 @@ pub struct PackageQuery<'g> {
 }
 
 impl<'g> Model for PackageQuery<'g> {
-    ghost use Rattle.std.specs.Prelude.{◌<◌, All, length};
+    ghost use Rattle.std.specs.Prelude.{◌<◌, All, AllPairs, length};
     ghost use Rattle.guppy_package_graph.specs.Queries.{QueryValue};
 
     ghost Value = { QueryValue };
 
     ghost view = { λ q. record { graph = q.graph.now; direction = q.direction; initials = q.initials.items } };
 
-    ghost invariant = { λ q. All (λ v. v < length q.graph.now.packages) q.initials.items };
+    ghost invariant = { λ q. All (λ v. v < length q.graph.now.packages) q.initials.items × AllPairs (λ u v. u < v) q.initials.items };
 }
 
 impl<'g> PackageQuery<'g> {
@@ -34,7 +35,8 @@ impl<'g> PackageQuery<'g> {
         direction: DependencyDirection,
         initials: Vec<usize>,
     ) -> PackageQuery<'g>
-        requires { All (λ v. v < length graph.now.packages) initials.items }
+        requires within { All (λ v. v < length graph.now.packages) initials.items }
+        requires ascending { AllPairs (λ u v. u < v) initials.items }
         ensures { result ≡ record { graph = graph.entry.now; direction = direction; initials = initials.items } }
     {
         PackageQuery {
@@ -84,7 +86,7 @@ impl<'g> PackageQuery<'g> {
     pub(crate) fn starts_from(&self, place: usize) -> bool
         ensures { result ≡ list_any (λ v. v == place) self.now.initials }
     {
-        self.initials.iter().any(|initial| *initial == place)
+        self.initials.binary_search(&place).is_ok()
     }
 }
 

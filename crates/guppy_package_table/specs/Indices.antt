@@ -4,7 +4,7 @@ use Rattle.semver.specs.Identifiers.{comparator_view, parts_of}
 use Rattle.semver.specs.Parse.{req_of, version_parts}
 use Rattle.numbered_graph.specs.Listings.{IsListing}
 use Rattle.numbered_graph.specs.Sets.{has}
-use Rattle.package_rules.specs.Kept.{IsMemberId, IsPackageId}
+use Rattle.package_rules.specs.Kept.{IsMemberId, IsPackageId, IsVersion}
 use Rattle.workspace_record.specs.Records.{Package, Link, WorkspaceDetails}
 use Rattle.guppy_package_table.specs.LinkRows.{name_in_rust}
 use Rattle.guppy_package_table.specs.Tables.{firm_flags, ids_of, links_among}
@@ -15,13 +15,15 @@ use Rattle.guppy_package_table.specs.declared.indices.PackageIndices.{PackageInd
 -- of the rules those on packages and members that tell where things stand
 pub record ArePackagesKept (packages : List Package) (workspace : WorkspaceDetails) : Type 0 where
   pub ids_apart : AllPairs (λ a b. a.id ≢ b.id) packages
+  pub versions_read : All (λ p. IsVersion p.version) packages
   pub members_known : All (λ m. IsPackageId packages m.package_id) workspace.members
   pub members_apart : AllPairs (λ a b. a.package_id ≢ b.package_id) workspace.members
   pub defaults_are_members : All (IsMemberId workspace) workspace.default_members
 
--- packages by id, the versions that were read, and the places of members
+-- packages by id, no two of one, the versions that were read, and the places of members
 pub record IndexesPackages (packages : List Package) (workspace : WorkspaceDetails) (index : PackageIndices) : Type 0 where
   pub ids : index.ids.keys ≡ ids_of packages
+  pub ids_apart : AllPairs (λ a b. a.id ≢ b.id) packages
   pub versions : map (λ p. version_parts p.version) packages ≡ map (λ v. Ok (parts_of v)) index.versions.items
   pub members : AreMembers (ids_of packages) workspace index.members
   pub member_places : All (λ v. v < length packages) index.members.places.items

@@ -1,8 +1,9 @@
 //! What is found in rows at once.
 
-ghost use Rattle.std.specs.Prelude.{◌≡◌, IfOk, length, map, nat_lt};
+ghost use Rattle.std.specs.Prelude.{◌≡◌, All, IfOk, length, map, nat_lt};
 ghost use Rattle.numbered_graph.specs.Listings.{IsListing};
 ghost use Rattle.numbered_graph.specs.Sets.{has};
+ghost use Rattle.package_rules.specs.Kept.{IsRequirement};
 ghost use Rattle.guppy_package_table.specs.Indices.{ArePackagesKept, IndexesLinks, IndexesPackages};
 ghost use Rattle.guppy_package_table.specs.Tables.{AreKnownEnds, firm_flags, ids_of, link_between};
 
@@ -100,6 +101,7 @@ pub(crate) fn link_indices(
 ) -> Result<LinkIndices, AllocError>
     requires ids { shared.now.indices.ids.keys ≡ ids_of shared.now.packages.items }
     requires ends { AreKnownEnds (ids_of shared.now.packages.items) links.now }
+    requires read { All (λ l. IsRequirement l.requirement) links.now }
     ensures { IfOk result (IndexesLinks shared.now.packages.items links.now) }
 {
     let requirements = requirements_of(alloc, links)?;

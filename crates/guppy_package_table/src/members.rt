@@ -15,6 +15,8 @@ use std::alloc::{AllocError, Global};
 pub struct Members {
     /// The ids of the members' packages, each at the place of its member.
     pub ids: IndexSet<PackageId>,
+    /// The number of each package's member; the number of members where it has none.
+    pub numbers: Vec<usize>,
     /// The place of each member's package.
     pub places: Vec<usize>,
     /// The place of each default member's package.
@@ -31,10 +33,12 @@ pub(crate) fn members_of(
     ensures { IfOk result (AreMembers ids.now.keys workspace.now) }
 {
     let member_ids = member_ids_of(alloc, &workspace.members)?;
+    let numbers = member_numbers(alloc, &member_ids, ids.as_slice())?;
     let places = member_places(alloc, ids, &workspace.members)?;
     let defaults = default_places(alloc, ids, &workspace.default_members)?;
     Ok(Members {
         ids: member_ids,
+        numbers,
         places,
         defaults,
     })
@@ -50,6 +54,21 @@ fn member_ids_of(alloc: Global, members: &[MemberRow]) -> Result<IndexSet<Packag
         insert_id(alloc, &mut ids, member.package.as_str())?;
     }
     Ok(ids)
+}
+
+/// The number of each package's member among those whose packages have these ids.
+fn member_numbers(
+    alloc: Global,
+    members: &IndexSet<PackageId>,
+    package_ids: &[PackageId],
+) -> Result<Vec<usize>, AllocError>
+    ensures { IfOk result (λ numbers. numbers.items ≡ map (place_among members.now.keys) package_ids.now) }
+{
+    let mut numbers = Vec::with_capacity(alloc, package_ids.len())?;
+    for id in package_ids {
+        numbers.push(place_of_id(members, id.repr()))?;
+    }
+    Ok(numbers)
 }
 
 /// The place of each member's package.
@@ -94,7 +113,8 @@ pub(crate) fn member_among<'a>(
     member_at(members, place_of_id(ids, id))
 }
 
-fn member_at(members: &[MemberRow], number: usize) -> Option<&MemberRow>
+/// The member with a number, if there is one.
+pub(crate) fn member_at(members: &[MemberRow], number: usize) -> Option<&MemberRow>
     ensures { option_copied result ≡ slice_get members.now number }
 {
     members.get(number)

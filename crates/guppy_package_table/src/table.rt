@@ -1,11 +1,11 @@
 //! The rows of a package graph with their indices.
 
-ghost use Rattle.std.specs.Prelude.{◌≡◌, ◌<◌, ℕ, All, IfErr, IfNone, IfOk, IfSome, Some, length, map, nat_lt, option_map, position, slice_get, slice_index};
+ghost use Rattle.std.specs.Prelude.{◌≡◌, ◌≢◌, ◌<◌, ℕ, All, AllPairs, IfErr, IfNone, IfOk, IfSome, Some, length, map, nat_lt, option_map, position, slice_get, slice_index};
 ghost use Rattle.std.specs.Option.{option_copied};
 ghost use Rattle.std.specs.Str.{bytes_eq};
 ghost use Rattle.numbered_graph.specs.Listings.{IsListing};
 ghost use Rattle.numbered_graph.specs.Sets.{has};
-ghost use Rattle.package_rules.specs.Kept.{AreKept};
+ghost use Rattle.package_rules.specs.Kept.{AreKept, IsRequirement};
 ghost use Rattle.guppy_package_table.specs.Indices.{IndexesPackages};
 ghost use Rattle.guppy_package_table.specs.LinkDetailsViews as link_views;
 ghost use Rattle.guppy_package_table.specs.PackageDetailsViews.{member_path_of, row_of};
@@ -14,7 +14,7 @@ ghost use Rattle.guppy_package_table.specs.Tables.{AreKnownEnds, IsClear, IsFirs
 
 use crate::indices::{LinkIndices, SharedRows, link_indices, package_indices};
 use crate::link_details::LinkDetails;
-use crate::members::member_among;
+use crate::members::{member_among, member_at};
 use crate::package_details::PackageDetails;
 use crate::package_graph_error::PackageGraphError;
 use crate::package_ids::find_id;
@@ -107,6 +107,7 @@ impl PackageTable {
         links: Vec<LinkRow>,
     ) -> Result<PackageTable, AllocError>
         requires ends { AreKnownEnds (ids_of shared.value.packages.items) links.items }
+        requires read { All (λ l. IsRequirement l.requirement) links.items }
         requires indexed { IndexesPackages shared.value.packages.items shared.value.workspace shared.value.indices }
         ensures { IfOk result (IsTableOf shared.value.packages.items links.items shared.value.workspace) }
     {
@@ -175,9 +176,10 @@ impl PackageTable {
         &self.indices.listing
     }
 
-    /// The ids of the packages, in the order of the record.
+    /// The ids of the packages, in the order of the record. No two packages have the same.
     pub fn ids(&self) -> &[PackageId]
-        ensures { result.now ≡ ids_of self.now.packages }
+        ensures value { result.now ≡ ids_of self.now.packages }
+        ensures apart { AllPairs (λ a b. a.id ≢ b.id) self.now.packages }
     {
         self.shared.as_ref().indices.ids.as_slice()
     }
@@ -214,15 +216,8 @@ impl PackageTable {
         let shared = self.shared.as_ref();
         let row = &shared.packages[place];
         let version = &shared.indices.versions[place];
-        let member_path = self.member_path(row.id.as_str());
-        PackageDetails::of(row, version, member_path)
-    }
-
-    fn member_path(&self, id: &str) -> Option<&str>
-        ensures { option_map (λ p. p.now) result ≡ option_map (λ m. m.path) (member_of self.now id.now) }
-    {
-        let member = self.member(id)?;
-        Some(member.path.as_str())
+        let number = shared.indices.members.numbers[place];
+        PackageDetails::of(row, version, member_path(&shared.workspace, number))
     }
 
     /// What the row of the link with a number says.
@@ -259,6 +254,14 @@ impl PackageTable {
     {
         first_link_between(self.graph(), from, to)
     }
+}
+
+/// The path in the workspace of the member with a number, if there is one.
+fn member_path(workspace: &WorkspaceRow, number: usize) -> Option<&str>
+    ensures { option_map (λ p. p.now) result ≡ option_map (λ m. m.path) (slice_get workspace.now.members number) }
+{
+    let member = member_at(&workspace.members, number)?;
+    Some(member.path.as_str())
 }
 
 fn first_link_between(graph: &Graph, from: usize, to: usize) -> Option<usize>

@@ -10,7 +10,7 @@ use std::alloc::{AllocError, Global};
 pub fn copy_texts(alloc: Global, names: &[String]) -> Result<Vec<String>, AllocError>
     ensures { IfOk result (λ v. texts v.items ≡ texts names.now) }
 {
-    let mut copies = Vec::new(alloc);
+    let mut copies = Vec::with_capacity(alloc, names.len())?;
     for name in names {
         copies.push(String::from_str(alloc, name.as_str())?)?;
     }

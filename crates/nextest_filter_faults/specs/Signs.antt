@@ -1,4 +1,4 @@
--- How operators and platforms are written.
+-- How operators are written.
 use Rattle.std.specs.Prelude.{ℕ, List, codes}
 use Rattle.nextest_filter_faults.specs.declared.operators.NotOperator.{NotOperator}
 use Rattle.nextest_filter_faults.specs.declared.operators.NotOperator.TheVariants.{LiteralNot, Exclamation}
@@ -6,8 +6,6 @@ use Rattle.nextest_filter_faults.specs.declared.operators.OrOperator.{OrOperator
 use Rattle.nextest_filter_faults.specs.declared.operators.OrOperator.TheVariants.{LiteralOr, Pipe, Plus}
 use Rattle.nextest_filter_faults.specs.declared.operators.AndOperator.{AndOperator}
 use Rattle.nextest_filter_faults.specs.declared.operators.AndOperator.TheVariants.{LiteralAnd, Ampersand}
-use Rattle.nextest_filter_faults.specs.declared.platform.BuildPlatform.{BuildPlatform}
-use Rattle.nextest_filter_faults.specs.declared.platform.BuildPlatform.TheVariants.{Host, Target}
 
 abbrev pub not_sign : NotOperator → List ℕ
 not_sign LiteralNot = codes "not"
@@ -21,7 +19,3 @@ or_sign Plus = codes "+"
 abbrev pub and_sign : AndOperator → List ℕ
 and_sign LiteralAnd = codes "and"
 and_sign Ampersand = codes "&"
-
-abbrev pub platform_text : BuildPlatform → List ℕ
-platform_text Host = codes "host"
-platform_text Target = codes "target"

@@ -6,12 +6,11 @@ mod fault_copies;
 mod filterset_kind;
 mod operators;
 mod parse_error;
-mod platform;
 
 pub use crate::filterset_kind::{BannedPredicateReason, FiltersetKind};
 pub use crate::operators::{AndOperator, DifferenceOperator, NotOperator, OrOperator};
 pub use crate::parse_error::ParseSingleError;
-pub use crate::platform::BuildPlatform;
+pub use nextest_binaries::BuildPlatform;
 pub use nextest_filter_matchers::{
     GenericGlob, GlobConstructError, GlobError, NameMatcher, SourceSpan,
 };

@@ -4,9 +4,9 @@ use Rattle.std.proofs.lemmas.Bool.{false≢true}
 use Rattle.std.specs.Str.{trim}
 use Rattle.nextest_filter_matchers.specs.Matchers.{Matcher}
 use Rattle.nextest_filter_matchers.specs.declared.source_span.SourceSpan.{SourceSpan}
-use Rattle.nextest_filter_faults.specs.Signs.{platform_text}
-use Rattle.nextest_filter_faults.specs.declared.platform.BuildPlatform.{BuildPlatform}
-use Rattle.nextest_filter_faults.specs.declared.platform.BuildPlatform.TheVariants.{Host, Target}
+use Rattle.nextest_binaries.specs.Platforms.{platform_text}
+use Rattle.nextest_binaries.specs.declared.build_platform.BuildPlatform.{BuildPlatform}
+use Rattle.nextest_binaries.specs.declared.build_platform.BuildPlatform.TheVariants.{Host, Target}
 use Rattle.nextest_filter_tokens.specs.Bytes.{skip}
 use Rattle.nextest_filter_tokens.specs.Heads.{head_at}
 use Rattle.nextest_filter_tokens.specs.declared.heads.Head.{Head}

@@ -7,8 +7,8 @@ use Rattle.nextest_filter_matchers.specs.Globs.{Glob}
 use Rattle.nextest_filter_matchers.specs.GlobReading.{read_glob}
 use Rattle.nextest_filter_matchers.specs.Matchers as m
 use Rattle.nextest_filter_matchers.specs.Matchers.{Matcher}
-use Rattle.nextest_filter_faults.specs.Signs.{platform_text}
-use Rattle.nextest_filter_faults.specs.declared.platform.BuildPlatform.{BuildPlatform}
+use Rattle.nextest_binaries.specs.Platforms.{platform_text}
+use Rattle.nextest_binaries.specs.declared.build_platform.BuildPlatform.{BuildPlatform}
 use Rattle.nextest_filter_tokens.specs.Bytes.{is_byte, skip}
 use Rattle.nextest_filter_tokens.specs.Heads.{head_at}
 use Rattle.nextest_filter_tokens.specs.Patterns.{ReadsPattern}

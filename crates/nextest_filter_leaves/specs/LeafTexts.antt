@@ -1,7 +1,7 @@
 -- How leaves are printed.
 use Rattle.std.specs.Prelude.{ℕ, List, ◌++◌, codes}
 use Rattle.nextest_filter_matchers.specs.Printing.{matcher_text}
-use Rattle.nextest_filter_faults.specs.Signs.{platform_text}
+use Rattle.nextest_binaries.specs.Platforms.{platform_text}
 use Rattle.nextest_filter_tokens.specs.declared.heads.Predicate.{Predicate}
 use Rattle.nextest_filter_tokens.specs.declared.heads.Predicate.TheVariants.{Package, Deps, Rdeps, Kind, Binary, BinaryId, Test, Group, Feature}
 use Rattle.nextest_filter_leaves.specs.Leaves.{Leaf, Named, Platform, Default, All, None}

@@ -1,8 +1,8 @@
 ghost use Rattle.std.specs.Prelude.{◌≡◌, ◌≤◌, ◌<◌, ◌+◌, ℕ, [], IfOk, IfSome, IfNone, OnOk, length, slice_range};
 ghost use Rattle.std.specs.Str.{IsCharBoundary, trim};
 ghost use Rattle.nextest_filter_matchers.specs.Matchers.{matcher_of};
-ghost use Rattle.nextest_filter_faults.specs.Signs.{platform_text};
-ghost use Rattle.nextest_filter_faults.specs.declared.platform.BuildPlatform as declared;
+ghost use Rattle.nextest_binaries.specs.Platforms.{platform_text};
+ghost use Rattle.nextest_binaries.specs.declared.build_platform.BuildPlatform as declared;
 ghost use Rattle.nextest_filter_matchers.specs.declared.source_span.SourceSpan as source;
 ghost use Rattle.nextest_filter_tokens.specs.ReadingSteps.{AreOf, GoesOn, Grows, GrowsUpTo, IsClean, KeepsPatterns, Spoils, SpoilsSyntax};
 ghost use Rattle.nextest_filter_leaves.specs.AsWritten.{IsLeafAsWritten, IsMatcherAsWritten};

@@ -7,9 +7,9 @@ use Rattle.std.specs.Str.{chars, trim, trim_end, trim_start}
 use Rattle.nextest_filter_matchers.specs.declared.source_span.SourceSpan.{SourceSpan}
 use Rattle.nextest_filter_matchers.specs.Matchers.{Matcher}
 use Rattle.nextest_filter_matchers.specs.Printing.{matcher_text}
-use Rattle.nextest_filter_faults.specs.Signs.{platform_text}
-use Rattle.nextest_filter_faults.specs.declared.platform.BuildPlatform.{BuildPlatform}
-use Rattle.nextest_filter_faults.specs.declared.platform.BuildPlatform.TheVariants.{Host, Target}
+use Rattle.nextest_binaries.specs.Platforms.{platform_text}
+use Rattle.nextest_binaries.specs.declared.build_platform.BuildPlatform.{BuildPlatform}
+use Rattle.nextest_binaries.specs.declared.build_platform.BuildPlatform.TheVariants.{Host, Target}
 use Rattle.nextest_filter_tokens.specs.Bytes.{byte, has_word, is_byte, skip}
 use Rattle.nextest_filter_tokens.proofs.BlankFacts.{byte_within}
 use Rattle.nextest_filter_tokens.specs.Heads.{head_at, plain_set_at}

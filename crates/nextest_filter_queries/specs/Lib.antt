@@ -1,4 +1,3 @@
 pub mod NameTests
-pub mod BinaryIds
 pub mod Queries
 pub mod Groups

@@ -1,6 +1,6 @@
 -- What a filter is asked about.
 use Rattle.workspace_record.specs.Records.{Text}
-use Rattle.nextest_filter_faults.specs.declared.platform.BuildPlatform.{BuildPlatform}
+use Rattle.nextest_binaries.specs.declared.build_platform.BuildPlatform.{BuildPlatform}
 use Rattle.nextest_filter_queries.specs.declared.queries.BinaryQuery.{BinaryQuery}
 use Rattle.nextest_filter_queries.specs.declared.queries.TestQuery.{TestQuery}
 

@@ -1,4 +1,5 @@
 use crate::binary_kind::RustTestBinaryKind;
+use nextest_binaries::binary_id;
 use std::alloc::{AllocError, Global};
 use std::marker::Model;
 
@@ -38,7 +39,7 @@ impl Eq for RustBinaryId {
 
 impl RustBinaryId {
     ghost use Rattle.std.specs.Prelude.{◌≡◌, IfOk, string_bytes};
-    ghost use Rattle.nextest_filter_queries.specs.BinaryIds.{binary_id};
+    ghost use Rattle.nextest_binaries.specs.BinaryIds.{binary_id};
 
     /// The id with this text.
     pub fn new(text: String) -> RustBinaryId
@@ -64,16 +65,7 @@ impl RustBinaryId {
     ) -> Result<RustBinaryId, AllocError>
         ensures parts { IfOk result (λ id. id ≡ binary_id package_name.now kind.now target_name.now) }
     {
-        let kind = kind.as_str();
-        let mut text = String::from_str(alloc, package_name)?;
-        if kind != RustTestBinaryKind::LIB && kind != RustTestBinaryKind::PROC_MACRO {
-            text.push_str("::")?;
-            if kind != RustTestBinaryKind::TEST {
-                text.push_str(kind)?;
-                text.push('/')?;
-            }
-            text.push_str(target_name)?;
-        }
+        let text = binary_id(alloc, package_name, kind.as_str(), target_name)?;
         Ok(RustBinaryId { text })
     }
 }

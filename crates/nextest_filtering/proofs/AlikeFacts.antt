@@ -15,7 +15,7 @@ use Rattle.nextest_filter_matchers.specs.declared.name_matcher.NameMatcher.TheVa
 use Rattle.nextest_filter_matchers.specs.declared.source_span.SourceSpan.{SourceSpan}
 use Rattle.nextest_filter_faults.specs.declared.filterset_kind.FiltersetKind.{FiltersetKind}
 use Rattle.nextest_filter_faults.specs.declared.filterset_kind.FiltersetKind.TheVariants as kind
-use Rattle.nextest_filter_faults.specs.declared.platform.BuildPlatform.{BuildPlatform}
+use Rattle.nextest_binaries.specs.declared.build_platform.BuildPlatform.{BuildPlatform}
 use Rattle.nextest_filter_tokens.specs.declared.heads.Predicate.{Predicate}
 use Rattle.nextest_filter_tokens.specs.declared.heads.Predicate.TheVariants as names
 use Rattle.nextest_filter_leaves.specs.AsWritten.{IsMatcherAsWritten}

@@ -4,7 +4,7 @@ use Rattle.workspace_record.specs.Records.{Text}
 use Rattle.nextest_filter_matchers.specs.Matchers.{matcher_of}
 use Rattle.nextest_filter_matchers.specs.declared.name_matcher.NameMatcher.{NameMatcher}
 use Rattle.nextest_filter_matchers.specs.declared.source_span.SourceSpan.{SourceSpan}
-use Rattle.nextest_filter_faults.specs.declared.platform.BuildPlatform.{BuildPlatform}
+use Rattle.nextest_binaries.specs.declared.build_platform.BuildPlatform.{BuildPlatform}
 use Rattle.nextest_filter_tokens.specs.declared.heads.Predicate.{Predicate}
 use Rattle.nextest_filter_tokens.specs.declared.heads.Predicate.TheVariants as names
 use Rattle.nextest_filter_leaves.specs.AsWritten.{IsLeafAsWritten, IsMatcherAsWritten}

@@ -6,7 +6,7 @@ use Rattle.workspace_record.specs.Records.{Text, Package, FeatureEntry, Target}
 use Rattle.guppy_row_parts.specs.BuildTargets.{TargetId, Library, BuildScript, Binary, Example, Test, Benchmark, id_of}
 use Rattle.guppy_package_table.specs.Tables.{TableValue, numbered_links}
 use Rattle.guppy_package_graph.specs.Finding.{IsAt}
-use Rattle.nextest_filter_queries.specs.BinaryIds.{binary_id}
+use Rattle.nextest_binaries.specs.BinaryIds.{binary_id}
 
 -- what is seen of a context: the graph whose links paths follow, each package by its id and its name, each binary by its id and its name, the names of the packages' features, and the features that are said to be on, each by its package's id and its name
 pub record ContextValue : Type 0 where

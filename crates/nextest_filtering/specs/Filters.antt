@@ -1,6 +1,6 @@
 -- Filters as propositions over what they name. Parentheses only group, and a difference is the left part without the right one.
 use Rattle.nextest_filter_matchers.specs.declared.source_span.SourceSpan.{SourceSpan}
-use Rattle.nextest_filter_faults.specs.declared.platform.BuildPlatform.{BuildPlatform}
+use Rattle.nextest_binaries.specs.declared.build_platform.BuildPlatform.{BuildPlatform}
 use Rattle.nextest_filter_tokens.specs.declared.heads.Predicate.{Predicate}
 use Rattle.nextest_filter_tokens.specs.declared.heads.Predicate.TheVariants as names
 use Rattle.nextest_filter_leaves.specs.declared.parsed_leaf.ParsedLeaf.{ParsedLeaf}

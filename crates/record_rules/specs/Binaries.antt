@@ -1,12 +1,13 @@
 -- The test binaries of a workspace.
-use Rattle.std.specs.Prelude.{Bool, true, false, ◌&&◌, List, ◌++◌, map, filter, codes}
+use Rattle.std.specs.Prelude.{Bool, true, false, ◌&&◌, List, map, filter, codes}
 use Rattle.std.specs.List.{flat_map}
 use Rattle.workspace_record.specs.Records.{Text, Target, Package, Workspace}
 use Rattle.workspace_record.specs.declared.kinds.TargetKind.{TargetKind}
 use Rattle.workspace_record.specs.declared.kinds.TargetKind.TheVariants.{Lib, ProcMacro, Test, Bench, Bin, Example, BuildScript}
 use Rattle.feature_account.specs.Lines.{is_member}
-use Rattle.test_lister.specs.declared.binary.BuildPlatform.{BuildPlatform}
-use Rattle.test_lister.specs.declared.binary.BuildPlatform.TheVariants as platform
+use Rattle.nextest_binaries.specs.BinaryIds as ids
+use Rattle.nextest_binaries.specs.declared.build_platform.BuildPlatform.{BuildPlatform}
+use Rattle.nextest_binaries.specs.declared.build_platform.BuildPlatform.TheVariants as platform
 
 -- a target of a package, its owner, which is built into a test binary under an id of its own
 pub record Binary : Type 0 where
@@ -24,15 +25,9 @@ kind_text Bin = codes "bin"
 kind_text Example = codes "example"
 kind_text BuildScript = codes "build-script"
 
--- how nextest calls a binary: by the package, by package and test, or by package, kind and name
+-- how nextest calls a binary
 abbrev pub binary_id : Text → TargetKind → Text → Text
-binary_id package_name Lib name = package_name
-binary_id package_name ProcMacro name = package_name
-binary_id package_name Test name = package_name ++ (codes "::" ++ name)
-binary_id package_name Bench name = package_name ++ (codes "::" ++ (codes "bench" ++ (codes "/" ++ name)))
-binary_id package_name Bin name = package_name ++ (codes "::" ++ (codes "bin" ++ (codes "/" ++ name)))
-binary_id package_name Example name = package_name ++ (codes "::" ++ (codes "example" ++ (codes "/" ++ name)))
-binary_id package_name BuildScript name = package_name ++ (codes "::" ++ (codes "build-script" ++ (codes "/" ++ name)))
+binary_id package_name kind name = ids.binary_id package_name (kind_text kind) name
 
 -- a proc macro is built for the host
 abbrev pub platform_of : TargetKind → BuildPlatform

@@ -3,14 +3,14 @@
 ghost use Rattle.std.specs.Prelude.{◌≡◌, ◌++◌, OnOk, IfOk, map, filter, string_bytes};
 ghost use Rattle.feature_account.specs.Lines.{is_member};
 ghost use Rattle.package_rules.specs.Found.{finds};
-ghost use Rattle.record_rules.specs.Binaries.{binary_id, may_have_tests, platform_of, binaries_of, binaries};
+ghost use Rattle.record_rules.specs.Binaries.{binary_id, kind_text, may_have_tests, platform_of, binaries_of, binaries};
 ghost use Rattle.record_rules.specs.BinaryView.{binary_view};
 
 use indexmap::IndexSet;
+use nextest_binaries::{BuildPlatform, binary_id};
 use package_rules::text_sets::text_set;
 use std::alloc::{AllocError, Global};
 use std::cmp::Ordering;
-use test_lister::BuildPlatform;
 use workspace_record::{PackageRecord, TargetKind, TargetRecord, WorkspaceRecord};
 
 /// A target of a package, which is built into a test binary under an id of its own. Binaries are
@@ -127,7 +127,7 @@ fn push_binaries<'a>(
 {
     for target in &row.targets {
         if target.tested && may_have_tests(target.kind) {
-            let id = binary_id(alloc, row.name.as_str(), target.kind, target.name.as_str())?;
+            let id = id_of(alloc, row, target)?;
             all.push(TestBinary { id, row, target })?;
         }
     }
@@ -163,29 +163,28 @@ pub fn platform_of(kind: TargetKind) -> BuildPlatform
     }
 }
 
-fn binary_id(
-    alloc: Global,
-    package_name: &str,
-    kind: TargetKind,
-    name: &str,
-) -> Result<String, AllocError>
-    ensures { IfOk result (λ id. string_bytes id ≡ binary_id package_name.now kind name.now) }
+/// How nextest calls the kind.
+pub fn kind_text(kind: TargetKind) -> &'static str
+    ensures { result.now ≡ kind_text kind }
 {
-    let mut id = String::from_str(alloc, package_name)?;
     match kind {
-        TargetKind::Lib | TargetKind::ProcMacro => {}
-        TargetKind::Test => push_name(&mut id, "::", name)?,
-        TargetKind::Bench => push_name(&mut id, "::bench/", name)?,
-        TargetKind::Bin => push_name(&mut id, "::bin/", name)?,
-        TargetKind::Example => push_name(&mut id, "::example/", name)?,
-        TargetKind::BuildScript => push_name(&mut id, "::build-script/", name)?,
+        TargetKind::Lib => "lib",
+        TargetKind::ProcMacro => "proc-macro",
+        TargetKind::Test => "test",
+        TargetKind::Bench => "bench",
+        TargetKind::Bin => "bin",
+        TargetKind::Example => "example",
+        TargetKind::BuildScript => "build-script",
     }
-    Ok(id)
 }
 
-fn push_name(id: &mut String, before: &str, name: &str) -> Result<(), AllocError>
-    ensures { OnOk result (string_bytes id.new ≡ string_bytes id.old ++ (before.now ++ name.now)) }
+fn id_of(alloc: Global, row: &PackageRecord, target: &TargetRecord) -> Result<String, AllocError>
+    ensures { IfOk result (λ id. string_bytes id ≡ binary_id row.now.name target.now.kind target.now.name) }
 {
-    id.push_str(before)?;
-    id.push_str(name)
+    let (package, kind, name) = (
+        row.name.as_str(),
+        kind_text(target.kind),
+        target.name.as_str(),
+    );
+    binary_id(alloc, package, kind, name)
 }

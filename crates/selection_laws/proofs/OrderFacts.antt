@@ -27,7 +27,7 @@ use Rattle.record_checks.proofs.OneRecordFacts.{byte_packages}
 use Rattle.question_filters.specs.Following.{IsFollowedIn}
 use Rattle.question_filters.specs.NamedFeatures.{AreNamedOn}
 use Rattle.selection_making.specs.Laws.{HasByteFeatures, HasByteTexts}
-use Rattle.selection_making.specs.Queries.{binary_asked, filter_platform}
+use Rattle.selection_making.specs.Queries.{binary_asked}
 use Rattle.selection_making.specs.Questions.{IsFeatureOn, Question, WantedIn}
 use Rattle.selection_making.specs.Readings.{AreReadings, Readings}
 use Rattle.selection_making.specs.Selecting.{IsAsked, IsAvailableBinary, IsChosen, IsLetThrough, IsWanted}
@@ -78,7 +78,7 @@ module _ (w v : Workspace) (same : IsReordered w v) where
         id = binary_id name t.kind t.name;
         name = t.name;
         kind = kind_text t.kind;
-        platform = filter_platform (platform_of t.kind);
+        platform = platform_of t.kind;
       }
 
 module _ (q : Question) (v : Workspace) (same : IsReordered q.workspace v) (kept : AreKept q.workspace.packages q.workspace.links q.workspace.workspace) (other : AreKept v.packages v.links v.workspace) where

@@ -15,7 +15,7 @@ use Rattle.test_lister.specs.declared.fault.ListingFault.TheVariants.{LineFeed, 
 use Rattle.nextest_filter_faults.specs.declared.filterset_kind.FiltersetKind.{FiltersetKind}
 use Rattle.nextest_filter_faults.specs.declared.filterset_kind.FiltersetKind.TheVariants as kind
 use Rattle.nextest_filter_faults.specs.declared.parse_error.ParseSingleError.{ParseSingleError}
-use Rattle.nextest_filter_queries.specs.BinaryIds.{binary_id}
+use Rattle.nextest_binaries.specs.BinaryIds.{binary_id}
 use Rattle.nextest_filter_queries.specs.Groups.{known_groups}
 use Rattle.nextest_filter_queries.specs.declared.groups.KnownGroups.{KnownGroups}
 use Rattle.nextest_filter_queries.specs.declared.groups.KnownGroups.TheVariants.{Unavailable}

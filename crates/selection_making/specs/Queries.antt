@@ -1,16 +1,7 @@
 -- What filters are asked about the tests of a record's binaries.
 use Rattle.workspace_record.specs.Records.{Text}
-use Rattle.test_lister.specs.declared.binary.BuildPlatform.{BuildPlatform}
-use Rattle.test_lister.specs.declared.binary.BuildPlatform.TheVariants as lister
-use Rattle.nextest_filter_faults.specs.declared.platform.BuildPlatform as filter
-use Rattle.nextest_filter_faults.specs.declared.platform.BuildPlatform.TheVariants.{Host, Target}
 use Rattle.nextest_filter_queries.specs.Queries as asked
 use Rattle.record_rules.specs.Binaries.{Binary, kind_text, platform_of}
-
--- the platform of a binary, as filters name it
-abbrev pub filter_platform : BuildPlatform → filter.BuildPlatform
-filter_platform lister.Host = Host
-filter_platform lister.Target = Target
 
 -- a binary of the record, as filters are asked about it
 abbrev pub binary_asked : Binary → asked.Binary
@@ -19,7 +10,7 @@ binary_asked b = record {
   id = b.id;
   name = b.target.name;
   kind = kind_text b.target.kind;
-  platform = filter_platform (platform_of b.target.kind);
+  platform = platform_of b.target.kind;
 }
 
 -- a test of it

@@ -1,7 +1,7 @@
 -- What a lister is told of a binary.
 use Rattle.workspace_record.specs.Records.{Text}
 use Rattle.workspace_record.specs.declared.kinds.TargetKind.{TargetKind}
-use Rattle.test_lister.specs.declared.binary.BuildPlatform.{BuildPlatform}
+use Rattle.nextest_binaries.specs.declared.build_platform.BuildPlatform.{BuildPlatform}
 use Rattle.test_lister.specs.declared.binary.BinaryInfo.{BinaryInfo}
 use Rattle.record_rules.specs.Binaries.{Binary, platform_of}
 

@@ -2,18 +2,16 @@
 
 ghost use Rattle.std.specs.Prelude.{◌≡◌, IfOk};
 ghost use Rattle.nextest_filter_queries.specs.Queries.{binary_of, test_of};
-ghost use Rattle.record_rules.specs.Binaries.{kind_text, platform_of};
 ghost use Rattle.record_rules.specs.BinaryView.{binary_view};
 ghost use Rattle.selection_making.specs.AskedViews.{binary_in};
-ghost use Rattle.selection_making.specs.Queries.{binary_asked, filter_platform};
+ghost use Rattle.selection_making.specs.Queries.{binary_asked};
 
-use nextest_filter_faults::BuildPlatform;
+use nextest_binaries::BuildPlatform;
 use nextest_filtering::{
     BinaryQuery, PackageId, RustBinaryId, RustTestBinaryKind, TestCaseName, TestQuery,
 };
-use record_rules::binaries::{TestBinary, platform_of};
+use record_rules::binaries::{TestBinary, kind_text, platform_of};
 use std::alloc::{AllocError, Global};
-use workspace_record::TargetKind;
 
 /// A binary with the names by which filters are asked about it.
 pub(crate) struct AskedBinary<'b> {
@@ -53,7 +51,7 @@ impl<'b> AskedBinary<'b> {
             id,
             name: target.name.as_str(),
             kind,
-            platform: filter_platform(target.kind),
+            platform: platform_of(target.kind),
         })
     }
 
@@ -77,30 +75,5 @@ impl<'b> AskedBinary<'b> {
             binary_query: self.query(),
             test_name: name,
         }
-    }
-}
-
-/// How nextest calls the kind.
-fn kind_text(kind: TargetKind) -> &'static str
-    ensures { result.now ≡ kind_text kind }
-{
-    match kind {
-        TargetKind::Lib => RustTestBinaryKind::LIB,
-        TargetKind::ProcMacro => RustTestBinaryKind::PROC_MACRO,
-        TargetKind::Test => RustTestBinaryKind::TEST,
-        TargetKind::Bench => RustTestBinaryKind::BENCH,
-        TargetKind::Bin => RustTestBinaryKind::BIN,
-        TargetKind::Example => RustTestBinaryKind::EXAMPLE,
-        TargetKind::BuildScript => "build-script",
-    }
-}
-
-/// The platform that targets of this kind are built for, as filters name it.
-fn filter_platform(kind: TargetKind) -> BuildPlatform
-    ensures { result ≡ filter_platform (platform_of kind) }
-{
-    match platform_of(kind) {
-        test_lister::BuildPlatform::Host => BuildPlatform::Host,
-        test_lister::BuildPlatform::Target => BuildPlatform::Target,
     }
 }

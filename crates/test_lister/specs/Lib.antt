@@ -3,4 +3,3 @@ pub mod Faults
 pub mod FileListers
 pub mod Listers
 pub mod Listings
-pub mod Platforms

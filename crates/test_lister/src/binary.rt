@@ -1,28 +1,7 @@
 //! What a lister is told of a binary.
 
-use std::fmt;
+use nextest_binaries::BuildPlatform;
 use workspace_record::TargetKind;
-
-/// The platform that a binary is built for.
-#[derive(Clone, Copy, Debug, PartialEq, Eq, Hash)]
-pub enum BuildPlatform {
-    Host,
-    Target,
-}
-
-impl fmt::Display for BuildPlatform {
-    ghost use Rattle.std.specs.Prelude.{Some};
-    ghost use Rattle.test_lister.specs.Platforms.{platform_text};
-
-    ghost output = { λ x. Some (platform_text x) };
-
-    fn fmt<W: fmt::Write>(&self, f: &mut fmt::Formatter<W>) -> fmt::Result {
-        f.write_str(match self {
-            BuildPlatform::Host => "host",
-            BuildPlatform::Target => "target",
-        })
-    }
-}
 
 /// A test binary, under an id of its own.
 #[derive(Clone, Copy, Debug)]

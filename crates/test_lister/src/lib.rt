@@ -10,7 +10,8 @@ mod lister;
 mod listing;
 
 pub use crate::ask::ask_each;
-pub use crate::binary::{BinaryInfo, BuildPlatform};
+pub use crate::binary::BinaryInfo;
 pub use crate::fault::{AskError, ListFault, ListingFault};
 pub use crate::file_lister::FileLister;
 pub use crate::lister::{Listing, TestLister};
+pub use nextest_binaries::BuildPlatform;

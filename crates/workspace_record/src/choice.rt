@@ -57,7 +57,7 @@ impl FeatureChoice {
 fn copy_features(alloc: Global, features: &[Feature]) -> Result<Vec<Feature>, AllocError>
     ensures { IfOk result (λ v. v.items ≡ features.now) }
 {
-    let mut copies = Vec::new(alloc);
+    let mut copies = Vec::with_capacity(alloc, features.len())?;
     for feature in features {
         copies.push(feature.copy(alloc)?)?;
     }

@@ -75,7 +75,7 @@ impl LineRecord {
 fn copy_lines(alloc: Global, lines: &[LineRecord]) -> Result<Vec<LineRecord>, AllocError>
     ensures { IfOk result (λ v. v.items ≡ lines.now) }
 {
-    let mut copies = Vec::new(alloc);
+    let mut copies = Vec::with_capacity(alloc, lines.len())?;
     for line in lines {
         copies.push(line.copy(alloc)?)?;
     }
@@ -160,7 +160,7 @@ impl LinkRecord {
 pub fn copy_links(alloc: Global, links: &[LinkRecord]) -> Result<Vec<LinkRecord>, AllocError>
     ensures { IfOk result (λ v. v.items ≡ links.now) }
 {
-    let mut copies = Vec::new(alloc);
+    let mut copies = Vec::with_capacity(alloc, links.len())?;
     for link in links {
         copies.push(link.copy(alloc)?)?;
     }

@@ -35,7 +35,7 @@ fn copy_lines_at(
     requires { All (λ i. i < length lines.now) places.now }
     ensures { IfOk result (λ v. v.items ≡ lines_at lines.now places.now) }
 {
-    let mut copies = Vec::new(alloc);
+    let mut copies = Vec::with_capacity(alloc, places.len())?;
     for place in places {
         let line = &lines[*place];
         copies.push(line.copy(alloc)?)?;

@@ -62,7 +62,7 @@ fn copy_features(
 ) -> Result<Vec<FeatureRecord>, AllocError>
     ensures { IfOk result (λ v. v.items ≡ features.now) }
 {
-    let mut copies = Vec::new(alloc);
+    let mut copies = Vec::with_capacity(alloc, features.len())?;
     for feature in features {
         copies.push(feature.copy(alloc)?)?;
     }
@@ -343,7 +343,7 @@ pub fn copy_packages(
 ) -> Result<Vec<PackageRecord>, AllocError>
     ensures { IfOk result (λ v. v.items ≡ packages.now) }
 {
-    let mut copies = Vec::new(alloc);
+    let mut copies = Vec::with_capacity(alloc, packages.len())?;
     for row in packages {
         copies.push(row.copy(alloc)?)?;
     }

@@ -150,7 +150,7 @@ pub(crate) fn copy_targets(
 ) -> Result<Vec<TargetRecord>, AllocError>
     ensures { IfOk result (λ v. v.items ≡ targets.now) }
 {
-    let mut copies = Vec::new(alloc);
+    let mut copies = Vec::with_capacity(alloc, targets.len())?;
     for target in targets {
         copies.push(target.copy(alloc)?)?;
     }

@@ -58,7 +58,7 @@ impl MemberRecord {
 fn copy_members(alloc: Global, members: &[MemberRecord]) -> Result<Vec<MemberRecord>, AllocError>
     ensures { IfOk result (λ v. v.items ≡ members.now) }
 {
-    let mut copies = Vec::new(alloc);
+    let mut copies = Vec::with_capacity(alloc, members.len())?;
     for member in members {
         copies.push(member.copy(alloc)?)?;
     }
@@ -145,7 +145,7 @@ impl WorkspaceInfo {
 fn package_ids<'a>(alloc: Global, members: &'a [MemberRecord]) -> Result<Vec<&'a str>, AllocError>
     ensures { IfOk result (λ v. map (λ t. t.now) v.items ≡ map (λ m. m.package_id) members.entry.now) }
 {
-    let mut ids: Vec<&'a str> = Vec::new(alloc);
+    let mut ids: Vec<&'a str> = Vec::with_capacity(alloc, members.len())?;
     for member in members {
         ids.push(member.package.as_str())?;
     }
@@ -203,7 +203,7 @@ impl GroupRecord {
 fn copy_groups(alloc: Global, groups: &[GroupRecord]) -> Result<Vec<GroupRecord>, AllocError>
     ensures { IfOk result (λ v. v.items ≡ groups.now) }
 {
-    let mut copies = Vec::new(alloc);
+    let mut copies = Vec::with_capacity(alloc, groups.len())?;
     for group in groups {
         copies.push(group.copy(alloc)?)?;
     }

@@ -1,4 +1,4 @@
-use Rattle.std.proofs.Common.{rules, ◌≡◌, ◌∙◌, ◌++◌, Bool, true, false, ap, append-nil, sym}
+use Rattle.std.proofs.Common.{rules, ◌≡◌, ◌∙◌, ◌++◌, true, false, ap, append-nil, sym}
 use Rattle.std.specs.List.{list_any}
 use Rattle.guppy_package_table.specs.Tables.{firm_flags, links_among}
 use Rattle.graph_switching.specs.LinesOn.{line_is_on}

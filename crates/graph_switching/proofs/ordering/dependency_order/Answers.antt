@@ -1,8 +1,7 @@
-use Rattle.std.proofs.Common.{◌≡◌, ◌∙◌, ℕ, ◌<◌, Bool, List, [], All, ap, filter, length, map, reverse, slice_index_or, subst, sym}
+use Rattle.std.proofs.Common.{◌≡◌, ◌∙◌, ℕ, ◌<◌, Bool, List, [], All, ap, filter, length, map, slice_index_or, subst, sym}
 use Rattle.std.proofs.lemmas.List.{length-map}
 use Rattle.workspace_record.specs.Features.{FeatureValue}
 use Rattle.workspace_record.specs.Records.{Text}
-use Rattle.list_facts.specs.Texts.{texts}
 use Rattle.feature_account.specs.Accounts.{concluded_set}
 use Rattle.feature_account.specs.RuleList.{base_of}
 use Rattle.numbered_graph.specs.Links.{AreWithin}

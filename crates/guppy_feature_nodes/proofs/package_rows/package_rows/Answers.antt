@@ -8,5 +8,5 @@ pub loop-metadata-init : goal.loop-metadata-init
 loop-metadata-init c =
     ap (λ (rows : List PackageAt). map Some (map (λ (at : PackageAt). at.row.now) rows) ++ map at_place (all_packages_left c.packages-packages.result)) c.in_ok-rows.ensures.items ∙ all_started c.args.graph.now _ _ c.packages-packages.ensures.graph c.packages-packages.ensures.first
 
-pub returns : goal.returns
-returns c = all_listed c.args.graph.now (map (λ at. at.row.now) c.loop-metadata.rows.items) (all_packages_left c.loop-metadata.packages) c.loop-metadata.invariant c.in_default.ensures.steps.0
+pub returns-clause-rows : goal.returns-clause-rows
+returns-clause-rows c = all_listed c.args.graph.now (map (λ at. at.row.now) c.loop-metadata.rows.items) (all_packages_left c.loop-metadata.packages) c.loop-metadata.invariant c.in_default.ensures.steps.0

@@ -12,6 +12,7 @@ returns c =
     let within : ℕ → Type 0 = λ v. v < length packages in
     record {
       ids = c.in_ok-ids.ensures;
+      ids_apart = c.requires.ids_apart;
       versions = c.in_ok-versions.ensures;
       members = members;
       member_places = subst (All within) (sym members.places) (members_within packages workspace.members c.requires.members_known);

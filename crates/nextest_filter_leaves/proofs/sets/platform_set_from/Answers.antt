@@ -1,6 +1,6 @@
 use Rattle.std.proofs.Common.{◌≡◌, ◌∙◌, sym, ap, subst, arith}
 use Rattle.std.specs.Str.{trim}
-use Rattle.nextest_filter_faults.specs.Signs.{platform_text}
+use Rattle.nextest_binaries.specs.Platforms.{platform_text}
 use Rattle.nextest_filter_tokens.specs.Bytes.{skip}
 use Rattle.nextest_filter_leaves.specs.LeafGrammar.{ReadsSome, Stands}
 use Rattle.nextest_filter_leaves.proofs.ReadFacts.{some_is}

@@ -1,37 +1,43 @@
-use Rattle.std.proofs.Common.{◌≡◌, ◌∙◌, Contains, List, Some, ap, length, map, slice_get, subst, sym, arith, true≢false, vec_len}
-use Rattle.std.proofs.lemmas.Bool.Decides.{Decides-eqb}
-use Rattle.std.proofs.lemmas.List.{length-map}
-use Rattle.workspace_record.specs.Features.{LabelValue}
-use Rattle.guppy_feature_ids.specs.LabelViews.{label_view}
-use Rattle.guppy_feature_ids.specs.declared.feature_label.FeatureLabel.{FeatureLabel}
-use Rattle.guppy_feature_lists.specs.Labels.{AreLabels}
+use Rattle.std.proofs.Common.{◌≡◌, ◌≢◌, ◌∙◌, [], Some, ap, slice_get, subst, sym}
+use Rattle.workspace_record.specs.Records.{Package}
 use Rattle.guppy_package_table.specs.Tables.{TableValue}
-use Rattle.guppy_feature_nodes.specs.Graphs.{FeatureGraphValue}
 use Rattle.guppy_package_graph.specs.Finding.{IsAt}
 use Rattle.guppy_package_graph.specs.Views.{graph_of, place_of}
-use Rattle.guppy_feature_graph.specs.FeaturesFor.{labels_in}
+use Rattle.guppy_feature_nodes.specs.Graphs.{FeatureGraphValue}
+use Rattle.guppy_feature_graph.specs.FeaturesFor.{ListsAt, labels_in}
+use Rattle.guppy_feature_graph.proofs.ListFacts.{has_none, has_some, lists_those, same_row}
 use Rattle.guppy_feature_graph.proofs.feature_set.FeatureSet.features_for.Goals as goal
 
-pub returns-in_ok-list-in-Ok-clause-found : goal.returns-in_ok-list-in-Ok-clause-found
-returns-in_ok-list-in-Ok-clause-found c =
+pub returns-in_ok-list_in-in-Ok-clause-found : goal.returns-in_ok-list_in-in-Ok-clause-found
+returns-in_ok-list_in-in-Ok-clause-found c =
     let s = c.args.self.now in
     let rows = s.graph.rows in
     let m = c.in-Ok.«package» in
-    let list = c.in_ok-list-in-Ok in
+    let row = c.row.result.now in
+    let list = c.in_ok-list_in-in-Ok in
     let found = c.in-Ok.ensures.found in
     let of_graph : c.package_graph.result.now ≡ rows = c.package_graph.ensures.rows ∙ ap (λ (x : FeatureGraphValue). x.rows) c.graph.ensures.graph in
     let graph : graph_of m ≡ rows = found.1 ∙ of_graph in
     let at : IsAt rows c.args.package_id.now (place_of m) = subst (λ (t : TableValue). IsAt t c.args.package_id.now (place_of m)) of_graph found.0 in
-    let row : slice_get rows.packages (place_of m) ≡ Some c.row.result.now = subst (λ (t : TableValue). slice_get t.packages (place_of m) ≡ Some c.row.result.now) graph (c.deref.ensures.0 ∙ ap Some (sym c.row.ensures)) in
-    let labels : map label_view c.deref-in-Ok.result.now ≡ labels_in s c.row.result.now = ap (λ (xs : List FeatureLabel). map label_view xs) c.deref-in-Ok.ensures.value ∙ c.in_ok-labels-in-Ok.ensures in
+    let is_row : slice_get rows.packages (place_of m) ≡ Some row = subst (λ (t : TableValue). slice_get t.packages (place_of m) ≡ Some row) graph (c.deref.ensures.0 ∙ ap Some (sym c.row.ensures)) in
+    let these = subst (λ (t : TableValue). ListsAt (labels_in s) t (place_of m) list.field-0) graph list.ensures in
+    let some = has_some s row c.has_feature_of.result c.has_feature_of.ensures c.if-has_feature_of.true in
+    lists_those s c.args.package_id.now (place_of m) list.field-0 at these (subst (λ (r : Package). labels_in s r ≢ []) (same_row rows.packages (place_of m) row these.row is_row these.is_row) some)
+
+pub returns-in-Ok-2-clause-found : goal.returns-in-Ok-2-clause-found
+returns-in-Ok-2-clause-found c =
+    let s = c.args.self.now in
+    let rows = s.graph.rows in
+    let m = c.in-Ok.«package» in
+    let row = c.row.result.now in
+    let found = c.in-Ok.ensures.found in
+    let of_graph : c.package_graph.result.now ≡ rows = c.package_graph.ensures.rows ∙ ap (λ (x : FeatureGraphValue). x.rows) c.graph.ensures.graph in
     record {
-      row = c.row.result.now;
-      is_row = record { is_at = subst (IsAt rows c.args.package_id.now) (sym list.ensures.place) at; is_row = subst (λ p. slice_get rows.packages p ≡ Some c.row.result.now) (sym list.ensures.place) row };
-      graph = list.ensures.graph ∙ graph;
-      some = λ none.
-          let sizes = ap length (labels ∙ none) in
-          let same = length-map c.deref-in-Ok.result.now label_view in
-          let len = c.deref-in-Ok.ensures.len in
-          absurd (true≢false (sym ((Decides-eqb (vec_len c.in_ok-labels-in-Ok.labels) 0).1 (omega (arith, sizes, same, len))) ∙ sym c.is_empty.ensures ∙ c.if-is_empty.false));
-      labels = subst (λ (ls : List LabelValue). AreLabels (Contains ls) list.list.labels) labels list.ensures.labels;
+      place = place_of m;
+      row = row;
+      is_row = record {
+        is_at = subst (λ (t : TableValue). IsAt t c.args.package_id.now (place_of m)) of_graph found.0;
+        is_row = subst (λ (t : TableValue). slice_get t.packages (place_of m) ≡ Some row) (found.1 ∙ of_graph) (c.deref.ensures.0 ∙ ap Some (sym c.row.ensures));
+      };
+      none = has_none s row c.has_feature_of.result c.has_feature_of.ensures c.if-has_feature_of.false;
     }

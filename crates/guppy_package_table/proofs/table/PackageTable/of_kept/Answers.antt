@@ -8,7 +8,7 @@ use Rattle.guppy_package_table.proofs.table.PackageTable.of_kept.Goals as goal
 pub package_indices-requires : goal.package_indices-requires
 package_indices-requires c =
     let rules = c.requires.kept in
-    let kept : ArePackagesKept c.args.packages.items c.args.workspace = record { ids_apart = rules.ids_apart; members_known = rules.members_known; members_apart = rules.members_apart; defaults_are_members = rules.defaults_are_members } in
+    let kept : ArePackagesKept c.args.packages.items c.args.workspace = record { ids_apart = rules.ids_apart; versions_read = rules.versions_read; members_known = rules.members_known; members_apart = rules.members_apart; defaults_are_members = rules.defaults_are_members } in
     subst (λ packages. ArePackagesKept packages c.args.workspace) (sym c.deref.ensures.value) kept
 
 pub over-requires-clause-ends : goal.over-requires-clause-ends

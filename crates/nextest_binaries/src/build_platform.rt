@@ -1,6 +1,6 @@
 use std::fmt;
 
-/// For which platform a binary is built.
+/// The platform that a binary is built for.
 #[derive(Clone, Copy, Debug, PartialEq, Eq, Hash)]
 pub enum BuildPlatform {
     Host,
@@ -9,7 +9,7 @@ pub enum BuildPlatform {
 
 impl fmt::Display for BuildPlatform {
     ghost use Rattle.std.specs.Prelude.{Some};
-    ghost use Rattle.nextest_filter_faults.specs.Signs.{platform_text};
+    ghost use Rattle.nextest_binaries.specs.Platforms.{platform_text};
 
     ghost output = { λ p. Some (platform_text p) };
 

@@ -1,0 +1,2 @@
+pub mod BinaryIds
+pub mod Platforms
