@@ -23,18 +23,40 @@ use crate::numbered::{LineAt, LinkAt};
 use guppy_row_parts::LineRow;
 use std::alloc::{AllocError, Global};
 
-/// What leads from one feature of the rows to another.
-pub(crate) fn demands_of<'g>(
+/// Each feature leads to its package.
+pub(crate) fn base_demands<'g>(
+    alloc: Global,
+    nodes: &NodeTable<'g>,
+) -> Result<Vec<Demand<'g>>, AllocError>
+    ensures { IfOk result (λ v. map demand_view v.items ≡ base_demands nodes.now) }
+{
+    let mut demands: Vec<Demand<'g>> = Vec::with_capacity(alloc, nodes.len())?;
+    push_base_demands(nodes.names(), &mut demands)?;
+    Ok(demands)
+}
+
+/// What the entries of features demand.
+pub(crate) fn entry_demands<'g>(
     alloc: Global,
     entries: &[EntryAt<'g>],
     nodes: &NodeTable<'g>,
     links: &LinkTable<'g>,
 ) -> Result<Vec<Demand<'g>>, AllocError>
-    ensures { IfOk result (λ v. map demand_view v.items ≡ base_demands nodes.now ++ (flat_map (at_demands nodes.now links.now) (map entry_at_view entries.now) ++ flat_map link_demands links.now)) }
+    ensures { IfOk result (λ v. map demand_view v.items ≡ flat_map (at_demands nodes.now links.now) (map entry_at_view entries.now)) }
 {
     let mut demands: Vec<Demand<'g>> = Vec::new(alloc);
-    push_base_demands(nodes.names(), &mut demands)?;
     push_entries(entries, nodes, links, &mut demands)?;
+    Ok(demands)
+}
+
+/// What the lines of links demand.
+pub(crate) fn link_demands<'g>(
+    alloc: Global,
+    links: &LinkTable<'g>,
+) -> Result<Vec<Demand<'g>>, AllocError>
+    ensures { IfOk result (λ v. map demand_view v.items ≡ flat_map link_demands links.now) }
+{
+    let mut demands: Vec<Demand<'g>> = Vec::new(alloc);
     push_links(links.all(), &mut demands)?;
     Ok(demands)
 }

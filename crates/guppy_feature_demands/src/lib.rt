@@ -10,6 +10,7 @@ mod entry;
 mod feature_name;
 mod hashed_id;
 mod hashed_name;
+mod kept_demands;
 mod link_ends;
 mod link_names;
 mod link_table;

@@ -98,7 +98,7 @@ pub(crate) fn link_names<'g>(
     ensures { IfOk result (NamesLinks (map ends_view links.now)) }
 {
     let mut names: LinkNames<'g> = LinkNames {
-        groups: IndexMap::new(alloc),
+        groups: IndexMap::with_capacity(alloc, links.len())?,
     };
     for ends in links {
         push_link(alloc, &mut names, *ends)?;

@@ -1,6 +1,6 @@
 //! Demands between the nodes that there are.
 
-ghost use Rattle.std.specs.Prelude.{◌≡◌, ◌∷◌, [], IfOk, OnOk, ◌++◌, filter, length, map};
+ghost use Rattle.std.specs.Prelude.{◌≡◌, ◌∷◌, [], OnOk, ◌++◌, filter, length, map};
 ghost use Rattle.guppy_feature_demands.specs.Demands.{is_between_nodes, kept_demands, with_numbers};
 ghost use Rattle.guppy_feature_demands.specs.DemandViews.{demand_view, numbered_view};
 ghost use Rattle.guppy_feature_demands.specs.HashedViews.{hashed_view};
@@ -11,25 +11,24 @@ use crate::hashed_id::HashedId;
 use crate::hashed_name::HashedName;
 use crate::nodes::NodeTable;
 use guppy_feature_ids::FeatureLabel;
-use std::alloc::{AllocError, Global};
+use std::alloc::AllocError;
 
-/// The demands between two different nodes, which are told by their numbers.
-pub(crate) fn kept_demands<'g>(
-    alloc: Global,
+/// Adds the demands between two different nodes, which are told by their numbers.
+pub(crate) fn keep_demands<'g>(
     nodes: &NodeTable<'g>,
     demands: &[Demand<'g>],
-) -> Result<Vec<NumberedDemand<'g>>, AllocError>
-    ensures { IfOk result (λ v. map numbered_view v.items ≡ kept_demands nodes.now (map demand_view demands.now)) }
+    kept: &mut Vec<NumberedDemand<'g>>,
+) -> Result<(), AllocError>
+    ensures { OnOk result (map numbered_view kept.new.items ≡ map numbered_view kept.old.items ++ kept_demands nodes.now (map demand_view demands.now)) }
 {
     let mut from = LastNumber::of(nodes);
     let mut base = LastNumber::of(nodes);
     let mut to = LastNumber::of(nodes);
-    let mut kept: Vec<NumberedDemand<'g>> = Vec::with_capacity(alloc, demands.len())?;
     for demand in demands {
         let numbered = with_numbers(&mut from, &mut base, &mut to, *demand);
-        push_kept(nodes, numbered, &mut kept)?;
+        push_kept(nodes, numbered, kept)?;
     }
-    Ok(kept)
+    Ok(())
 }
 
 fn push_kept<'g>(

@@ -8,11 +8,10 @@ ghost use Rattle.guppy_feature_demands.specs.Nodes.{nodes_of};
 ghost use Rattle.guppy_feature_demands.specs.Warnings.{warnings_of};
 
 use crate::demand::NumberedDemand;
-use crate::demands::demands_of;
 use crate::entries::entries_of;
+use crate::kept_demands::kept_demands;
 use crate::link_table::LinkTable;
 use crate::nodes::NodeTable;
-use crate::numbering::kept_demands;
 use crate::package_at::PackageAt;
 use crate::warnings::warnings_of;
 use guppy_row_parts::{FeatureGraphWarning, LinkRow};
@@ -41,8 +40,7 @@ pub fn feature_parts<'g>(
     let nodes = NodeTable::of(alloc, packages)?;
     let table = LinkTable::of(alloc, links)?;
     let entries = entries_of(alloc, packages)?;
-    let all = demands_of(alloc, &entries, &nodes, &table)?;
-    let demands = kept_demands(alloc, &nodes, &all)?;
+    let demands = kept_demands(alloc, &entries, &nodes, &table)?;
     let warnings = warnings_of(alloc, &entries, &nodes, &table)?;
     Ok(FeatureParts {
         nodes,

@@ -1,6 +1,6 @@
 //! The links of the lines behind an edge.
 
-ghost use Rattle.std.specs.Prelude.{◌≡◌, ◌-◌, IfOk, OnOk, Some, length, nat_eq, slice_get, true, if◌then◌else◌};
+ghost use Rattle.std.specs.Prelude.{◌≡◌, ◌-◌, ◌++◌, ◌∷◌, [], IfOk, OnOk, Some, length, nat_eq, slice_get, true, if◌then◌else◌};
 ghost use Rattle.std.specs.List.{list_any};
 ghost use Rattle.std.specs.List.Sorted.{IsStrictlySortedBy};
 ghost use Rattle.indexmap.specs.IndexSet.{insert_key};
@@ -103,9 +103,17 @@ fn push_new(number: usize, numbers: &mut Vec<usize>) -> Result<(), AllocError>
 {
     match numbers.last() {
         Some(last) if *last == number => Ok(()),
-        _ => {
-            numbers.push(number)?;
-            Ok(())
-        }
+        _ => push_number(number, numbers),
     }
+}
+
+// The first gets room for itself alone, since most edges have one link.
+fn push_number(number: usize, numbers: &mut Vec<usize>) -> Result<(), AllocError>
+    ensures { OnOk result (numbers.new.items ≡ numbers.old.items ++ number ∷ []) }
+{
+    if numbers.is_empty() {
+        numbers.reserve_exact(1)?;
+    }
+    numbers.push(number)?;
+    Ok(())
 }

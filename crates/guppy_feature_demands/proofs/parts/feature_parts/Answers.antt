@@ -6,4 +6,4 @@ use Rattle.guppy_feature_demands.proofs.parts.feature_parts.Goals as goal
 
 pub returns-clause-warnings : goal.returns-clause-warnings
 returns-clause-warnings c =
-    warned c.in_ok-nodes.nodes c.in_ok-table.table (map entry_at_view c.deref-3.result.now) (map (λ (at : PackageAt). at.row.now) c.args.packages.now) c.args.links.now _ c.in_ok-nodes.ensures.nodes c.in_ok-table.ensures.links (ap (map entry_at_view) c.deref-3.ensures.value ∙ c.in_ok-entries.ensures) c.in_ok-warnings.ensures
+    warned c.in_ok-nodes.nodes c.in_ok-table.table (map entry_at_view c.deref-2.result.now) (map (λ (at : PackageAt). at.row.now) c.args.packages.now) c.args.links.now _ c.in_ok-nodes.ensures.nodes c.in_ok-table.ensures.links (ap (map entry_at_view) c.deref-2.ensures.value ∙ c.in_ok-entries.ensures) c.in_ok-warnings.ensures
