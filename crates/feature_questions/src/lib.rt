@@ -10,8 +10,8 @@ mod questions;
 mod switching;
 
 pub use crate::explaining::explain;
-pub use crate::ordering::package_order;
-pub use crate::questions::checked_question;
+pub use crate::ordering::{package_order, package_order_in};
+pub use crate::questions::{checked_question, shared_question};
 pub use crate::switching::{account, features_on, features_on_in};
 pub use account_explaining::write_explanation;
 pub use account_making::{Account, WriteAccountError, write_account};

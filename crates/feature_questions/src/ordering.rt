@@ -24,20 +24,20 @@ pub fn package_order(
     ensures order { Orders record.now choice.now table.now result }
 {
     match checked_question(alloc, record, choice) {
-        Ok(checked) => Ok(order_of(alloc, &checked, choice, table)?),
+        Ok(checked) => Ok(package_order_in(alloc, &checked, choice, table)?),
         Err(refused) => Err(refused),
     }
 }
 
 /// The same in a record that was tested, where the extras of the choice are known.
-fn order_of(
+pub fn package_order_in(
     alloc: Global,
     checked: &CheckedRecord<'_>,
     choice: &FeatureChoice,
     table: &PlatformTable,
 ) -> Result<Vec<String>, AllocError>
     requires known { unknown_extra checked.now choice.now ≡ None }
-    ensures { IfOk result (λ ids. IsPackageOrder checked.now choice.now table.now (texts ids.items)) }
+    ensures order { IfOk result (λ ids. IsPackageOrder checked.now choice.now table.now (texts ids.items)) }
 {
     let on = features_on_in(alloc, checked, choice, table)?;
     dependency_order(alloc, checked.graph(), &on, table)

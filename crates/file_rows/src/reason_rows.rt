@@ -7,6 +7,7 @@ use record_files::label_of;
 use row_program::{Answers, Row, RowFault, RowRunner};
 use row_records::{account_in, choice_in, record_in, table_in};
 use std::alloc::Global;
+use std::rc::Rc;
 use workspace_record::Feature;
 
 /// Rows of what is on, by which rules and why, as lines. A row's `files` are `record.json`, and where it
@@ -30,7 +31,7 @@ impl RowRunner for ReasonRows {
     ) -> Result<(), RowFault> {
         let choice = choice_in(alloc, row)?;
         let table = table_in(alloc, row)?;
-        let record = record_in(alloc, row, "record.json")?;
+        let record = Rc::new(alloc, record_in(alloc, row, "record.json")?)?;
         let question = FeatureQuestion {
             record,
             choice,
@@ -49,7 +50,8 @@ fn tell_question(
     let judged = account_in(alloc, row)?;
     let verdict = verdict_on(alloc, question, &judged)?;
     answers.keep("verdict", verdict_line(alloc, verdict));
-    let on = on_features(alloc, &question.record, &question.choice, &question.table)?;
+    let record = question.record.as_ref();
+    let on = on_features(alloc, record, &question.choice, &question.table)?;
     let mut bytes = Vec::new(alloc);
     let is_written = write_features(alloc, on.as_slice(), &mut bytes).is_ok();
     answers.written("features", bytes, is_written);
@@ -62,11 +64,8 @@ fn tell_rules(
     question: &FeatureQuestion,
     answers: &mut Answers,
 ) -> Result<(), RowFault> {
-    let FeatureQuestion {
-        record,
-        choice,
-        table,
-    } = question;
+    let record = question.record.as_ref();
+    let (choice, table) = (&question.choice, &question.table);
     let asked = asked_feature(alloc, row)?;
     let entries = account(alloc, record, choice, table)?;
     let explained = explanation(alloc, record, choice, table, &asked)?;

@@ -22,6 +22,8 @@ use numbered_graph::Direction;
 use std::alloc::{AllocError, Global};
 use std::fmt;
 use std::marker::Model;
+use std::rc::Rc;
+use workspace_record::WorkspaceRecord;
 
 /// The packages of a workspace and the links between them: the rows of a record that keeps the rules
 /// on packages, links and members.
@@ -65,10 +67,22 @@ impl PackageGraph {
         ensures refused { IfErr result (IsRefusal packages.items links.items workspace) }
     {
         let table = PackageTable::from_records(alloc, packages, links, workspace)?;
-        match member_orders(alloc, &table) {
-            Ok(members) => Ok(PackageGraph { table, members }),
-            Err(_) => Err(PackageGraphError::Memory),
-        }
+        let graph = PackageGraph::of_table(alloc, table)?;
+        Ok(graph)
+    }
+
+    /// The graph of the rows of a record, which it shares, so that none is copied; or the first rule
+    /// that they break, in the same way.
+    pub fn from_shared(
+        alloc: Global,
+        rows: Rc<WorkspaceRecord>,
+    ) -> Result<PackageGraph, PackageGraphError>
+        ensures built { IfOk result (λ g. AreKept rows.value.packages rows.value.links rows.value.workspace × IsTableOf rows.value.packages rows.value.links rows.value.workspace g) }
+        ensures refused { IfErr result (IsRefusal rows.value.packages rows.value.links rows.value.workspace) }
+    {
+        let table = PackageTable::from_shared(alloc, rows)?;
+        let graph = PackageGraph::of_table(alloc, table)?;
+        Ok(graph)
     }
 
     /// The graph of a table whose rows keep the rules.

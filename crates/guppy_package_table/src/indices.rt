@@ -16,6 +16,8 @@ use indexmap::IndexSet;
 use numbered_graph::{Graph, listing};
 use semver::{Version, VersionReq};
 use std::alloc::{AllocError, Global};
+use std::rc::Rc;
+use workspace_record::WorkspaceRecord;
 
 /// Packages by id, the versions that were read, and the places of members.
 pub struct PackageIndices {
@@ -35,10 +37,10 @@ impl Drop for PackageIndices {
     }
 }
 
-/// Packages and a workspace with their indices, which tables share that differ in their links alone.
+/// The record of packages and a workspace with their indices, which tables share that differ in their
+/// links alone. The record is shared too, with whom it was had of.
 pub struct SharedRows {
-    pub packages: Vec<PackageRow>,
-    pub workspace: WorkspaceRow,
+    pub rows: Rc<WorkspaceRecord>,
     pub indices: PackageIndices,
 }
 
@@ -46,10 +48,30 @@ pub struct SharedRows {
 impl Drop for SharedRows {
     fn drop(self) {
         let SharedRows {
-            packages: _,
-            workspace: _,
+            rows: _,
             indices: _,
         } = self;
+    }
+}
+
+impl SharedRows {
+    pub(crate) fn packages(&self) -> &[PackageRow]
+        ensures { result.now ≡ self.now.rows.value.packages }
+    {
+        &self.rows.as_ref().packages
+    }
+
+    pub(crate) fn workspace(&self) -> &WorkspaceRow
+        ensures { result.now ≡ self.now.rows.value.workspace }
+    {
+        &self.rows.as_ref().workspace
+    }
+
+    /// The links of the record.
+    pub(crate) fn links(&self) -> &[LinkRow]
+        ensures { result.now ≡ self.now.rows.value.links }
+    {
+        &self.rows.as_ref().links
     }
 }
 
@@ -99,10 +121,10 @@ pub(crate) fn link_indices(
     shared: &SharedRows,
     links: &[LinkRow],
 ) -> Result<LinkIndices, AllocError>
-    requires ids { shared.now.indices.ids.keys ≡ ids_of shared.now.packages.items }
-    requires ends { AreKnownEnds (ids_of shared.now.packages.items) links.now }
+    requires ids { shared.now.indices.ids.keys ≡ ids_of shared.now.rows.value.packages }
+    requires ends { AreKnownEnds (ids_of shared.now.rows.value.packages) links.now }
     requires read { All (λ l. IsRequirement l.requirement) links.now }
-    ensures { IfOk result (IndexesLinks shared.now.packages.items links.now) }
+    ensures { IfOk result (IndexesLinks shared.now.rows.value.packages links.now) }
 {
     let requirements = requirements_of(alloc, links)?;
     let rust_names = rust_names_of(alloc, links)?;

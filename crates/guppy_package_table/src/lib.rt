@@ -14,6 +14,7 @@ mod package_graph_error;
 mod package_ids;
 mod reading;
 mod table;
+mod table_links;
 
 pub use crate::build_targets::BuildTargets;
 pub use crate::link_details::LinkDetails;

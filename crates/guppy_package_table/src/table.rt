@@ -10,6 +10,7 @@ ghost use Rattle.guppy_package_table.specs.Indices.{IndexesPackages};
 ghost use Rattle.guppy_package_table.specs.LinkDetailsViews as link_views;
 ghost use Rattle.guppy_package_table.specs.PackageDetailsViews.{member_path_of, row_of};
 ghost use Rattle.guppy_package_table.specs.Refusals.{IsRefusal};
+ghost use Rattle.guppy_package_table.specs.TableLinks.{links_of};
 ghost use Rattle.guppy_package_table.specs.Tables.{AreKnownEnds, IsClear, IsFirstBetween, IsTableOf, firm_flags, ids_of, member_of, member_path_at, numbered_links, place_among};
 
 use crate::indices::{LinkIndices, SharedRows, link_indices, package_indices};
@@ -18,18 +19,19 @@ use crate::members::{member_among, member_at};
 use crate::package_details::PackageDetails;
 use crate::package_graph_error::PackageGraphError;
 use crate::package_ids::find_id;
+use crate::table_links::TableLinks;
 use guppy_package_parts::{LinkRow, MemberRow, PackageId, PackageRow, WorkspaceRow};
 use numbered_graph::{Direction, Graph};
 use package_rules::first_broken_rule;
 use std::alloc::{AllocError, Global};
 use std::marker::Model;
 use std::rc::Rc;
-use workspace_record::copy_links;
+use workspace_record::{WorkspaceRecord, copy_links};
 
 /// The rows of a package graph: packages and links are told by their places in the lists.
 pub struct PackageTable {
     shared: Rc<SharedRows>,
-    links: Vec<LinkRow>,
+    links: TableLinks,
     indices: LinkIndices,
 }
 
@@ -46,13 +48,14 @@ impl Drop for PackageTable {
 
 impl Model for PackageTable {
     ghost use Rattle.guppy_package_table.specs.Indices.{IndexesLinks, IndexesPackages};
+    ghost use Rattle.guppy_package_table.specs.TableLinks.{links_of};
     ghost use Rattle.guppy_package_table.specs.Tables.{TableValue};
 
     ghost Value = { TableValue };
 
-    ghost view = { λ t. record { packages = t.shared.value.packages.items; links = t.links.items; workspace = t.shared.value.workspace; listing = t.indices.listing.items } };
+    ghost view = { λ t. record { packages = t.shared.value.rows.value.packages; links = links_of t.shared.value.rows.value.links t.links; workspace = t.shared.value.rows.value.workspace; listing = t.indices.listing.items } };
 
-    ghost invariant = { λ t. IndexesPackages t.shared.value.packages.items t.shared.value.workspace t.shared.value.indices × IndexesLinks t.shared.value.packages.items t.links.items t.indices };
+    ghost invariant = { λ t. IndexesPackages t.shared.value.rows.value.packages t.shared.value.rows.value.workspace t.shared.value.indices × IndexesLinks t.shared.value.rows.value.packages (links_of t.shared.value.rows.value.links t.links) t.indices };
 }
 
 impl PackageTable {
@@ -67,30 +70,33 @@ impl PackageTable {
         ensures built { IfOk result (λ t. AreKept packages.items links.items workspace × IsTableOf packages.items links.items workspace t) }
         ensures refused { IfErr result (IsRefusal packages.items links.items workspace) }
     {
-        if let Some((rule, place)) = first_broken_rule(alloc, &packages, &links, &workspace)? {
-            return Err(PackageGraphError::Broken { rule, place });
-        }
-        let table = PackageTable::of_kept(alloc, packages, links, workspace)?;
+        let rows = rows_of(alloc, packages, links, workspace)?;
+        PackageTable::from_shared(alloc, rows)
+    }
+
+    /// The table of the rows of a record, which it shares, so that none is copied; or the first rule that
+    /// they break, in the same way.
+    pub fn from_shared(
+        alloc: Global,
+        rows: Rc<WorkspaceRecord>,
+    ) -> Result<PackageTable, PackageGraphError>
+        ensures built { IfOk result (λ t. AreKept rows.value.packages rows.value.links rows.value.workspace × IsTableOf rows.value.packages rows.value.links rows.value.workspace t) }
+        ensures refused { IfErr result (IsRefusal rows.value.packages rows.value.links rows.value.workspace) }
+    {
+        test_rules(alloc, rows.as_ref())?;
+        let table = PackageTable::of_kept(alloc, rows)?;
         Ok(table)
     }
 
-    /// The table of rows that keep the rules on packages, links and members, so that none is tested.
-    pub fn of_kept(
-        alloc: Global,
-        packages: Vec<PackageRow>,
-        links: Vec<LinkRow>,
-        workspace: WorkspaceRow,
-    ) -> Result<PackageTable, AllocError>
-        requires kept { AreKept packages.items links.items workspace }
-        ensures built { IfOk result (IsTableOf packages.items links.items workspace) }
+    /// The table of a record whose rows keep the rules on packages, links and members.
+    fn of_kept(alloc: Global, rows: Rc<WorkspaceRecord>) -> Result<PackageTable, AllocError>
+        requires kept { AreKept rows.value.packages rows.value.links rows.value.workspace }
+        ensures { IfOk result (IsTableOf rows.value.packages rows.value.links rows.value.workspace) }
     {
-        let indices = package_indices(alloc, &packages, &workspace)?;
-        let rows = SharedRows {
-            packages,
-            workspace,
-            indices,
-        };
-        PackageTable::over(alloc, Rc::new(alloc, rows)?, links)
+        let record = rows.as_ref();
+        let indices = package_indices(alloc, &record.packages, &record.workspace)?;
+        let shared = Rc::new(alloc, SharedRows { rows, indices })?;
+        PackageTable::over(alloc, shared, TableLinks::OfRecord)
     }
 
     /// The table of the same packages and workspace with these links, which keep the rules with them.
@@ -98,20 +104,21 @@ impl PackageTable {
         requires kept { AreKept self.now.packages links.items self.now.workspace }
         ensures built { IfOk result (IsTableOf self.now.packages links.items self.now.workspace) }
     {
-        PackageTable::over(alloc, self.shared.clone()?, links)
+        PackageTable::over(alloc, self.shared.clone()?, TableLinks::Others(links))
     }
 
     fn over(
         alloc: Global,
         shared: Rc<SharedRows>,
-        links: Vec<LinkRow>,
+        links: TableLinks,
     ) -> Result<PackageTable, AllocError>
-        requires ends { AreKnownEnds (ids_of shared.value.packages.items) links.items }
-        requires read { All (λ l. IsRequirement l.requirement) links.items }
-        requires indexed { IndexesPackages shared.value.packages.items shared.value.workspace shared.value.indices }
-        ensures { IfOk result (IsTableOf shared.value.packages.items links.items shared.value.workspace) }
+        requires ends { AreKnownEnds (ids_of shared.value.rows.value.packages) (links_of shared.value.rows.value.links links) }
+        requires read { All (λ l. IsRequirement l.requirement) (links_of shared.value.rows.value.links links) }
+        requires indexed { IndexesPackages shared.value.rows.value.packages shared.value.rows.value.workspace shared.value.indices }
+        ensures { IfOk result (IsTableOf shared.value.rows.value.packages (links_of shared.value.rows.value.links links) shared.value.rows.value.workspace) }
     {
-        let indices = link_indices(alloc, shared.as_ref(), &links)?;
+        let rows = shared.as_ref();
+        let indices = link_indices(alloc, rows, links.rows(rows.links()))?;
         Ok(PackageTable {
             shared,
             links,
@@ -125,7 +132,7 @@ impl PackageTable {
         ensures same { IfOk result (λ t. t ≡ self.now) }
     {
         let listing = Vec::from_slice(alloc, self.listing())?;
-        let links = copy_links(alloc, &self.links)?;
+        let links = copy_links(alloc, self.links())?;
         let table = self.with_links(alloc, links)?;
         Ok(table.listed_so(listing))
     }
@@ -143,21 +150,21 @@ impl PackageTable {
     pub fn packages(&self) -> &[PackageRow]
         ensures { result.now ≡ self.now.packages }
     {
-        &self.shared.as_ref().packages
+        self.shared.as_ref().packages()
     }
 
     /// The links' rows, in the order of the record.
     pub fn links(&self) -> &[LinkRow]
         ensures { result.now ≡ self.now.links }
     {
-        &self.links
+        self.links.rows(self.shared.as_ref().links())
     }
 
     /// The workspace's row.
     pub fn workspace(&self) -> &WorkspaceRow
         ensures { result.now ≡ self.now.workspace }
     {
-        &self.shared.as_ref().workspace
+        self.shared.as_ref().workspace()
     }
 
     /// The places of packages with the links between them, each with its number.
@@ -204,7 +211,7 @@ impl PackageTable {
         ensures { option_copied result ≡ member_of self.now id.now }
     {
         let shared = self.shared.as_ref();
-        member_among(&shared.indices.members.ids, &shared.workspace.members, id)
+        member_among(&shared.indices.members.ids, &shared.workspace().members, id)
     }
 
     /// What the row of the package at a place says.
@@ -214,10 +221,10 @@ impl PackageTable {
         ensures path { member_path_of result ≡ option_map (λ m. m.path) (member_of self.now (row_of result).id) }
     {
         let shared = self.shared.as_ref();
-        let row = &shared.packages[place];
+        let row = &shared.packages()[place];
         let version = &shared.indices.versions[place];
         let number = shared.indices.members.numbers[place];
-        PackageDetails::of(row, version, member_path(&shared.workspace, number))
+        PackageDetails::of(row, version, member_path(shared.workspace(), number))
     }
 
     /// What the row of the link with a number says.
@@ -225,9 +232,10 @@ impl PackageTable {
         requires { number < length self.now.links }
         ensures { slice_get self.now.links number ≡ Some (link_views.row_of result) }
     {
+        let row = &self.links()[number];
         let requirement = &self.indices.requirements[number];
         let rust_name = self.indices.rust_names[number].as_str();
-        LinkDetails::of(&self.links[number], requirement, rust_name)
+        LinkDetails::of(row, requirement, rust_name)
     }
 
     /// The place of each member's package, in the order of the members.
@@ -253,6 +261,39 @@ impl PackageTable {
         ensures none { IfNone result (IsClear from to (numbered_links self.now) (length self.now.links)) }
     {
         first_link_between(self.graph(), from, to)
+    }
+}
+
+/// A record of these rows, without groups and a default filter, that tables may share.
+fn rows_of(
+    alloc: Global,
+    packages: Vec<PackageRow>,
+    links: Vec<LinkRow>,
+    workspace: WorkspaceRow,
+) -> Result<Rc<WorkspaceRecord>, AllocError>
+    ensures packages { IfOk result (λ rows. rows.value.packages ≡ packages.items) }
+    ensures links { IfOk result (λ rows. rows.value.links ≡ links.items) }
+    ensures workspace { IfOk result (λ rows. rows.value.workspace ≡ workspace) }
+{
+    let record = WorkspaceRecord {
+        packages,
+        links,
+        workspace,
+        groups: Vec::new(alloc),
+        default_filter: None,
+    };
+    let rows = Rc::new(alloc, record)?;
+    Ok(rows)
+}
+
+/// Tests the rules on packages, links and members.
+fn test_rules(alloc: Global, rows: &WorkspaceRecord) -> Result<(), PackageGraphError>
+    ensures kept { IfOk result (λ _. AreKept rows.now.packages rows.now.links rows.now.workspace) }
+    ensures refused { IfErr result (IsRefusal rows.now.packages rows.now.links rows.now.workspace) }
+{
+    match first_broken_rule(alloc, &rows.packages, &rows.links, &rows.workspace)? {
+        None => Ok(()),
+        Some((rule, place)) => Err(PackageGraphError::Broken { rule, place }),
     }
 }
 

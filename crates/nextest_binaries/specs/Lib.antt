@@ -1,2 +1,3 @@
 pub mod BinaryIds
 pub mod Platforms
+pub mod Queries

@@ -1,7 +1,7 @@
 //! What filters say of all tests of a binary.
 
 ghost use Rattle.std.specs.Prelude.{◌≡◌, ◌↔◌, Bool, Some, true, false, IfOk, IsOk};
-ghost use Rattle.nextest_filter_queries.specs.Queries.{binary_of};
+ghost use Rattle.nextest_binaries.specs.Queries.{binary_of};
 ghost use Rattle.nextest_filter_evaluation.specs.Formulas.{AllAnswersGive, SomeAnswersGive, has_leaf};
 ghost use Rattle.nextest_filter_evaluation.specs.Compiled.{compiled_of, has_pattern, is_default, leaf_of};
 ghost use Rattle.nextest_filter_evaluation.specs.Kleene.{Tells, may_be};

@@ -2,7 +2,7 @@
 
 ghost use Rattle.std.specs.Prelude.{◌≡◌, ◌↔◌, true, false, IfOk, IsOk, IsTrue};
 ghost use Rattle.nextest_filter_queries.specs.NameTests.{NameTest};
-ghost use Rattle.nextest_filter_queries.specs.Queries.{test_of};
+ghost use Rattle.nextest_binaries.specs.Queries.{test_of};
 ghost use Rattle.nextest_filter_evaluation.specs.Formulas.{Holds, has_leaf};
 ghost use Rattle.nextest_filter_evaluation.specs.Compiled.{compiled_of, has_pattern, is_default, is_group, leaf_of};
 ghost use Rattle.nextest_filter_evaluation.specs.Meaning.{LeafHolds, Passes};

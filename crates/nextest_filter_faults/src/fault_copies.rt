@@ -1,5 +1,5 @@
-ghost use Rattle.std.specs.Prelude.{◌≡◌, false, IfOk};
-ghost use Rattle.nextest_filter_faults.specs.Copies.{SameFault, holds_text};
+ghost use Rattle.std.specs.Prelude.{IfOk};
+ghost use Rattle.nextest_filter_faults.specs.Copies.{SameFault};
 
 use crate::parse_error::{ParseSingleError, ParseSingleError as Fault};
 use std::alloc::{AllocError, Global};
@@ -9,63 +9,50 @@ impl ParseSingleError {
     pub fn copy(&self, alloc: Global) -> Result<ParseSingleError, AllocError>
         ensures { IfOk result (λ c. SameFault self.now c) }
     {
-        match self {
-            Fault::InvalidRegex { span, message } => {
-                let span = *span;
-                let message = String::from_str(alloc, message.as_str())?;
-                Ok(Fault::InvalidRegex { span, message })
-            }
-            Fault::InvalidGlob { span, error } => {
-                let span = *span;
-                let error = error.copy(alloc)?;
-                Ok(Fault::InvalidGlob { span, error })
-            }
-            _ => Ok(copied_plain(self)),
-        }
-    }
-}
-
-/// The same fault, of one that holds no text.
-fn copied_plain(fault: &ParseSingleError) -> ParseSingleError
-    requires plain { holds_text fault.now ≡ false }
-    ensures { result ≡ fault.now }
-{
-    match fault {
-        Fault::InvalidRegex { .. } | Fault::InvalidGlob { .. } => unreachable!(),
-        Fault::Unknown => Fault::Unknown,
-        Fault::BannedPredicate { kind, span, reason } => Fault::BannedPredicate {
-            kind: *kind,
-            span: *span,
-            reason: *reason,
-        },
-        Fault::ExprFoundBinaryOp { op, suggest, span } => Fault::ExprFoundBinaryOp {
-            op: *op,
-            suggest: *suggest,
-            span: *span,
-        },
-        Fault::ExprFoundUnaryOp { op, suggest, span } => Fault::ExprFoundUnaryOp {
-            op: *op,
-            suggest: *suggest,
-            span: *span,
-        },
-        Fault::InvalidRegexWithoutMessage(span) => Fault::InvalidRegexWithoutMessage(*span),
-        Fault::ExpectedCloseRegex(span) => Fault::ExpectedCloseRegex(*span),
-        Fault::InvalidOrOperator(span) => Fault::InvalidOrOperator(*span),
-        Fault::InvalidAndOperator(span) => Fault::InvalidAndOperator(*span),
-        Fault::UnexpectedArgument(span) => Fault::UnexpectedArgument(*span),
-        Fault::UnexpectedComma(span) => Fault::UnexpectedComma(*span),
-        Fault::InvalidString(span) => Fault::InvalidString(*span),
-        Fault::ExpectedOpenParenthesis(span) => Fault::ExpectedOpenParenthesis(*span),
-        Fault::ExpectedCloseParenthesis(span) => Fault::ExpectedCloseParenthesis(*span),
-        Fault::InvalidEscapeCharacter(span) => Fault::InvalidEscapeCharacter(*span),
-        Fault::ExpectedExpr(span) => Fault::ExpectedExpr(*span),
-        Fault::ExpectedEndOfExpression(span) => Fault::ExpectedEndOfExpression(*span),
-        Fault::NoPackageMatch(span) => Fault::NoPackageMatch(*span),
-        Fault::NoGroupMatch(span) => Fault::NoGroupMatch(*span),
-        Fault::NoBinaryIdMatch(span) => Fault::NoBinaryIdMatch(*span),
-        Fault::NoBinaryNameMatch(span) => Fault::NoBinaryNameMatch(*span),
-        Fault::NoFeatureMatch(span) => Fault::NoFeatureMatch(*span),
-        Fault::InvalidPlatformArgument(span) => Fault::InvalidPlatformArgument(*span),
-        Fault::UnsupportedExpression(span) => Fault::UnsupportedExpression(*span),
+        Ok(match self {
+            Fault::InvalidRegex { span, message } => Fault::InvalidRegex {
+                span: *span,
+                message: String::from_str(alloc, message.as_str())?,
+            },
+            Fault::InvalidGlob { span, error } => Fault::InvalidGlob {
+                span: *span,
+                error: error.copy(alloc)?,
+            },
+            Fault::BannedPredicate { kind, span, reason } => Fault::BannedPredicate {
+                kind: *kind,
+                span: *span,
+                reason: *reason,
+            },
+            Fault::ExprFoundBinaryOp { op, suggest, span } => Fault::ExprFoundBinaryOp {
+                op: *op,
+                suggest: *suggest,
+                span: *span,
+            },
+            Fault::ExprFoundUnaryOp { op, suggest, span } => Fault::ExprFoundUnaryOp {
+                op: *op,
+                suggest: *suggest,
+                span: *span,
+            },
+            Fault::InvalidRegexWithoutMessage(span) => Fault::InvalidRegexWithoutMessage(*span),
+            Fault::ExpectedCloseRegex(span) => Fault::ExpectedCloseRegex(*span),
+            Fault::InvalidOrOperator(span) => Fault::InvalidOrOperator(*span),
+            Fault::InvalidAndOperator(span) => Fault::InvalidAndOperator(*span),
+            Fault::UnexpectedArgument(span) => Fault::UnexpectedArgument(*span),
+            Fault::UnexpectedComma(span) => Fault::UnexpectedComma(*span),
+            Fault::InvalidString(span) => Fault::InvalidString(*span),
+            Fault::ExpectedOpenParenthesis(span) => Fault::ExpectedOpenParenthesis(*span),
+            Fault::ExpectedCloseParenthesis(span) => Fault::ExpectedCloseParenthesis(*span),
+            Fault::InvalidEscapeCharacter(span) => Fault::InvalidEscapeCharacter(*span),
+            Fault::ExpectedExpr(span) => Fault::ExpectedExpr(*span),
+            Fault::ExpectedEndOfExpression(span) => Fault::ExpectedEndOfExpression(*span),
+            Fault::NoPackageMatch(span) => Fault::NoPackageMatch(*span),
+            Fault::NoGroupMatch(span) => Fault::NoGroupMatch(*span),
+            Fault::NoBinaryIdMatch(span) => Fault::NoBinaryIdMatch(*span),
+            Fault::NoBinaryNameMatch(span) => Fault::NoBinaryNameMatch(*span),
+            Fault::NoFeatureMatch(span) => Fault::NoFeatureMatch(*span),
+            Fault::InvalidPlatformArgument(span) => Fault::InvalidPlatformArgument(*span),
+            Fault::UnsupportedExpression(span) => Fault::UnsupportedExpression(*span),
+            Fault::Unknown => Fault::Unknown,
+        })
     }
 }

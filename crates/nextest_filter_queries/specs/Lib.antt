@@ -1,3 +1,2 @@
 pub mod NameTests
-pub mod Queries
 pub mod Groups

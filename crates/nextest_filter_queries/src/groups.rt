@@ -3,11 +3,11 @@
 ghost use Rattle.std.specs.Prelude.{◌↔◌, IfOk, IsOk, IsTrue};
 ghost use Rattle.list_facts.specs.Texts.{texts};
 ghost use Rattle.nextest_filter_queries.specs.NameTests.{NameTest, SuitsOneOf, name_test};
-ghost use Rattle.nextest_filter_queries.specs.Queries.{Test, test_of};
+ghost use Rattle.nextest_binaries.specs.Queries.{Test, test_of};
 ghost use Rattle.nextest_filter_queries.specs.Groups.{AreKnown, known_groups};
 
 use crate::name_tests::suits;
-use crate::queries::TestQuery;
+use nextest_binaries::TestQuery;
 use nextest_filter_matchers::NameMatcher;
 use std::alloc::{AllocError, Global};
 use std::collections::BTreeSet;

@@ -2,17 +2,11 @@
 
 #![tactic(auto)]
 
-mod binary_id;
-mod binary_kind;
 mod groups;
 mod name_tests;
-mod queries;
-mod test_name;
 
-pub use crate::binary_id::RustBinaryId;
-pub use crate::binary_kind::RustTestBinaryKind;
 pub use crate::groups::{GroupLookup, KnownGroups};
 pub use crate::name_tests::{same_matcher, suits};
-pub use crate::queries::{BinaryQuery, TestQuery};
-pub use crate::test_name::TestCaseName;
-pub use guppy_row_parts::PackageId;
+pub use nextest_binaries::{
+    BinaryQuery, PackageId, RustBinaryId, RustTestBinaryKind, TestCaseName, TestQuery,
+};

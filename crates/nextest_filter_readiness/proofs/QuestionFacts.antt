@@ -8,8 +8,8 @@ use Rattle.list_facts.proofs.Membership.{Contains-first, Contains-rest, Contains
 use Rattle.regex.specs.Patterns.{Re}
 use Rattle.workspace_record.specs.Records.{Text}
 use Rattle.nextest_filter_queries.specs.NameTests.{NameTest}
-use Rattle.nextest_filter_queries.specs.Queries as asked
-use Rattle.nextest_filter_queries.specs.Queries.{binary_of}
+use Rattle.nextest_binaries.specs.Queries as asked
+use Rattle.nextest_binaries.specs.Queries.{binary_of}
 use Rattle.nextest_filter_evaluation.specs.Compiled.{Leaf, Packages, Kind, Platform, Binary, BinaryId, Test, Group, Default, All, is_group}
 use Rattle.nextest_filter_evaluation.specs.Compiled as compiled
 use Rattle.nextest_filter_evaluation.specs.Formulas.{Formula, Holds, has_leaf}

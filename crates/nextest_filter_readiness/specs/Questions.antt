@@ -3,7 +3,7 @@ use Rattle.std.specs.Prelude.{◌≡◌, ◌↔◌, Bool, IsTrue, ℕ, zero, suc
 use Rattle.regex.specs.Patterns.{Re}
 use Rattle.workspace_record.specs.Records.{Text}
 use Rattle.nextest_filter_queries.specs.NameTests.{NameTest}
-use Rattle.nextest_filter_queries.specs.Queries as asked
+use Rattle.nextest_binaries.specs.Queries as asked
 use Rattle.nextest_filter_evaluation.specs.Compiled.{Leaf, compiled_of}
 use Rattle.nextest_filter_evaluation.specs.Formulas.{Formula, Holds}
 use Rattle.nextest_filter_evaluation.specs.Meaning.{DefaultHolds, Passes}

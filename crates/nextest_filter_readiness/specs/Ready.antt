@@ -7,8 +7,8 @@ use Rattle.workspace_record.specs.Records.{Text}
 use Rattle.nextest_filter_matchers.specs.Globs.{Glob, GlobMatches}
 use Rattle.nextest_filter_matchers.specs.Matchers.{tokens_of}
 use Rattle.nextest_filter_queries.specs.NameTests.{NameTest, Suits}
-use Rattle.nextest_filter_queries.specs.Queries as asked
-use Rattle.nextest_filter_queries.specs.Queries.{binary_of}
+use Rattle.nextest_binaries.specs.Queries as asked
+use Rattle.nextest_binaries.specs.Queries.{binary_of}
 use Rattle.nextest_filter_evaluation.specs.Compiled.{Leaf}
 use Rattle.nextest_filter_evaluation.specs.Formulas.{Formula, Holds, negation, either, both, leaf}
 use Rattle.nextest_filter_evaluation.specs.Meaning.{LeafHolds}

@@ -3,7 +3,7 @@
 ghost use Rattle.std.specs.Prelude.{◌≡◌, ◌+◌, ◌<◌, ◌↔◌, ◌⊎◌, ◌^◌, [], false, IfOk, IsTrue, length, map};
 ghost use Rattle.std.specs.List.{list_any};
 ghost use Rattle.regex.specs.Strings.{matcher_pattern};
-ghost use Rattle.nextest_filter_queries.specs.Queries.{binary_of};
+ghost use Rattle.nextest_binaries.specs.Queries.{binary_of};
 ghost use Rattle.nextest_filter_evaluation.specs.Compiled.{compiled_of, is_group};
 ghost use Rattle.nextest_filter_evaluation.specs.Formulas.{Holds, has_leaf};
 ghost use Rattle.nextest_filter_readiness.specs.Questions.{AllSay, AnswerAlike, AreReady, IsFirst, all_searches, lent_of, lent_searches, ready_view};

@@ -22,7 +22,7 @@ use Rattle.nextest_filter_leaves.specs.AsWritten.{IsMatcherAsWritten}
 use Rattle.nextest_filter_leaves.proofs.PatternFacts.{patterns_alike}
 use Rattle.nextest_filter_queries.specs.Groups.{known_groups}
 use Rattle.nextest_filter_queries.specs.NameTests.{NameTest, Suits, SuitsOneOf, name_test}
-use Rattle.nextest_filter_queries.specs.Queries as asked
+use Rattle.nextest_binaries.specs.Queries as asked
 use Rattle.nextest_filter_queries.specs.declared.groups.KnownGroups.{KnownGroups}
 use Rattle.nextest_filter_evaluation.specs.Formulas.{Formula, negation, either, both, leaf, EachLeaf, Holds, SomeAnswersGive}
 use Rattle.nextest_filter_evaluation.specs.Meaning.{Gives}

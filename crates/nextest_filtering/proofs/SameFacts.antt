@@ -2,7 +2,7 @@
 use Rattle.std.proofs.Common.{◌↔◌, inl, inr, ⊎_elim, Bool, true, false, not}
 use Rattle.nextest_filter_tokens.specs.declared.heads.Predicate.TheVariants as names
 use Rattle.nextest_filter_queries.specs.NameTests.{NameTest}
-use Rattle.nextest_filter_queries.specs.Queries as asked
+use Rattle.nextest_binaries.specs.Queries as asked
 use Rattle.nextest_filter_evaluation.specs.Formulas.{Formula, negation, either, both, leaf, Holds, SomeAnswersGive}
 use Rattle.nextest_filter_evaluation.specs.Compiled.{Leaf}
 use Rattle.nextest_filter_evaluation.specs.Meaning.{Gives, LeafHolds, LeafGives}

@@ -8,7 +8,7 @@ use Rattle.nextest_filter_syntax.specs.TreeTexts.{tree_text}
 use Rattle.nextest_filter_syntax.specs.declared.parsed_expr.ParsedExpr.{ParsedExpr}
 use Rattle.nextest_filter_printing.specs.Printable.{IsPrintable}
 use Rattle.nextest_filter_queries.specs.NameTests.{NameTest}
-use Rattle.nextest_filter_queries.specs.Queries as asked
+use Rattle.nextest_binaries.specs.Queries as asked
 use Rattle.nextest_filter_evaluation.specs.Formulas.{Formula, Holds, SomeAnswersGive}
 use Rattle.nextest_filter_evaluation.specs.Compiled.{Leaf}
 use Rattle.nextest_filter_evaluation.specs.Meaning.{LeafHolds, LeafGives}

@@ -6,7 +6,7 @@ use Rattle.guppy_row_parts.specs.declared.dependency_direction.DependencyDirecti
 use Rattle.guppy_package_table.specs.Tables.{TableValue}
 use Rattle.nextest_filter_tokens.specs.declared.heads.Predicate.TheVariants as names
 use Rattle.nextest_filter_queries.specs.NameTests.{NameTest, Suits}
-use Rattle.nextest_filter_queries.specs.Queries as asked
+use Rattle.nextest_binaries.specs.Queries as asked
 use Rattle.nextest_filter_evaluation.specs.Meaning.{Gives}
 use Rattle.nextest_filtering.specs.Contexts.{ContextValue, Leads}
 use Rattle.nextest_filtering.specs.Filters.{FilterLeaf, Named, Platform, Default, All, None}

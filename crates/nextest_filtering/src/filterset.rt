@@ -8,7 +8,7 @@ ghost use Rattle.nextest_filter_syntax.specs.AsWritten.{IsExprAsWritten};
 ghost use Rattle.nextest_filter_syntax.specs.Trees.{tree_of};
 ghost use Rattle.nextest_filter_queries.specs.Groups.{AreKnown};
 ghost use Rattle.nextest_filter_queries.specs.NameTests.{NameTest};
-ghost use Rattle.nextest_filter_queries.specs.Queries.{binary_of, test_of};
+ghost use Rattle.nextest_binaries.specs.Queries.{binary_of, test_of};
 ghost use Rattle.nextest_filter_evaluation.specs.Compiled.{compiled_of, has_pattern, is_group};
 ghost use Rattle.nextest_filter_evaluation.specs.Formulas.{AllAnswersGive, has_leaf};
 ghost use Rattle.nextest_filter_evaluation.specs.Meaning.{MayBe, Passes};

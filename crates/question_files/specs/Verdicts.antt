@@ -18,7 +18,7 @@ IsVerdictFor rules account (Some goal) verdict = IsExplanationVerdict rules goal
 
 -- what is to be said of the file, by the record, the choice and the table that were read
 abbrev pub IsVerdictOn : FeatureQuestion → AccountValue → Verdict → Type 0
-IsVerdictOn q account = IsVerdictFor (rule_list q.record q.choice q.table) account account.goal
+IsVerdictOn q account = IsVerdictFor (rule_list q.record.value q.choice q.table) account account.goal
 
 -- the line that says it
 abbrev pub verdict_line : Verdict → Text

@@ -10,11 +10,12 @@ use crate::run_failure::RunFailure;
 use indexmap::IndexMap;
 use record_files::{AccountFile, ReadError, read_account, read_choice, read_record, read_table};
 use std::alloc::Global;
+use std::rc::Rc;
 use workspace_record::{FeatureChoice, PlatformTable, Standard, WorkspaceRecord};
 
-/// What is asked on features.
+/// What is asked on features. The record is shared with the graphs that are made over its rows.
 pub struct FeatureQuestion {
-    pub record: WorkspaceRecord,
+    pub record: Rc<WorkspaceRecord>,
     pub choice: FeatureChoice,
     pub table: PlatformTable,
 }
@@ -39,7 +40,7 @@ pub fn feature_question<'a>(
 ) -> Result<FeatureQuestion, RunFailure<'a>>
     ensures { IfErr result (λ f. status_of f ≡ 1) }
 {
-    let record = record_in(alloc, names.record, files)?;
+    let record = Rc::new(alloc, record_in(alloc, names.record, files)?)?;
     let choice = choice_in(alloc, names.choice, files)?;
     let table = table_in(alloc, names.table, files)?;
     Ok(FeatureQuestion {

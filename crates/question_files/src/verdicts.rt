@@ -43,7 +43,8 @@ pub fn verdict_on(
 ) -> Result<Verdict, AllocError>
     ensures verdict { IfOk result (IsVerdictOn question.now account.now) }
 {
-    let (record, choice, table) = (&question.record, &question.choice, &question.table);
+    let record = question.record.as_ref();
+    let (choice, table) = (&question.choice, &question.table);
     match &account.goal {
         None => check_account(alloc, record, choice, table, &account.rules),
         Some(goal) => check_explanation(alloc, record, choice, table, goal, &account.rules),

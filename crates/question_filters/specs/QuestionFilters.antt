@@ -2,7 +2,7 @@
 use Rattle.std.specs.Prelude.{◌↔◌, true, Bool, IsTrue, List, [], ◌∷◌, ◌++◌, Contains, codes, map}
 use Rattle.regex.specs.Patterns.{Re}
 use Rattle.workspace_record.specs.Records.{Text}
-use Rattle.nextest_filter_queries.specs.Queries as asked
+use Rattle.nextest_binaries.specs.Queries as asked
 use Rattle.nextest_filter_evaluation.specs.Compiled.{Leaf, compiled_of}
 use Rattle.nextest_filter_evaluation.specs.Formulas.{Formula, SomeAnswersGive}
 use Rattle.nextest_filter_evaluation.specs.Meaning.{DefaultGives, DefaultHolds, MayBe, Passes}

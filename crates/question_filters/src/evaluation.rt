@@ -4,7 +4,7 @@ ghost use Rattle.std.specs.Prelude.{◌↔◌, true, IfOk, IsTrue, map};
 ghost use Rattle.nextest_filter_evaluation.specs.Compiled.{compiled_of};
 ghost use Rattle.nextest_filter_evaluation.specs.Formulas.{SomeAnswersGive};
 ghost use Rattle.nextest_filter_evaluation.specs.Meaning.{DefaultGives, MayBe};
-ghost use Rattle.nextest_filter_queries.specs.Queries.{binary_of};
+ghost use Rattle.nextest_binaries.specs.Queries.{binary_of};
 ghost use Rattle.question_filters.specs.QuestionFilters.{MayPass, SomeMayPass, question_view};
 
 use crate::question_filters::QuestionFilters;

@@ -3,7 +3,7 @@
 ghost use Rattle.std.specs.Prelude.{◌↔◌, IfOk, IsTrue, map};
 ghost use Rattle.nextest_filter_evaluation.specs.Compiled.{compiled_of};
 ghost use Rattle.nextest_filter_evaluation.specs.Meaning.{DefaultHolds, Passes};
-ghost use Rattle.nextest_filter_queries.specs.Queries.{test_of};
+ghost use Rattle.nextest_binaries.specs.Queries.{test_of};
 ghost use Rattle.question_filters.specs.FirstTexts.{FindsFirst};
 ghost use Rattle.question_filters.specs.QuestionFilters.{TextPasses, question_view};
 ghost use Rattle.record_checks.specs.CompiledViews.{filters_view};

@@ -4,11 +4,15 @@ use Rattle.std.specs.Option.{option_or}
 use Rattle.workspace_record.specs.Records.{Workspace}
 use Rattle.package_rules.specs.Kept.{AreKept}
 use Rattle.package_rules.specs.Rules.{first_fault}
+use Rattle.guppy_package_table.specs.Refusals.{IsRefusal}
+use Rattle.guppy_package_table.specs.declared.package_graph_error.PackageGraphError.{PackageGraphError}
+use Rattle.guppy_package_table.specs.declared.package_graph_error.PackageGraphError.TheVariants as graph
 use Rattle.package_rules.specs.declared.record_rule.RecordRule.{RecordRule}
 use Rattle.package_rules.proofs.KeptFacts.{kept_iff}
 use Rattle.record_rules.specs.RecordRules.{fault_of, further_broken, further_rules}
 use Rattle.record_checks.specs.Checks.{IsChecked}
-use Rattle.record_checks.specs.Compiling.{ChecksFilters}
+use Rattle.record_checks.specs.Compiling.{AnswersFilters, ChecksFilters}
+use Rattle.record_checks.specs.Errors.{graph_error_of}
 use Rattle.record_checks.specs.declared.record_error.RecordError.{RecordError}
 use Rattle.record_checks.specs.declared.record_error.RecordError.TheVariants.{Broken, Filter, Memory}
 
@@ -23,3 +27,12 @@ checked_as_filters w (Ok u) kept h = (kept, h)
 checked_as_filters w (Err (Broken rule place)) kept h = h
 checked_as_filters w (Err (Filter place errors)) kept h = (kept, h)
 checked_as_filters w (Err Memory) kept h = tt
+
+-- a record whose packages have no graph is refused for the rule that they break
+pub refused_as_graph : (w : Workspace) (e : PackageGraphError) → IsRefusal w.packages w.links w.workspace e → IsChecked w (Err (graph_error_of e))
+refused_as_graph w (graph.Broken rule place) h = ap (λ first. option_or first (first_fault (further_broken w) further_rules)) h
+refused_as_graph w graph.Memory h = tt
+
+pub refused_for_graph : {A : Type 0} (right : A → Type 0) (w : Workspace) (e : PackageGraphError) → IsRefusal w.packages w.links w.workspace e → AnswersFilters right w (Err (graph_error_of e))
+refused_for_graph right w (graph.Broken rule place) h = ap (λ first. option_or first (first_fault (further_broken w) further_rules)) h
+refused_for_graph right w graph.Memory h = tt

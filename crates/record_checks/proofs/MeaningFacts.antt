@@ -3,7 +3,7 @@ use Rattle.std.proofs.Common.{◌↔◌, refl, sym, Bool, Option, Some, None}
 use Rattle.workspace_record.specs.Records.{Text, Workspace}
 use Rattle.nextest_filter_tokens.specs.declared.heads.Predicate.TheVariants as names
 use Rattle.nextest_filter_queries.specs.NameTests.{NameTest}
-use Rattle.nextest_filter_queries.specs.Queries as asked
+use Rattle.nextest_binaries.specs.Queries as asked
 use Rattle.nextest_filter_evaluation.specs.Compiled.{Leaf}
 use Rattle.nextest_filter_evaluation.specs.Formulas.{Formula, leaf, Holds, SomeAnswersGive}
 use Rattle.nextest_filter_evaluation.specs.Meaning.{DefaultHolds, DefaultGives, MayBe, Passes}

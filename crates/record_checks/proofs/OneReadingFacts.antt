@@ -3,7 +3,7 @@ use Rattle.std.proofs.Common.{◌≡◌, ◌↔◌, inl, inr, ⊎_elim, refl, sy
 use Rattle.list_facts.proofs.Membership.{Contains-first, Contains-rest}
 use Rattle.workspace_record.specs.Records.{Group, Text, Workspace}
 use Rattle.nextest_filter_queries.specs.NameTests.{NameTest}
-use Rattle.nextest_filter_queries.specs.Queries as asked
+use Rattle.nextest_binaries.specs.Queries as asked
 use Rattle.nextest_filter_evaluation.specs.Formulas.{Formula, leaf}
 use Rattle.nextest_filtering.specs.Contexts.{ContextValue}
 use Rattle.nextest_filtering.specs.Filters.{FilterLeaf, filter_of}

@@ -1,11 +1,18 @@
 -- How the refusal of one thing is that of a larger one.
 use Rattle.std.specs.Prelude.{ℕ}
+use Rattle.guppy_package_table.specs.declared.package_graph_error.PackageGraphError.{PackageGraphError}
+use Rattle.guppy_package_table.specs.declared.package_graph_error.PackageGraphError.TheVariants as graph
 use Rattle.nextest_filtering.specs.declared.refusals.FiltersetError.{FiltersetError}
 use Rattle.nextest_filtering.specs.declared.refusals.FiltersetError.TheVariants as filterset
 use Rattle.record_checks.specs.declared.record_error.RecordError.{RecordError}
 use Rattle.record_checks.specs.declared.record_error.RecordError.TheVariants.{Broken, Filter, Memory}
 use Rattle.record_checks.specs.declared.select_error.SelectError.{SelectError}
 use Rattle.record_checks.specs.declared.select_error.SelectError.TheVariants as select
+
+-- the rule that its packages, links and members break is the record's
+abbrev pub graph_error_of : PackageGraphError → RecordError
+graph_error_of (graph.Broken rule place) = Broken rule place
+graph_error_of graph.Memory = Memory
 
 -- the faults of the filter at a place are the record's
 abbrev pub record_error_of : ℕ → FiltersetError → RecordError

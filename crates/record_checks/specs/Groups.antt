@@ -2,7 +2,7 @@
 use Rattle.std.specs.Prelude.{◌≡◌, ◌⊎◌, ◌↔◌, List, [], ◌∷◌, Contains, codes, map}
 use Rattle.workspace_record.specs.Records.{Text, Workspace}
 use Rattle.nextest_filter_queries.specs.NameTests.{NameTest, Suits}
-use Rattle.nextest_filter_queries.specs.Queries as asked
+use Rattle.nextest_binaries.specs.Queries as asked
 use Rattle.nextest_filter_queries.specs.Groups.{AreKnown, known_groups}
 use Rattle.nextest_filter_queries.specs.declared.groups.KnownGroups.{KnownGroups}
 use Rattle.nextest_filter_evaluation.specs.Meaning.{Passes}

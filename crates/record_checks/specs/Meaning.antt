@@ -2,7 +2,7 @@
 use Rattle.std.specs.Prelude.{Bool, true}
 use Rattle.workspace_record.specs.Records.{Text}
 use Rattle.nextest_filter_queries.specs.NameTests.{NameTest, Suits}
-use Rattle.nextest_filter_queries.specs.Queries as asked
+use Rattle.nextest_binaries.specs.Queries as asked
 use Rattle.nextest_filter_evaluation.specs.Formulas.{Formula, Holds, SomeAnswersGive}
 use Rattle.nextest_filtering.specs.Contexts.{ContextValue}
 use Rattle.nextest_filtering.specs.Filters.{FilterLeaf}

@@ -8,14 +8,15 @@ ghost use Rattle.record_checks.specs.Checks.{ChecksRecord, IsChecked};
 ghost use Rattle.record_checks.specs.Contexts.{IsDeclaredGraph};
 
 use crate::checking::check_filters;
-use crate::graph::graph_of;
+use crate::graph::{graph_of, shared_graph_of};
 use crate::record_error::RecordError;
-use guppy_package_graph::{PackageGraph, PackageGraphError};
+use guppy_package_graph::PackageGraph;
 use record_index::RecordIndex;
 use record_rules::binaries::{TestBinary, binaries};
 use record_rules::further_fault_of;
 use std::alloc::Global;
 use std::marker::Model;
+use std::rc::Rc;
 use workspace_record::WorkspaceRecord;
 
 /// A record that keeps the rules and whose filters are accepted, with what was found in it while it was
@@ -57,13 +58,19 @@ impl<'r> CheckedRecord<'r> {
     pub fn of(alloc: Global, record: &'r WorkspaceRecord) -> Result<CheckedRecord<'r>, RecordError>
         ensures checked { ChecksRecord «record».entry.now result }
     {
-        match graph_of(alloc, record) {
-            Ok(graph) => CheckedRecord::over(alloc, record, graph),
-            Err(PackageGraphError::Broken { rule, place }) => {
-                Err(RecordError::Broken { rule, place })
-            }
-            Err(PackageGraphError::Memory) => Err(RecordError::Memory),
-        }
+        let graph = graph_of(alloc, record)?;
+        CheckedRecord::over(alloc, record, graph)
+    }
+
+    /// The same of a record that is shared: its graph is over the same rows, in place of a copy.
+    pub fn of_shared(
+        alloc: Global,
+        record: &'r Rc<WorkspaceRecord>,
+    ) -> Result<CheckedRecord<'r>, RecordError>
+        ensures checked { ChecksRecord «record».entry.now.value result }
+    {
+        let graph = shared_graph_of(alloc, record)?;
+        CheckedRecord::over(alloc, record.as_ref(), graph)
     }
 
     /// The same with the graph of the record's packages.

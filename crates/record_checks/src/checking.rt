@@ -8,7 +8,7 @@ use crate::checked_record::CheckedRecord;
 use crate::compiled_filters::record_filters;
 use crate::graph::{context_over, graph_of};
 use crate::record_error::RecordError;
-use guppy_package_graph::{PackageGraph, PackageGraphError};
+use guppy_package_graph::PackageGraph;
 use std::alloc::Global;
 use workspace_record::WorkspaceRecord;
 
@@ -27,11 +27,8 @@ pub fn check_record(alloc: Global, record: &WorkspaceRecord) -> Result<(), Recor
 pub fn declared_graph(alloc: Global, record: &WorkspaceRecord) -> Result<PackageGraph, RecordError>
     ensures graph { AnswersFilters (IsDeclaredGraph record.now) record.now result }
 {
-    match graph_of(alloc, record) {
-        Ok(graph) => Ok(graph),
-        Err(PackageGraphError::Broken { rule, place }) => Err(RecordError::Broken { rule, place }),
-        Err(PackageGraphError::Memory) => Err(RecordError::Memory),
-    }
+    let graph = graph_of(alloc, record)?;
+    Ok(graph)
 }
 
 /// Whether the filters of the record, whose packages have this graph, are accepted.

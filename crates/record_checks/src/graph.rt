@@ -11,20 +11,36 @@ ghost use Rattle.record_checks.specs.Contexts.{IsDeclaredGraph, IsNeeded};
 use guppy_package_graph::{PackageGraph, PackageGraphError, PackageId};
 use nextest_filtering::ParseContext;
 use std::alloc::{AllocError, Global};
+use std::rc::Rc;
 use workspace_record::WorkspaceRecord;
 
-/// The package graph of the record, or the first rule on packages, links and members that it breaks.
+/// The package graph of the record, over rows of its own, or the first rule on packages, links and
+/// members that the record breaks.
 pub fn graph_of(alloc: Global, record: &WorkspaceRecord) -> Result<PackageGraph, PackageGraphError>
     ensures built { IfOk result (IsDeclaredGraph record.now) }
     ensures kept { IfOk result (λ _. AreKept record.now.packages record.now.links record.now.workspace) }
     ensures refused { IfErr result (IsRefusal record.now.packages record.now.links record.now.workspace) }
 {
-    let copy = record.copy(alloc)?;
-    let (packages, links, workspace) = (copy.packages, copy.links, copy.workspace);
-    match PackageGraph::from_records(alloc, packages, links, workspace) {
-        Ok(graph) => Ok(graph),
-        Err(refused) => Err(refused),
-    }
+    PackageGraph::from_shared(alloc, shared_copy(alloc, record)?)
+}
+
+/// The same of a record that is shared, over its rows, so that none is copied.
+pub fn shared_graph_of(
+    alloc: Global,
+    record: &Rc<WorkspaceRecord>,
+) -> Result<PackageGraph, PackageGraphError>
+    ensures built { IfOk result (IsDeclaredGraph «record».now.value) }
+    ensures kept { IfOk result (λ _. AreKept «record».now.value.packages «record».now.value.links «record».now.value.workspace) }
+    ensures refused { IfErr result (IsRefusal «record».now.value.packages «record».now.value.links «record».now.value.workspace) }
+{
+    PackageGraph::from_shared(alloc, record.clone()?)
+}
+
+fn shared_copy(alloc: Global, record: &WorkspaceRecord) -> Result<Rc<WorkspaceRecord>, AllocError>
+    ensures { IfOk result (λ copy. copy.value ≡ record.now) }
+{
+    let copy = Rc::new(alloc, record.copy(alloc)?)?;
+    Ok(copy)
 }
 
 /// The context of filters whose names are matched over the packages to which declared links lead from

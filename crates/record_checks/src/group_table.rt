@@ -1,7 +1,7 @@
 //! The groups of tests that a record names.
 
 ghost use Rattle.std.specs.Prelude.{◌≡◌, ◌↔◌, IfOk, IsTrue, map};
-ghost use Rattle.nextest_filter_queries.specs.Queries.{test_of};
+ghost use Rattle.nextest_binaries.specs.Queries.{test_of};
 ghost use Rattle.nextest_filter_evaluation.specs.Compiled.{compiled_of};
 ghost use Rattle.nextest_filter_evaluation.specs.Meaning.{Passes};
 ghost use Rattle.record_checks.specs.CompiledViews.{filters_view, group_view};

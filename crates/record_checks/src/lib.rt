@@ -19,7 +19,7 @@ pub use crate::checking::{check_record, declared_graph};
 pub use crate::compiled_filters::record_filters;
 pub use crate::filter_parts::{GroupFilter, RecordFilters};
 pub use crate::filter_texts::compiled_text;
-pub use crate::graph::{context_over, graph_of};
+pub use crate::graph::{context_over, graph_of, shared_graph_of};
 pub use crate::group_names::known_groups;
 pub use crate::group_table::GroupTable;
 pub use crate::record_error::RecordError;

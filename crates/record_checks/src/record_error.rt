@@ -4,6 +4,7 @@ ghost use Rattle.std.specs.Prelude.{◌≡◌};
 ghost use Rattle.record_checks.specs.declared.record_error.RecordError.TheVariants.{Memory};
 
 use crate::fault_lines::write_faults;
+use guppy_package_graph::PackageGraphError;
 use nextest_filter_faults::ParseSingleError;
 use record_rules::RecordRule;
 use std::alloc::{AllocError, AllocFailed};
@@ -40,6 +41,19 @@ impl fmt::Display for RecordError {
             RecordError::Broken { rule, place } => write!(f, "rule {rule} at {place}"),
             RecordError::Filter { place, errors } => write_faults(f, "", *place, errors),
             RecordError::Memory => f.write_str("out of memory"),
+        }
+    }
+}
+
+impl From<PackageGraphError> for RecordError {
+    ghost use Rattle.record_checks.specs.Errors.{graph_error_of};
+
+    ghost from_gives = { λ refused e. e ≡ graph_error_of refused };
+
+    fn from(refused: PackageGraphError) -> Self {
+        match refused {
+            PackageGraphError::Broken { rule, place } => RecordError::Broken { rule, place },
+            PackageGraphError::Memory => RecordError::Memory,
         }
     }
 }

@@ -1,8 +1,7 @@
 -- What contracts see of the code's test binaries.
-use Rattle.std.specs.Prelude.{string_bytes}
 use Rattle.record_rules.specs.Binaries.{Binary}
-use Rattle.record_rules.specs.declared.binaries.TestBinary.{TestBinary}
+use Rattle.record_rules.specs.declared.test_binary.TestBinary.{TestBinary}
 
 -- the id, and the package and the target that the binary points to
 abbrev pub binary_view : TestBinary → Binary
-binary_view b = record { id = string_bytes b.id; owner = b.row.now; target = b.target.now }
+binary_view b = record { id = b.id; owner = b.row.now; target = b.target.now }

@@ -1,25 +1,52 @@
 //! The test binaries of a workspace.
 
-ghost use Rattle.std.specs.Prelude.{◌≡◌, ◌++◌, OnOk, IfOk, map, filter, string_bytes};
+ghost use Rattle.std.specs.Prelude.{◌≡◌, ◌++◌, OnOk, IfOk, map, filter};
 ghost use Rattle.feature_account.specs.Lines.{is_member};
 ghost use Rattle.package_rules.specs.Found.{finds};
-ghost use Rattle.record_rules.specs.Binaries.{binary_id, kind_text, may_have_tests, platform_of, binaries_of, binaries};
+ghost use Rattle.nextest_binaries.specs.Queries as asked;
+ghost use Rattle.record_rules.specs.Asked.{binary_asked};
+ghost use Rattle.record_rules.specs.Binaries.{binary_of, kind_text, may_have_tests, platform_of, binaries_of, binaries};
 ghost use Rattle.record_rules.specs.BinaryView.{binary_view};
+ghost use Rattle.record_rules.specs.Told.{told_by, told_of};
 
+pub use crate::test_binary::TestBinary;
 use indexmap::IndexSet;
-use nextest_binaries::{BuildPlatform, binary_id};
+use nextest_binaries::{
+    BinaryInfo, BinaryQuery, BuildPlatform, PackageId, RustBinaryId, RustTestBinaryKind,
+};
 use package_rules::text_sets::text_set;
 use std::alloc::{AllocError, Global};
 use std::cmp::Ordering;
 use workspace_record::{PackageRecord, TargetKind, TargetRecord, WorkspaceRecord};
 
-/// A target of a package, which is built into a test binary under an id of its own. Binaries are
-/// compared by their ids, which are distinct in a record that keeps the rules.
-#[derive(Drop)]
-pub struct TestBinary<'a> {
-    pub id: String,
-    pub row: &'a PackageRecord,
-    pub target: &'a TargetRecord,
+impl TestBinary<'_> {
+    /// What a lister is told of it.
+    pub fn info(&self) -> BinaryInfo<'_>
+        ensures told { told_by result ≡ told_of (binary_view self.now) }
+    {
+        let (row, target) = (self.row, self.target);
+        BinaryInfo {
+            id: self.id.as_str(),
+            package_id: row.id.as_str(),
+            name: target.name.as_str(),
+            kind: target.kind,
+            platform: platform_of(target.kind),
+        }
+    }
+
+    /// What filters are asked about it.
+    pub fn query(&self) -> BinaryQuery<'_>
+        ensures asked { asked.binary_of result ≡ binary_asked (binary_view self.now) }
+    {
+        let target = self.target;
+        BinaryQuery {
+            package_id: &self.package_id,
+            binary_id: &self.id,
+            binary_name: target.name.as_str(),
+            kind: &self.kind,
+            platform: platform_of(target.kind),
+        }
+    }
 }
 
 impl PartialEq for TestBinary<'_> {
@@ -66,7 +93,7 @@ impl Ord for TestBinary<'_> {
     ghost matches_eq = { ids_tie };
 
     fn cmp(&self, other: &Self) -> Ordering {
-        self.id.cmp(&other.id)
+        self.id.as_str().cmp(other.id.as_str())
     }
 }
 
@@ -127,8 +154,7 @@ fn push_binaries<'a>(
 {
     for target in &row.targets {
         if target.tested && may_have_tests(target.kind) {
-            let id = id_of(alloc, row, target)?;
-            all.push(TestBinary { id, row, target })?;
+            all.push(binary_of(alloc, row, target)?)?;
         }
     }
     Ok(())
@@ -178,13 +204,21 @@ pub fn kind_text(kind: TargetKind) -> &'static str
     }
 }
 
-fn id_of(alloc: Global, row: &PackageRecord, target: &TargetRecord) -> Result<String, AllocError>
-    ensures { IfOk result (λ id. string_bytes id ≡ binary_id row.now.name target.now.kind target.now.name) }
+fn binary_of<'a>(
+    alloc: Global,
+    row: &'a PackageRecord,
+    target: &'a TargetRecord,
+) -> Result<TestBinary<'a>, AllocError>
+    ensures { IfOk result (λ b. binary_view b ≡ binary_of row.entry.now target.entry.now) }
 {
-    let (package, kind, name) = (
-        row.name.as_str(),
-        kind_text(target.kind),
-        target.name.as_str(),
-    );
-    binary_id(alloc, package, kind, name)
+    let package_id = PackageId::new(String::from_str(alloc, row.id.as_str())?);
+    let kind = RustTestBinaryKind::new(String::from_str(alloc, kind_text(target.kind))?);
+    let id = RustBinaryId::from_parts(alloc, row.name.as_str(), &kind, target.name.as_str())?;
+    Ok(TestBinary {
+        id,
+        row,
+        target,
+        package_id,
+        kind,
+    })
 }

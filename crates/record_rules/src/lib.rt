@@ -8,6 +8,7 @@ mod feature_rules;
 mod group_rules;
 mod optional_lines;
 mod record_rules;
+mod test_binary;
 
 pub use crate::record_rules::{fault_of, further_fault_of};
 pub use package_rules::RecordRule;

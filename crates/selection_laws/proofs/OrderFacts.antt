@@ -13,7 +13,7 @@ use Rattle.kept_records.proofs.KeptFacts.{rows_kept}
 use Rattle.kept_records.proofs.OrderFacts.{stays_on}
 use Rattle.nextest_filter_faults.specs.declared.filterset_kind.FiltersetKind.{FiltersetKind}
 use Rattle.nextest_filter_queries.specs.Groups.{known_groups}
-use Rattle.nextest_filter_queries.specs.Queries as asked
+use Rattle.nextest_binaries.specs.Queries as asked
 use Rattle.nextest_filter_evaluation.specs.Formulas.{Formula}
 use Rattle.nextest_filtering.specs.Filters.{FilterLeaf}
 use Rattle.nextest_filtering.specs.SameFilters.{HasSamePackages}
@@ -27,7 +27,7 @@ use Rattle.record_checks.proofs.OneRecordFacts.{byte_packages}
 use Rattle.question_filters.specs.Following.{IsFollowedIn}
 use Rattle.question_filters.specs.NamedFeatures.{AreNamedOn}
 use Rattle.selection_making.specs.Laws.{HasByteFeatures, HasByteTexts}
-use Rattle.selection_making.specs.Queries.{binary_asked}
+use Rattle.record_rules.specs.Asked.{binary_asked}
 use Rattle.selection_making.specs.Questions.{IsFeatureOn, Question, WantedIn}
 use Rattle.selection_making.specs.Readings.{AreReadings, Readings}
 use Rattle.selection_making.specs.Selecting.{IsAsked, IsAvailableBinary, IsChosen, IsLetThrough, IsWanted}

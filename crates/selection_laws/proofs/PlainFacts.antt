@@ -6,7 +6,7 @@ use Rattle.guppy_row_parts.specs.declared.dependency_direction.DependencyDirecti
 use Rattle.guppy_row_parts.specs.declared.dependency_direction.DependencyDirection.TheVariants as direction
 use Rattle.nextest_filter_tokens.specs.declared.heads.Predicate.TheVariants as predicate
 use Rattle.nextest_filter_queries.specs.NameTests.{NameTest}
-use Rattle.nextest_filter_queries.specs.Queries as asked
+use Rattle.nextest_binaries.specs.Queries as asked
 use Rattle.nextest_filter_evaluation.specs.Formulas.{Formula, has_leaf, Holds}
 use Rattle.nextest_filter_evaluation.proofs.FormulaFacts.{each_map, each_without, gives_alike, holds_alike}
 use Rattle.nextest_filtering.specs.Contexts.{ContextValue}
@@ -18,7 +18,7 @@ use Rattle.record_checks.specs.Contexts.{HasNamesOf}
 use Rattle.record_checks.specs.Groups.{IsGroupOf}
 use Rattle.record_checks.specs.Meaning.{DefaultGivesIn, DefaultHoldsIn, GroupHoldsIn, HoldsIn, IsInGroup, MayHoldIn}
 use Rattle.selection_making.specs.Questions.{Question, WantedIn}
-use Rattle.selection_making.specs.Queries.{binary_asked, test_asked}
+use Rattle.record_rules.specs.Asked.{binary_asked, test_asked}
 use Rattle.selection_making.specs.Readings.{Readings}
 use Rattle.selection_making.specs.Selecting.{IsAsked, IsChosen, IsLetThrough}
 use Rattle.selection_making.specs.declared.asked_binaries.AskedBinaries.{AskedBinaries}

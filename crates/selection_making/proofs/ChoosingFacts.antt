@@ -10,21 +10,21 @@ use Rattle.list_facts.proofs.Lists.{map-map}
 use Rattle.workspace_record.specs.Records.{Text}
 use Rattle.test_lister.specs.Listers.{Shown}
 use Rattle.test_lister.specs.Asking.{Answered, AskedSome}
-use Rattle.test_lister.specs.declared.binary.BinaryInfo.{BinaryInfo}
+use Rattle.nextest_binaries.specs.declared.binary_info.BinaryInfo.{BinaryInfo}
 use Rattle.test_lister.proofs.Asking.{asked_all}
 use Rattle.record_rules.specs.Binaries.{Binary}
 use Rattle.record_rules.specs.BinaryView.{binary_view}
-use Rattle.record_rules.specs.declared.binaries.TestBinary.{TestBinary}
-use Rattle.nextest_filter_queries.specs.Queries as asked
+use Rattle.record_rules.specs.declared.test_binary.TestBinary.{TestBinary}
+use Rattle.nextest_binaries.specs.Queries as asked
 use Rattle.nextest_filtering.proofs.PickFacts.{more_of}
 use Rattle.selection_making.specs.Choosing.{AreListed, IsCarriedOut, IsListed, IsMatched, IsTestOf, ids_of}
 use Rattle.selection_making.specs.Kept.{Adds}
 use Rattle.selection_making.specs.Passing.{ArePassing, IsPassing}
 use Rattle.selection_making.specs.Plans.{PassesIn}
-use Rattle.selection_making.specs.Queries.{binary_asked}
+use Rattle.record_rules.specs.Asked.{binary_asked}
 use Rattle.question_filters.specs.QuestionFilters.{CompiledQuestion, Pass}
 use Rattle.selection_making.specs.Selections.{Selected}
-use Rattle.selection_making.specs.Told.{Told, told_by, told_of}
+use Rattle.record_rules.specs.Told.{Told, told_by, told_of}
 use Rattle.selection_making.proofs.KeptFacts.{adds_none, adds_one, adds_then}
 
 -- one pair more of two lists

@@ -24,7 +24,7 @@ use Rattle.question_filters.specs.QuestionFilters.{CompiledQuestion, TextPasses}
 use Rattle.selection_making.specs.CompiledReasons.{IsReasonOfBinary, IsReasonOfTest}
 use Rattle.selection_making.specs.Explaining.{Explains, IsReasonOfBinaryIn, IsReasonOfTestIn}
 use Rattle.selection_making.specs.Plans.{Plans}
-use Rattle.selection_making.specs.Queries.{binary_asked, test_asked}
+use Rattle.record_rules.specs.Asked.{binary_asked, test_asked}
 use Rattle.selection_making.specs.Questions.{IsFeatureOn, Question}
 use Rattle.selection_making.specs.Readings.{Readings}
 use Rattle.selection_making.specs.Selecting.{IsAnswered}

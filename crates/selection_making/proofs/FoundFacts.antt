@@ -14,7 +14,7 @@ use Rattle.feature_account.specs.RuleList.{named_of}
 use Rattle.feature_account.proofs.ConcludedFacts.{concluded_iff}
 use Rattle.record_rules.specs.Binaries.{Binary}
 use Rattle.record_rules.specs.BinaryView.{binary_view}
-use Rattle.record_rules.specs.declared.binaries.TestBinary.{TestBinary}
+use Rattle.record_rules.specs.declared.test_binary.TestBinary.{TestBinary}
 use Rattle.selection_making.specs.Reasons.{FindsOff}
 use Rattle.selection_making.proofs.ChoosingFacts.{some_exact}
 
@@ -68,18 +68,18 @@ module _ {X : Type 0} (test : X → Bool) where
 
 -- a binary is looked for by its id
 module _ (id : Text) (all : List TestBinary) (bs : List Binary) (are : map binary_view all ≡ bs) where
-  pub binary_found : (b : TestBinary) → find (λ b. bytes_eq (string_bytes b.id) id) all ≡ Some b → Contains bs (binary_view b) × ((binary_view b).id ≡ id)
+  pub binary_found : (b : TestBinary) → find (λ b. bytes_eq (b.id) id) all ≡ Some b → Contains bs (binary_view b) × ((binary_view b).id ≡ id)
   binary_found b is =
-      let it = found (λ (b : TestBinary). bytes_eq (string_bytes b.id) id) all b is in (
+      let it = found (λ (b : TestBinary). bytes_eq (b.id) id) all b is in (
         subst (λ xs. Contains xs (binary_view b)) are (Contains-map binary_view all b it.among),
-        (bytes_eq-Decides (string_bytes b.id) id).0 it.passes,
+        (bytes_eq-Decides (b.id) id).0 it.passes,
       )
 
-  pub binary_missed : find (λ b. bytes_eq (string_bytes b.id) id) all ≡ None → (b : Binary) → Contains bs b → b.id ≡ id → ⊥
+  pub binary_missed : find (λ b. bytes_eq (b.id) id) all ≡ None → (b : Binary) → Contains bs b → b.id ≡ id → ⊥
   binary_missed is b among same =
       let it = Contains-map_cases binary_view all b (subst (λ xs. Contains xs b) (sym are) among) in
-      let fails = missed (λ (b : TestBinary). bytes_eq (string_bytes b.id) id) all is it.0 it.1 in
-      true≢false (sym ((bytes_eq-Decides (string_bytes it.0.id) id).1 (ap (λ (b : Binary). b.id) it.2 ∙ same)) ∙ fails)
+      let fails = missed (λ (b : TestBinary). bytes_eq (b.id) id) all is it.0 it.1 in
+      true≢false (sym ((bytes_eq-Decides it.0.id id).1 (ap (λ (b : Binary). b.id) it.2 ∙ same)) ∙ fails)
 
 not_true : {b : Bool} → not b ≡ true → b ≡ true → ⊥
 not_true {b = true} e h = true≢false (sym e)

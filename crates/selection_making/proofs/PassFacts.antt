@@ -3,7 +3,7 @@ use Rattle.std.proofs.Common.{◌↔◌, refl, true, List, [], ◌∷◌, Contai
 use Rattle.workspace_record.specs.Records.{Text}
 use Rattle.list_facts.proofs.Membership.{Contains-none}
 use Rattle.nextest_filter_faults.specs.declared.filterset_kind.FiltersetKind.TheVariants.{Test}
-use Rattle.nextest_filter_queries.specs.Queries as asked
+use Rattle.nextest_binaries.specs.Queries as asked
 use Rattle.nextest_filter_queries.specs.declared.groups.KnownGroups.{KnownGroups}
 use Rattle.nextest_filter_evaluation.specs.Compiled.{Leaf}
 use Rattle.nextest_filter_evaluation.specs.Formulas.{Formula, leaf}

@@ -1,5 +1,5 @@
 -- From the parts of a plan to what the question says of them.
-use Rattle.std.proofs.Common.{◌≡◌, ◌∙◌, List, map, ap, sym, subst, ◌↔◌, Contains, Result, Ok, Err, string_bytes}
+use Rattle.std.proofs.Common.{◌≡◌, ◌∙◌, List, map, ap, sym, subst, ◌↔◌, Contains, Result, Ok, Err}
 use Rattle.std.specs.List.Sorted.{IsStrictlySortedBy}
 use Rattle.list_facts.specs.Ascending.{IsAscendingOf, text_cmp}
 use Rattle.list_facts.proofs.Lists.{map-map}
@@ -8,7 +8,7 @@ use Rattle.workspace_record.specs.Features.{FeatureValue}
 use Rattle.workspace_record.specs.Records.{Workspace}
 use Rattle.record_rules.specs.Binaries.{Binary, binaries}
 use Rattle.record_rules.specs.BinaryView.{binary_view}
-use Rattle.record_rules.specs.declared.binaries.TestBinary.{TestBinary}
+use Rattle.record_rules.specs.declared.test_binary.TestBinary.{TestBinary}
 use Rattle.record_rules.proofs.KeptRules.{binaries_told_apart}
 use Rattle.nextest_filtering.specs.Contexts.{ContextValue}
 use Rattle.feature_switching.specs.OnLines.{IsAvailable}
@@ -26,7 +26,7 @@ use Rattle.record_checks.specs.declared.select_error.SelectError.TheVariants.{Re
 use Rattle.question_filters.specs.Filtering.{AreFiltersIn, Filters}
 use Rattle.selection_making.specs.Kept.{AreThose}
 use Rattle.selection_making.specs.Plans.{IsPlan, MayMatch, Plans}
-use Rattle.selection_making.specs.Queries.{binary_asked, test_asked}
+use Rattle.record_rules.specs.Asked.{binary_asked, test_asked}
 use Rattle.question_filters.specs.QuestionFilters.{CompiledQuestion}
 use Rattle.selection_making.specs.Questions.{Question}
 use Rattle.question_filters.specs.Following.{IsFollowedIn}
@@ -42,7 +42,7 @@ available_in : {on more : FeatureValue → Type 0} → ((f : FeatureValue) → o
 available_in wider b h name inside = wider _ (h name inside)
 
 -- the ids of binaries, as the code has them and as contracts do
-pub same_ids : (bs : List TestBinary) → map (λ b. b.id) (map binary_view bs) ≡ map (λ b. string_bytes b.id) bs
+pub same_ids : (bs : List TestBinary) → map (λ b. b.id) (map binary_view bs) ≡ map (λ b. b.id) bs
 same_ids bs = map-map (λ (b : Binary). b.id) binary_view bs
 
 -- what is said of the record that was handed on is said of the question's
@@ -102,7 +102,7 @@ module _ (q : Question) (on : List FeatureValue) (are_on : AreOn q.workspace q.c
         )
 
     -- They are put in the order of their ids.
-    module _ (kept sorted : List TestBinary) (found : AreThose (MayMatch q.asks IsIn filters) (binaries q.workspace) (map binary_view kept)) (ascending : IsAscendingOf text_cmp (map (λ b. string_bytes b.id) kept) (map (λ b. string_bytes b.id) sorted)) (all_kept : (b : TestBinary) → Contains sorted b → Contains kept b) where
+    module _ (kept sorted : List TestBinary) (found : AreThose (MayMatch q.asks IsIn filters) (binaries q.workspace) (map binary_view kept)) (ascending : IsAscendingOf text_cmp (map (λ b. b.id) kept) (map (λ b. b.id) sorted)) (all_kept : (b : TestBinary) → Contains sorted b → Contains kept b) where
       let_through_iff : (b : Binary) → Contains (map binary_view kept) b ↔ (IsAvailableBinary q b × IsWanted q readings b)
       let_through_iff b = (λ h. (match_iff b).0 ((found.those b).0 h), λ h. (found.those b).1 ((match_iff b).1 h))
 
@@ -114,7 +114,7 @@ module _ (q : Question) (on : List FeatureValue) (are_on : AreOn q.workspace q.c
       -- a binary of the kept ones has its id among the sorted ones, and binaries are told apart by their ids
       stays : (t : TestBinary) → Contains kept t → Contains (map binary_view sorted) (binary_view t)
       stays t inside =
-          let id = Contains-map_cases (λ (b : TestBinary). string_bytes b.id) sorted (string_bytes t.id) ((ascending.members (string_bytes t.id)).1 (Contains-map (λ (b : TestBinary). string_bytes b.id) kept t inside)) in
+          let id = Contains-map_cases (λ (b : TestBinary). b.id) sorted (t.id) ((ascending.members (t.id)).1 (Contains-map (λ (b : TestBinary). b.id) kept t inside)) in
           let declared : (b : TestBinary) → Contains kept b → Contains (binaries q.workspace) (binary_view b) = λ b among. ((let_through_iff (binary_view b)).0 (Contains-map binary_view kept b among)).0.declared in
           let same : binary_view id.0 ≡ binary_view t = binaries_told_apart q.workspace are_on.served.checked.0 (binary_view id.0) (binary_view t) (declared id.0 (all_kept id.0 id.1)) (declared t inside) id.2 in
           subst (Contains (map binary_view sorted)) same (Contains-map binary_view sorted id.0 id.1)

@@ -27,7 +27,7 @@ use Rattle.record_checks.proofs.AlikeFacts.{alike_back, alike_there}
 use Rattle.record_checks.proofs.OneReadingFacts.{AreOneReading, all_alike, default_gives_alike, default_holds_alike, holds_in_alike, may_hold_alike, other_way, texts_alike}
 use Rattle.record_checks.proofs.OneRecordFacts.{byte_packages, one_context}
 use Rattle.selection_making.specs.Laws.{HasByteFeatures, HasByteTests, HasByteTexts, SayTheSame}
-use Rattle.selection_making.specs.Queries.{binary_asked, test_asked}
+use Rattle.record_rules.specs.Asked.{binary_asked, test_asked}
 use Rattle.selection_making.specs.Questions.{Question, WantedIn}
 use Rattle.question_filters.specs.Following.{IsFollowedIn}
 use Rattle.question_filters.specs.NamedFeatures.{AreNamedOn}

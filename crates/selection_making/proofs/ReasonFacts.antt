@@ -1,7 +1,7 @@
 -- Reasons by filters that say the same, place by place.
 use Rattle.std.proofs.Common.{◌≡◌, ◌<◌, ◌↔◌, refl, ap, subst, sym, true≢false, ℕ, zero, suc, Bool, true, false, IsTrue, List, [], ◌∷◌, length, Contains, Some}
 use Rattle.nextest_filter_evaluation.specs.Meaning.{DefaultHolds}
-use Rattle.nextest_filter_queries.specs.Queries as asked
+use Rattle.nextest_binaries.specs.Queries as asked
 use Rattle.nextest_filter_readiness.specs.Questions.{IsFirst}
 use Rattle.nextest_filter_readiness.proofs.QuestionFacts.{first_some}
 use Rattle.question_filters.specs.FirstTexts.{FindsFirst}

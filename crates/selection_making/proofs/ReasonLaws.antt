@@ -6,7 +6,7 @@ use Rattle.record_rules.proofs.KeptRules.{binaries_told_apart}
 use Rattle.nextest_filter_readiness.proofs.QuestionFacts.{first_some}
 use Rattle.record_checks.specs.Meaning.{HoldsIn}
 use Rattle.selection_making.specs.Explaining.{IsReasonOfBinaryIn, IsReasonOfTestIn}
-use Rattle.selection_making.specs.Queries.{test_asked}
+use Rattle.record_rules.specs.Asked.{test_asked}
 use Rattle.selection_making.specs.Questions.{Question}
 use Rattle.selection_making.specs.Readings.{Readings}
 use Rattle.selection_making.specs.Reasons.{is_asked, is_chosen}

@@ -11,7 +11,7 @@ use Rattle.record_checks.specs.declared.select_error.SelectError.{SelectError}
 use Rattle.record_checks.specs.declared.select_error.SelectError.TheVariants.{Record, UnknownExtra, Filter as BadFilter, Lister, BadListing, Memory}
 use Rattle.selection_making.specs.Choosing.{ids_of, IsMatched, IsCarriedOut, CarriesOut}
 use Rattle.selection_making.specs.Plans.{IsPlan, PassesIn}
-use Rattle.selection_making.specs.Queries.{test_asked}
+use Rattle.record_rules.specs.Asked.{test_asked}
 use Rattle.question_filters.specs.QuestionFilters.{CompiledQuestion}
 use Rattle.selection_making.specs.Questions.{Question}
 use Rattle.selection_making.specs.Readings.{Readings}

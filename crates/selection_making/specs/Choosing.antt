@@ -12,7 +12,7 @@ use Rattle.test_lister.specs.Asking.{HoldsWellFormed, FailedAt, FaultyAt, AskedS
 use Rattle.test_lister.specs.declared.fault.ListingFault.{ListingFault}
 use Rattle.record_rules.specs.Binaries.{Binary}
 use Rattle.record_rules.specs.BinaryView.{binary_view}
-use Rattle.record_rules.specs.declared.binaries.TestBinary.{TestBinary}
+use Rattle.record_rules.specs.declared.test_binary.TestBinary.{TestBinary}
 use Rattle.record_checks.specs.declared.select_error.SelectError.{SelectError}
 use Rattle.record_checks.specs.declared.select_error.SelectError.TheVariants.{Record, UnknownExtra, Filter, Lister, BadListing, Memory}
 use Rattle.selection_making.specs.Selections.{Selected}

@@ -3,10 +3,10 @@ use Rattle.std.specs.Prelude.{Bool, true, false, ℕ, List, Contains}
 use Rattle.workspace_record.specs.Records.{Text}
 use Rattle.nextest_filter_evaluation.specs.Formulas.{SomeAnswersGive}
 use Rattle.nextest_filter_evaluation.specs.Meaning.{DefaultGives, DefaultHolds, MayBe}
-use Rattle.nextest_filter_queries.specs.Queries as asked
+use Rattle.nextest_binaries.specs.Queries as asked
 use Rattle.question_filters.specs.QuestionFilters.{CompiledQuestion, TextPasses}
 use Rattle.record_rules.specs.Binaries.{Binary}
-use Rattle.selection_making.specs.Queries.{binary_asked, test_asked}
+use Rattle.record_rules.specs.Asked.{binary_asked, test_asked}
 use Rattle.selection_making.specs.Reasons.{IsBinaryReason, IsTestReason}
 use Rattle.selection_making.specs.declared.reason.TestReason.{TestReason}
 use Rattle.selection_making.specs.declared.reason.TestReason.TheVariants.{Chosen, ChosenBy}

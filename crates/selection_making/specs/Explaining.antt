@@ -8,7 +8,7 @@ use Rattle.record_checks.specs.Meaning.{DefaultGivesIn, HoldsIn, MayHoldIn}
 use Rattle.feature_questions.specs.Switching.{IsRefused, unknown_extra}
 use Rattle.record_checks.specs.declared.select_error.SelectError.{SelectError}
 use Rattle.record_checks.specs.declared.select_error.SelectError.TheVariants.{Record, UnknownExtra, Filter, Memory}
-use Rattle.selection_making.specs.Queries.{binary_asked, test_asked}
+use Rattle.record_rules.specs.Asked.{binary_asked, test_asked}
 use Rattle.selection_making.specs.Questions.{IsFeatureOn, Question}
 use Rattle.selection_making.specs.Readings.{Readings}
 use Rattle.selection_making.specs.Reasons.{IsBinaryReason, IsTestReason}

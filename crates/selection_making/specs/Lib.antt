@@ -1,4 +1,3 @@
-pub mod AskedViews
 pub mod Choosing
 pub mod CompiledReasons
 pub mod Explaining
@@ -6,7 +5,6 @@ pub mod Kept
 pub mod Laws
 pub mod Passing
 pub mod Plans
-pub mod Queries
 pub mod Questions
 pub mod Readings
 pub mod ReasonTexts
@@ -14,4 +12,3 @@ pub mod Reasons
 pub mod Selecting
 pub mod Selections
 pub mod Telling
-pub mod Told

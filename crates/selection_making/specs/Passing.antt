@@ -1,7 +1,7 @@
 -- Tests of one binary of which the filters hold.
 use Rattle.std.specs.Prelude.{◌↔◌, List, Contains}
 use Rattle.workspace_record.specs.Records.{Text}
-use Rattle.nextest_filter_queries.specs.Queries as asked
+use Rattle.nextest_binaries.specs.Queries as asked
 use Rattle.question_filters.specs.QuestionFilters.{CompiledQuestion, Pass}
 
 -- the name is one of these, and the filters hold of the test of this name in the binary

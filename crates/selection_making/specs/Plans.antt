@@ -9,7 +9,7 @@ use Rattle.record_checks.specs.Checks.{IsChecked}
 use Rattle.feature_questions.specs.Switching.{IsRefused, unknown_extra}
 use Rattle.record_checks.specs.declared.select_error.SelectError.{SelectError}
 use Rattle.record_checks.specs.declared.select_error.SelectError.TheVariants.{Record, UnknownExtra, Filter, Lister, BadListing, Memory}
-use Rattle.selection_making.specs.Queries.{binary_asked, test_asked}
+use Rattle.record_rules.specs.Asked.{binary_asked, test_asked}
 use Rattle.question_filters.specs.QuestionFilters.{CompiledQuestion, MayPass, Pass, question_view}
 use Rattle.selection_making.specs.Questions.{Question, WantedIn}
 use Rattle.selection_making.specs.Readings.{Readings}

@@ -7,20 +7,19 @@ ghost use Rattle.selection_making.specs.Choosing.{AreListed, CarriesOut, IsTestO
 ghost use Rattle.selection_making.specs.Kept.{Adds};
 ghost use Rattle.selection_making.specs.Passing.{ArePassing, IsPassing};
 ghost use Rattle.selection_making.specs.Plans.{PassesIn};
-ghost use Rattle.nextest_filter_queries.specs.Queries.{Binary};
+ghost use Rattle.nextest_binaries.specs.Queries.{Binary};
 ghost use Rattle.nextest_filter_readiness.specs.Questions.{lent_of, lent_searches, ready_view};
 ghost use Rattle.question_filters.specs.QuestionFilters.{CompiledQuestion, IsReadyFor, lent_question, question_view};
 ghost use Rattle.regex.specs.Strings.{matcher_pattern};
-ghost use Rattle.selection_making.specs.Told.{told_by, told_of};
+ghost use Rattle.record_rules.specs.Told.{told_by, told_of};
 
 use crate::ascending_pairs::ascending_pairs;
-use crate::asked_queries::AskedBinary;
 use crate::plan::Plan;
 use crate::selection::Selection;
 use nextest_filter_readiness::{LentFilters, ReadyFilters};
 use question_filters::lent_filters;
 use record_checks::SelectError;
-use record_rules::binaries::{TestBinary, platform_of};
+use record_rules::binaries::TestBinary;
 use regex::Matcher;
 use std::alloc::{AllocError, Global};
 use test_lister::{AskError, BinaryInfo, Listing, TestLister, ask_each};
@@ -51,22 +50,9 @@ fn infos<'a>(alloc: Global, asked: &'a [TestBinary<'_>]) -> Result<Vec<BinaryInf
 {
     let mut infos: Vec<BinaryInfo<'a>> = Vec::new(alloc);
     for binary in asked {
-        infos.push(info_of(binary))?;
+        infos.push(binary.info())?;
     }
     Ok(infos)
-}
-
-pub(crate) fn info_of<'a>(binary: &'a TestBinary<'_>) -> BinaryInfo<'a>
-    ensures { told_by result ≡ told_of (binary_view binary.entry.now) }
-{
-    let (row, target) = (binary.row, binary.target);
-    BinaryInfo {
-        id: binary.id.as_str(),
-        package_id: row.id.as_str(),
-        name: target.name.as_str(),
-        kind: target.kind,
-        platform: platform_of(target.kind),
-    }
 }
 
 /// The tests of which the filters hold, each under its binary's id.
@@ -100,8 +86,7 @@ fn push_chosen<'f>(
     ensures added { (q : CompiledQuestion) → lent_of filters.now ≡ lent_question q → OnOk result (Adds (IsTestOf (PassesIn q) (binary_view binary.now) names.now) (map pair_of chosen.old.items) (map pair_of chosen.new.items)) }
     ensures same { map matcher_pattern searchers.new ≡ map matcher_pattern searchers.old }
 {
-    let asked = AskedBinary::of(alloc, binary)?;
-    let ready = ReadyFilters::new(alloc, filters, asked.query())?;
+    let ready = ReadyFilters::new(alloc, filters, binary.query())?;
     let passing = passing_names(alloc, &ready, searchers, names)?;
     push_tests(alloc, binary.id.as_str(), &passing, chosen)
 }

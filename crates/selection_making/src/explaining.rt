@@ -2,17 +2,15 @@
 
 ghost use Rattle.std.specs.Prelude.{◌≡◌, ◌<◌, IfOk, IsTrue, Contains, length, map, option_map};
 ghost use Rattle.list_facts.specs.Texts.{texts};
-ghost use Rattle.nextest_filter_queries.specs.Queries.{test_of};
+ghost use Rattle.nextest_binaries.specs.Queries.{test_of};
 ghost use Rattle.question_filters.specs.QuestionFilters.{question_view};
 ghost use Rattle.record_rules.specs.BinaryView.{binary_view};
 ghost use Rattle.selection_making.specs.CompiledReasons.{IsReasonOfBinary, IsReasonOfListed, IsReasonOfTest, chosen_by};
-ghost use Rattle.selection_making.specs.Queries.{binary_asked, test_asked};
+ghost use Rattle.record_rules.specs.Asked.{binary_asked, test_asked};
 ghost use Rattle.selection_making.specs.Telling.{ListsOne, TellsAmong, TellsOf, TellsOfAvailable};
 ghost use Rattle.selection_making.specs.Explaining.{Explains};
 ghost use Rattle.selection_making.specs.declared.asked_binaries.AskedBinaries.TheVariants.{LetThrough};
 
-use crate::asked_queries::AskedBinary;
-use crate::asking::info_of;
 use crate::finding::{binary_with_id, first_off};
 use crate::reason::{BinaryReason, Reason, TestReason};
 use feature_questions::{checked_question, features_on_in};
@@ -128,7 +126,7 @@ fn listing_of(
     ensures { ListsOne (shown lister.old) (binary_view binary.now).id result (shown lister.new) }
 {
     let id = String::from_str(alloc, binary.id.as_str())?;
-    match ask_each(alloc, &[info_of(binary)], lister) {
+    match ask_each(alloc, &[binary.info()], lister) {
         Ok(mut listings) => Ok(listings.swap_remove(0)),
         Err(AskError::Lister(_)) => Err(SelectError::Lister(id)),
         Err(AskError::BadListing(_, fault)) => Err(SelectError::BadListing(id, fault)),
@@ -150,9 +148,12 @@ fn reason_of_test(
     if !contains_text(names, name) {
         return Ok(TestReason::NotListed);
     }
-    let asked = AskedBinary::of(alloc, binary)?;
     let name = TestCaseName::new(String::from_str(alloc, name)?);
-    reason_of_listed(alloc, filters, are_given, &asked.test(&name))
+    let test = TestQuery {
+        binary_query: binary.query(),
+        test_name: &name,
+    };
+    reason_of_listed(alloc, filters, are_given, &test)
 }
 
 /// The same of a test that is listed.
@@ -194,8 +195,7 @@ fn reason_of_binary(
 ) -> Result<BinaryReason, AllocError>
     ensures { IfOk result (λ why. IsReasonOfBinary (question_view filters.now) (binary_view binary.now) why) }
 {
-    let asked = AskedBinary::of(alloc, binary)?;
-    let query = asked.query();
+    let query = binary.query();
     if !default_may_pass(alloc, filters, &query)? {
         return Ok(BinaryReason::DefaultFilter);
     }

@@ -13,7 +13,7 @@ pub(crate) fn binary_with_id<'b, 'r>(
     binaries: &'b [TestBinary<'r>],
     id: &str,
 ) -> Option<&'b TestBinary<'r>>
-    ensures { option_copied result ≡ find (λ b. bytes_eq (string_bytes b.id) id.now) binaries.entry.now }
+    ensures { option_copied result ≡ find (λ b. bytes_eq b.id id.now) binaries.entry.now }
 {
     binaries.iter().find(|binary| binary.id.as_str() == id)
 }

@@ -3,7 +3,6 @@
 
 mod ascending_pairs;
 mod asked_binaries;
-mod asked_queries;
 mod asking;
 mod explaining;
 mod finding;
@@ -18,5 +17,5 @@ pub use crate::asked_binaries::AskedBinaries;
 pub use crate::explaining::why;
 pub use crate::reason::{BinaryReason, Reason, TestReason};
 pub use crate::report::write_report;
-pub use crate::selecting::{select, select_plain};
+pub use crate::selecting::{select, select_plain, select_shared};
 pub use crate::selection::Selection;

@@ -1,24 +1,25 @@
 //! What is to be asked, and by which filters the answers are to be read.
 
-ghost use Rattle.std.specs.Prelude.{◌↔◌, IfOk, IsTrue, map, Contains, string_bytes};
+ghost use Rattle.std.specs.Prelude.{◌≡◌, ◌↔◌, IfOk, IsTrue, None, map, Contains};
 ghost use Rattle.list_facts.specs.Ascending.{IsAscendingOf, text_cmp};
+ghost use Rattle.feature_questions.specs.Switching.{unknown_extra};
 ghost use Rattle.record_rules.specs.BinaryView.{binary_view};
-ghost use Rattle.record_rules.specs.declared.binaries.TestBinary.{TestBinary};
+ghost use Rattle.record_rules.specs.declared.test_binary.TestBinary.{TestBinary};
 ghost use Rattle.selection_making.specs.Kept.{AreThose};
 ghost use Rattle.selection_making.specs.Plans.{MayMatch, Plans};
-ghost use Rattle.selection_making.specs.Queries.{binary_asked};
+ghost use Rattle.record_rules.specs.Asked.{binary_asked};
 ghost use Rattle.question_filters.specs.QuestionFilters.{MayPass, question_view};
 ghost use Rattle.selection_making.specs.Questions.{WantedIn};
 
 use crate::asked_binaries::AskedBinaries;
-use crate::asked_queries::AskedBinary;
-use feature_questions::{checked_question, features_on_in};
+use feature_questions::{checked_question, features_on_in, shared_question};
 use feature_switching::FeaturesOn;
 use feature_switching::availability::is_available;
 use question_filters::{LinkScope, QuestionFilters, filters_over, may_pass};
-use record_checks::SelectError;
+use record_checks::{CheckedRecord, SelectError};
 use record_rules::binaries::TestBinary;
 use std::alloc::{AllocError, Global};
+use std::rc::Rc;
 use workspace_record::{FeatureChoice, PlatformTable, WorkspaceRecord};
 
 /// The filters, and the binaries to ask for, ascending by id.
@@ -49,6 +50,38 @@ pub(crate) fn make_plan<'r>(
     ensures { Plans (record { workspace = record.entry.now; choice = choice.now; table = table.now; scope = scope; texts = map (λ t. t.now) texts.now; asks = asks }) result }
 {
     let checked = checked_question(alloc, record, choice)?;
+    plan_in(alloc, checked, choice, table, scope, texts, asks)
+}
+
+/// The same of a record that is shared.
+pub(crate) fn make_shared_plan<'r>(
+    alloc: Global,
+    record: &'r Rc<WorkspaceRecord>,
+    choice: &FeatureChoice,
+    table: &PlatformTable,
+    scope: LinkScope,
+    texts: &[&str],
+    asks: AskedBinaries,
+) -> Result<Plan<'r>, SelectError>
+    ensures { Plans (record { workspace = «record».entry.now.value; choice = choice.now; table = table.now; scope = scope; texts = map (λ t. t.now) texts.now; asks = asks }) result }
+{
+    let checked = shared_question(alloc, record, choice)?;
+    plan_in(alloc, checked, choice, table, scope, texts, asks)
+}
+
+/// The same of a record that was tested, where the extras of the choice are known.
+fn plan_in<'r>(
+    alloc: Global,
+    checked: CheckedRecord<'r>,
+    choice: &FeatureChoice,
+    table: &PlatformTable,
+    scope: LinkScope,
+    texts: &[&str],
+    asks: AskedBinaries,
+) -> Result<Plan<'r>, SelectError>
+    requires known { unknown_extra checked choice.now ≡ None }
+    ensures { Plans (record { workspace = checked.entry; choice = choice.now; table = table.now; scope = scope; texts = map (λ t. t.now) texts.now; asks = asks }) result }
+{
     let on = features_on_in(alloc, &checked, choice, table)?;
     let filters = filters_over(alloc, &checked, &on, table, scope, texts)?;
     let all = checked.into_binaries();
@@ -114,12 +147,11 @@ fn may_pass_there(
 ) -> Result<bool, AllocError>
     ensures { IfOk result (λ r. IsTrue r ↔ MayPass (question_view filters.now) (binary_asked (binary_view binary.now))) }
 {
-    let asked = AskedBinary::of(alloc, binary)?;
-    may_pass(alloc, filters, &asked.query())
+    may_pass(alloc, filters, &binary.query())
 }
 
 fn sorted_binaries(mut all: Vec<TestBinary<'_>>) -> Result<Vec<TestBinary<'_>>, AllocError>
-    ensures ascending { IfOk result (λ v. IsAscendingOf text_cmp (map (λ b. string_bytes b.id) all.entry.items) (map (λ b. string_bytes b.id) v.items)) }
+    ensures ascending { IfOk result (λ v. IsAscendingOf text_cmp (map (λ b. b.id) all.entry.items) (map (λ b. b.id) v.items)) }
     ensures all_of_them { IfOk result (λ v. (b : TestBinary) → Contains v.items b → Contains all.entry.items b) }
 {
     all.sort()?;

@@ -6,11 +6,12 @@ ghost use Rattle.selection_making.specs.declared.asked_binaries.AskedBinaries.Th
 
 use crate::asked_binaries::AskedBinaries;
 use crate::asking::carry_out;
-use crate::plan::make_plan;
+use crate::plan::{make_plan, make_shared_plan};
 use crate::selection::Selection;
 use question_filters::LinkScope;
 use record_checks::SelectError;
 use std::alloc::Global;
+use std::rc::Rc;
 use test_lister::TestLister;
 use workspace_record::{FeatureChoice, PlatformTable, WorkspaceRecord};
 
@@ -53,5 +54,23 @@ pub fn select_plain(
 {
     let asks = AskedBinaries::Available;
     let plan = make_plan(alloc, record, choice, table, scope, texts, asks)?;
+    carry_out(alloc, &plan, lister)
+}
+
+/// The same tests of a record that is shared, of whose rows no copy is made, by a lister that is asked
+/// for these binaries.
+pub fn select_shared(
+    alloc: Global,
+    record: &Rc<WorkspaceRecord>,
+    choice: &FeatureChoice,
+    table: &PlatformTable,
+    scope: LinkScope,
+    texts: &[&str],
+    asks: AskedBinaries,
+    lister: &mut dyn TestLister,
+) -> Result<Selection, SelectError>
+    ensures answers { Answers (record { workspace = «record».now.value; choice = choice.now; table = table.now; scope = scope; texts = map (λ t. t.now) texts.now; asks = asks }) (shown lister.old) result (shown lister.new) }
+{
+    let plan = make_shared_plan(alloc, record, choice, table, scope, texts, asks)?;
     carry_out(alloc, &plan, lister)
 }

@@ -3,10 +3,10 @@
 ghost use Rattle.std.specs.Prelude.{map};
 ghost use Rattle.test_lister.specs.Asking.{ListsEach};
 
-use crate::binary::BinaryInfo;
 use crate::fault::AskError;
 use crate::lister::{Listing, TestLister};
 use crate::listing::fault_of;
+use nextest_binaries::BinaryInfo;
 use std::alloc::Global;
 
 /// Asks the lister for each binary in order, and tests each answer before it asks for the next. The

@@ -5,10 +5,10 @@ ghost use Rattle.list_facts.specs.Texts.{texts};
 ghost use Rattle.test_lister.specs.FileListers.{shown_of};
 ghost use Rattle.test_lister.specs.Listers.{largest, listing_in, unasked};
 
-use crate::binary::BinaryInfo;
 use crate::fault::ListFault;
 use crate::lister::{Listing, TestLister};
 use list_facts::copy_texts;
+use nextest_binaries::BinaryInfo;
 use std::alloc::Global;
 use std::collections::BTreeMap;
 

@@ -3,15 +3,13 @@
 #![tactic(auto)]
 
 mod ask;
-mod binary;
 mod fault;
 mod file_lister;
 mod lister;
 mod listing;
 
 pub use crate::ask::ask_each;
-pub use crate::binary::BinaryInfo;
 pub use crate::fault::{AskError, ListFault, ListingFault};
 pub use crate::file_lister::FileLister;
 pub use crate::lister::{Listing, TestLister};
-pub use nextest_binaries::BuildPlatform;
+pub use nextest_binaries::{BinaryInfo, BuildPlatform};

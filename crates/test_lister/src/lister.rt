@@ -2,8 +2,8 @@
 
 ghost use Rattle.test_lister.specs.Listers.{Shown, Lists};
 
-use crate::binary::BinaryInfo;
 use crate::fault::ListFault;
+use nextest_binaries::BinaryInfo;
 
 /// The names of the tests in a binary.
 pub type Listing = Vec<String>;

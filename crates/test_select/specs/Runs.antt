@@ -14,8 +14,8 @@ use Rattle.question_filters.specs.declared.scope.LinkScope.{LinkScope}
 
 -- a selection by the record, the choice and the table that were read, over the links of the scope
 abbrev pub AnswersQuestion : FeatureQuestion → LinkScope → List Text → AskedBinaries → Shown → Result Selected SelectError → Shown → Type 0
-AnswersQuestion q scope texts asks = Answers (record { workspace = q.record; choice = q.choice; table = q.table; scope = scope; texts = texts; asks = asks })
+AnswersQuestion q scope texts asks = Answers (record { workspace = q.record.value; choice = q.choice; table = q.table; scope = scope; texts = texts; asks = asks })
 
 -- whether and why a test is chosen, or a binary asked, by what was read
 abbrev pub ExplainsQuestion : FeatureQuestion → LinkScope → List Text → Text → Option Text → Shown → Result Reason SelectError → Shown → Type 0
-ExplainsQuestion q scope texts = Explains (record { workspace = q.record; choice = q.choice; table = q.table; scope = scope; texts = texts; asks = LetThrough })
+ExplainsQuestion q scope texts = Explains (record { workspace = q.record.value; choice = q.choice; table = q.table; scope = scope; texts = texts; asks = LetThrough })

@@ -7,8 +7,10 @@ use crate::at_end::AtEnd;
 use crate::command_line::is_readable;
 use crate::failure::Failure;
 use crate::readable::print_entries;
+use account_making::account_of;
 use clap::ArgMatches;
-use feature_questions::{account, write_account};
+use feature_account::{Rule, rules_in};
+use feature_questions::{shared_question, write_account};
 use question_files::{FeatureQuestion, FileSource, feature_question, named_files};
 use std::alloc::Global;
 use std::io::Write;
@@ -24,7 +26,7 @@ pub(crate) fn print_account<'a, O: Write>(
     ensures { IfErr result (λ f. status_of f ≡ 1) }
 {
     let question = feature_question(alloc, named_files(asked), files)?;
-    print_account_of(alloc, &question, is_readable(asked), out)?;
+    print_account_of(alloc, &question, is_readable(asked), at_end, out)?;
     at_end.let_go(question);
     Ok(())
 }
@@ -33,12 +35,30 @@ fn print_account_of<'a, O: Write>(
     alloc: Global,
     question: &FeatureQuestion,
     readable: bool,
+    at_end: AtEnd,
     out: &mut O,
 ) -> Result<(), Failure<'a>>
     ensures { IfErr result (λ f. status_of f ≡ 1) }
 {
-    let (record, choice, table) = (&question.record, &question.choice, &question.table);
-    let account = account(alloc, record, choice, table)?;
+    let checked = shared_question(alloc, &question.record, &question.choice)?;
+    let rules = rules_in(alloc, checked.index(), &question.choice, &question.table)?;
+    print_account_by(alloc, question, &rules, readable, out)?;
+    at_end.let_go(rules);
+    at_end.let_go(checked);
+    Ok(())
+}
+
+/// Prints the account that these rules of the question make.
+fn print_account_by<'a, O: Write>(
+    alloc: Global,
+    question: &FeatureQuestion,
+    rules: &[Rule],
+    readable: bool,
+    out: &mut O,
+) -> Result<(), Failure<'a>>
+    ensures { IfErr result (λ f. status_of f ≡ 1) }
+{
+    let account = account_of(alloc, rules)?;
     if readable {
         return print_entries(alloc, question, &account.rules, out);
     }

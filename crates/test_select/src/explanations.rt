@@ -38,8 +38,8 @@ fn print_explanation_of<'a, O: Write>(
 ) -> Result<(), Failure<'a>>
     ensures { IfErr result (λ f. status_of f ≡ 1) }
 {
-    let (record, choice, table) = (&question.record, &question.choice, &question.table);
-    match explain(alloc, record, choice, table, feature)? {
+    let record = question.record.as_ref();
+    match explain(alloc, record, &question.choice, &question.table, feature)? {
         Some(entries) if readable => print_entries(alloc, question, &entries, out),
         Some(entries) => {
             write_explanation(alloc, feature, &entries, out)?;

@@ -8,9 +8,9 @@ ghost use Rattle.test_select.specs.Orders.{order_line};
 use crate::at_end::AtEnd;
 use crate::failure::Failure;
 use clap::ArgMatches;
-use feature_questions::package_order;
+use feature_questions::{package_order_in, shared_question};
 use list_facts::write_pieces;
-use question_files::{FileSource, feature_question, named_files};
+use question_files::{FeatureQuestion, FileSource, feature_question, named_files};
 use std::alloc::Global;
 use std::io::{self, Write};
 
@@ -41,9 +41,22 @@ pub(crate) fn print_order<'a, O: Write>(
     ensures { IfErr result (λ f. status_of f ≡ 1) }
 {
     let question = feature_question(alloc, named_files(asked), files)?;
-    let (record, choice) = (&question.record, &question.choice);
-    let ids = package_order(alloc, record, choice, &question.table)?;
-    write_order(&ids, out)?;
+    print_order_of(alloc, &question, at_end, out)?;
     at_end.let_go(question);
+    Ok(())
+}
+
+fn print_order_of<'a, O: Write>(
+    alloc: Global,
+    question: &FeatureQuestion,
+    at_end: AtEnd,
+    out: &mut O,
+) -> Result<(), Failure<'a>>
+    ensures { IfErr result (λ f. status_of f ≡ 1) }
+{
+    let checked = shared_question(alloc, &question.record, &question.choice)?;
+    let ids = package_order_in(alloc, &checked, &question.choice, &question.table)?;
+    write_order(&ids, out)?;
+    at_end.let_go(checked);
     Ok(())
 }

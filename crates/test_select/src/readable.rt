@@ -6,7 +6,7 @@ ghost use Rattle.test_select.specs.Failures.{status_of};
 use crate::at_end::AtEnd;
 use crate::failure::Failure;
 use clap::ArgMatches;
-use feature_questions::features_on;
+use feature_questions::{features_on_in, shared_question};
 use feature_reasons::{sourced_rules, write_entries, write_features, write_rules};
 use question_files::{FeatureQuestion, FileSource, feature_question, named_files};
 use std::alloc::Global;
@@ -23,10 +23,24 @@ pub(crate) fn print_features<'a, O: Write>(
     ensures { IfErr result (λ f. status_of f ≡ 1) }
 {
     let question = feature_question(alloc, named_files(asked), files)?;
-    let (record, choice, table) = (&question.record, &question.choice, &question.table);
-    let on = features_on(alloc, record, choice, table)?;
-    write_features(alloc, on.as_slice(), out)?;
+    print_features_of(alloc, &question, at_end, out)?;
     at_end.let_go(question);
+    Ok(())
+}
+
+fn print_features_of<'a, O: Write>(
+    alloc: Global,
+    question: &FeatureQuestion,
+    at_end: AtEnd,
+    out: &mut O,
+) -> Result<(), Failure<'a>>
+    ensures { IfErr result (λ f. status_of f ≡ 1) }
+{
+    let (choice, table) = (&question.choice, &question.table);
+    let checked = shared_question(alloc, &question.record, choice)?;
+    let on = features_on_in(alloc, &checked, choice, table)?;
+    write_features(alloc, on.as_slice(), out)?;
+    at_end.let_go(checked);
     Ok(())
 }
 
@@ -53,9 +67,9 @@ fn print_rules_of<'a, O: Write>(
 ) -> Result<(), Failure<'a>>
     ensures { IfErr result (λ f. status_of f ≡ 1) }
 {
-    let (record, choice, table) = (&question.record, &question.choice, &question.table);
-    features_on(alloc, record, choice, table)?;
-    let rules = sourced_rules(alloc, record, choice, table)?;
+    let (choice, table) = (&question.choice, &question.table);
+    shared_question(alloc, &question.record, choice)?;
+    let rules = sourced_rules(alloc, question.record.as_ref(), choice, table)?;
     write_rules(alloc, &rules, out)?;
     Ok(())
 }
@@ -69,8 +83,8 @@ pub(crate) fn print_entries<'a, O: Write>(
 ) -> Result<(), Failure<'a>>
     ensures { IfErr result (λ f. status_of f ≡ 1) }
 {
-    let (record, choice, table) = (&question.record, &question.choice, &question.table);
-    let rules = sourced_rules(alloc, record, choice, table)?;
+    let record = question.record.as_ref();
+    let rules = sourced_rules(alloc, record, &question.choice, &question.table)?;
     write_entries(alloc, &rules, entries, out)?;
     Ok(())
 }

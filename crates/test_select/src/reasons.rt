@@ -51,7 +51,8 @@ fn reason_of<'a>(
 ) -> Result<Reason<'a>, SelectError>
     ensures { ExplainsQuestion question.entry.now scope (map (λ t. t.now) texts.now) id.entry.now (option_map (λ t. t.now) test.entry) (shown lister.old) result (shown lister.new) }
 {
-    let (record, choice, table) = (&question.record, &question.choice, &question.table);
+    let record = question.record.as_ref();
+    let (choice, table) = (&question.choice, &question.table);
     why(alloc, record, choice, table, scope, texts, id, test, lister)
 }
 

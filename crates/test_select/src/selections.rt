@@ -12,7 +12,7 @@ use clap::ArgMatches;
 use question_files::{FeatureQuestion, FileSource, named_files};
 use question_filters::LinkScope;
 use record_checks::SelectError;
-use selection_making::{AskedBinaries, Selection, select, select_plain, write_report};
+use selection_making::{AskedBinaries, Selection, select_shared, write_report};
 use std::alloc::Global;
 use std::io::Write;
 use test_lister::TestLister;
@@ -53,10 +53,5 @@ fn selection_of(
     ensures { AnswersQuestion question.now scope (map (λ t. t.now) texts.now) asks (shown lister.old) result (shown lister.new) }
 {
     let (record, choice, table) = (&question.record, &question.choice, &question.table);
-    match asks {
-        AskedBinaries::LetThrough => select(alloc, record, choice, table, scope, texts, lister),
-        AskedBinaries::Available => select_plain(
-            alloc, record, choice, table, scope, texts, lister,
-        ),
-    }
+    select_shared(alloc, record, choice, table, scope, texts, asks, lister)
 }

@@ -21,7 +21,7 @@ pub(crate) fn tell_binaries(alloc: Global, record: &WorkspaceRecord, answers: &m
 
 fn add_line(binary: &TestBinary<'_>, answers: &mut Answers) {
     let (row, target) = (binary.row, binary.target);
-    answers.add(&binary.id);
+    answers.add(&binary.id.as_str());
     answers.part(" ", &row.name);
     answers.part(" ", &row.version);
     answers.part(" ", &target.name);

@@ -12,7 +12,7 @@ graph_of-requires c = subst (λ ids. AreKnownEnds ids c.args.links.now) (sym c.r
 
 pub returns : goal.returns
 returns c =
-    let packages = c.args.shared.now.packages.items in
+    let packages = c.args.shared.now.rows.value.packages in
     let links = c.args.links.now in
     let graph : c.in_ok-graph.graph ≡ record { nodes = length packages; links = map (link_between (ids_of packages)) links } =
     c.in_ok-graph.ensures ∙ ap (λ (ids : List Text). record { nodes = length ids; links = map (link_between ids) links }) c.requires.ids

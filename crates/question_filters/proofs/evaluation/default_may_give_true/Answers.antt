@@ -3,7 +3,7 @@ use Rattle.nextest_filter_evaluation.specs.Compiled.{compiled_of}
 use Rattle.nextest_filter_evaluation.specs.Meaning.{DefaultGives}
 use Rattle.nextest_filter_evaluation.proofs.KleeneFacts.{tells_alike}
 use Rattle.nextest_filter_evaluation.proofs.MeaningFacts.{gives_with_default}
-use Rattle.nextest_filter_queries.specs.Queries.{binary_of}
+use Rattle.nextest_binaries.specs.Queries.{binary_of}
 use Rattle.question_filters.proofs.KnownFacts.{known_may}
 use Rattle.question_filters.proofs.evaluation.default_may_give_true.Goals as goal
 

@@ -1,6 +1,6 @@
 use Rattle.std.proofs.Common.{◌↔◌, IfOk, IsTrue, subst, true}
 use Rattle.nextest_filter_evaluation.specs.Meaning.{DefaultGives}
-use Rattle.nextest_filter_queries.specs.Queries.{binary_of}
+use Rattle.nextest_binaries.specs.Queries.{binary_of}
 use Rattle.question_filters.proofs.evaluation.default_may_pass.Goals as goal
 
 pub returns : goal.returns

@@ -1,6 +1,6 @@
 use Rattle.std.proofs.Common.{true}
 use Rattle.nextest_filter_evaluation.specs.Meaning.{DefaultGives}
-use Rattle.nextest_filter_queries.specs.Queries.{binary_of}
+use Rattle.nextest_binaries.specs.Queries.{binary_of}
 use Rattle.question_filters.specs.QuestionFilters.{SomeMayPass, question_view}
 use Rattle.question_filters.proofs.SomeFacts.{both_if}
 use Rattle.question_filters.proofs.evaluation.may_pass.Goals as goal

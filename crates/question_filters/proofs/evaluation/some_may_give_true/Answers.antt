@@ -2,7 +2,7 @@ use Rattle.std.proofs.Common.{ap, map, true}
 use Rattle.nextest_filter_evaluation.specs.Compiled.{Leaf, compiled_of}
 use Rattle.nextest_filter_evaluation.specs.Formulas.{Formula, SomeAnswersGive}
 use Rattle.nextest_filter_evaluation.specs.Meaning.{MayBe}
-use Rattle.nextest_filter_queries.specs.Queries.{binary_of}
+use Rattle.nextest_binaries.specs.Queries.{binary_of}
 use Rattle.nextest_filtering.proofs.PickFacts.{one_less}
 use Rattle.question_filters.proofs.SomeFacts.{some_first, some_later}
 use Rattle.question_filters.proofs.evaluation.some_may_give_true.Goals as goal

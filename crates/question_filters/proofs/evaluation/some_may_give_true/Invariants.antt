@@ -1,6 +1,6 @@
 use Rattle.std.proofs.Common.{◌↔◌, drop, map}
 use Rattle.nextest_filter_evaluation.specs.Compiled.{compiled_of}
-use Rattle.nextest_filter_queries.specs.Queries.{binary_of}
+use Rattle.nextest_binaries.specs.Queries.{binary_of}
 use Rattle.question_filters.specs.QuestionFilters.{SomeMayPass}
 use Rattle.question_filters.proofs.evaluation.some_may_give_true.Given as goal
 

@@ -1,7 +1,7 @@
 use Rattle.std.proofs.Common.{◌↔◌, IfOk, IsTrue, List, map, subst}
 use Rattle.nextest_filter_evaluation.specs.Compiled.{compiled_of}
 use Rattle.nextest_filter_evaluation.specs.declared.compiled_expr.CompiledExpr.{CompiledExpr}
-use Rattle.nextest_filter_queries.specs.Queries.{binary_of}
+use Rattle.nextest_binaries.specs.Queries.{binary_of}
 use Rattle.question_filters.specs.QuestionFilters.{SomeMayPass, question_view}
 use Rattle.question_filters.proofs.evaluation.some_may_pass.Goals as goal
 

@@ -2,7 +2,7 @@ use Rattle.std.proofs.Common.{◌∙◌, ◌↔◌, IfOk, IsTrue, subst, sym, tr
 use Rattle.nextest_filter_evaluation.specs.Compiled.{compiled_of}
 use Rattle.nextest_filter_evaluation.specs.Meaning.{DefaultHolds}
 use Rattle.nextest_filter_evaluation.proofs.MeaningFacts.{says_alike, with_default}
-use Rattle.nextest_filter_queries.specs.Queries.{test_of}
+use Rattle.nextest_binaries.specs.Queries.{test_of}
 use Rattle.question_filters.proofs.holding.default_holds.Goals as goal
 
 pub returns : goal.returns

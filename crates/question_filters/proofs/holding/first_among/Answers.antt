@@ -2,7 +2,7 @@ use Rattle.std.proofs.Common.{◌∙◌, arith, length, map, sym, true≢false}
 use Rattle.std.proofs.lemmas.List.{length-map}
 use Rattle.nextest_filter_evaluation.specs.Compiled.{compiled_of}
 use Rattle.nextest_filter_evaluation.specs.Meaning.{Passes}
-use Rattle.nextest_filter_queries.specs.Queries.{test_of}
+use Rattle.nextest_binaries.specs.Queries.{test_of}
 use Rattle.nextest_filter_readiness.proofs.QuestionFacts.{found_here, found_later, found_none}
 use Rattle.question_filters.proofs.FirstFacts.{none_holds}
 use Rattle.record_checks.specs.CompiledViews.{filters_view}

@@ -1,7 +1,7 @@
 use Rattle.std.proofs.Common.{◌+◌, ℕ, drop, map}
 use Rattle.nextest_filter_evaluation.specs.Compiled.{compiled_of}
 use Rattle.nextest_filter_evaluation.specs.Meaning.{Passes}
-use Rattle.nextest_filter_queries.specs.Queries.{test_of}
+use Rattle.nextest_binaries.specs.Queries.{test_of}
 use Rattle.nextest_filter_readiness.specs.Questions.{IsFirst}
 use Rattle.record_checks.specs.CompiledViews.{filters_view}
 use Rattle.record_checks.specs.Groups.{IsGroupMember}

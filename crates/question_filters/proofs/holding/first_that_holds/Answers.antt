@@ -2,7 +2,7 @@ use Rattle.std.proofs.Common.{IfOk, List, map, subst}
 use Rattle.nextest_filter_evaluation.specs.Compiled.{compiled_of}
 use Rattle.nextest_filter_evaluation.specs.Meaning.{Passes}
 use Rattle.nextest_filter_evaluation.specs.declared.compiled_expr.CompiledExpr.{CompiledExpr}
-use Rattle.nextest_filter_queries.specs.Queries.{test_of}
+use Rattle.nextest_binaries.specs.Queries.{test_of}
 use Rattle.question_filters.specs.FirstTexts.{FindsFirst}
 use Rattle.question_filters.specs.QuestionFilters.{question_view}
 use Rattle.record_checks.specs.CompiledViews.{filters_view}

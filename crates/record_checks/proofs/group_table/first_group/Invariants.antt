@@ -2,7 +2,7 @@ use Rattle.std.proofs.Common.{drop, map}
 use Rattle.workspace_record.specs.Records.{Text}
 use Rattle.nextest_filter_evaluation.specs.Compiled.{compiled_of}
 use Rattle.nextest_filter_evaluation.specs.Meaning.{Passes}
-use Rattle.nextest_filter_queries.specs.Queries.{test_of}
+use Rattle.nextest_binaries.specs.Queries.{test_of}
 use Rattle.record_checks.specs.CompiledViews.{group_view}
 use Rattle.record_checks.specs.Groups.{IsGroupOf}
 use Rattle.record_checks.proofs.group_table.first_group.Given as goal

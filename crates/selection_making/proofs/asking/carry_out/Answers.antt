@@ -4,7 +4,7 @@ use Rattle.list_facts.specs.Texts.{texts, pair_of}
 use Rattle.workspace_record.specs.Records.{Text}
 use Rattle.record_rules.specs.Binaries.{Binary}
 use Rattle.record_rules.specs.BinaryView.{binary_view}
-use Rattle.record_rules.specs.declared.binaries.TestBinary.{TestBinary}
+use Rattle.record_rules.specs.declared.test_binary.TestBinary.{TestBinary}
 use Rattle.selection_making.specs.Choosing.{AreListed, ids_of}
 use Rattle.selection_making.specs.Plans.{PassesIn}
 use Rattle.question_filters.specs.QuestionFilters.{question_view}

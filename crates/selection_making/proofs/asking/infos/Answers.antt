@@ -1,6 +1,6 @@
 use Rattle.std.proofs.Common.{◌≡◌, map, subst, take_all}
 use Rattle.record_rules.specs.BinaryView.{binary_view}
-use Rattle.selection_making.specs.Told.{told_by, told_of}
+use Rattle.record_rules.specs.Told.{told_by, told_of}
 use Rattle.selection_making.proofs.ChoosingFacts.{ids_told}
 use Rattle.selection_making.proofs.asking.infos.Goals as goal
 

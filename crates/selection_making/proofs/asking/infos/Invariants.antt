@@ -1,6 +1,6 @@
 use Rattle.std.proofs.Common.{◌≡◌, map, take}
 use Rattle.record_rules.specs.BinaryView.{binary_view}
-use Rattle.selection_making.specs.Told.{told_by, told_of}
+use Rattle.record_rules.specs.Told.{told_by, told_of}
 use Rattle.selection_making.proofs.asking.infos.Given as goal
 
 abbrev pub invariant-loop-binary : goal.invariant-loop-binary

@@ -1,7 +1,7 @@
 use Rattle.std.proofs.Common.{◌≡◌, [], map, take}
 use Rattle.regex.specs.Strings.{matcher_pattern}
 use Rattle.list_facts.specs.Texts.{texts}
-use Rattle.nextest_filter_queries.specs.Queries.{Binary}
+use Rattle.nextest_binaries.specs.Queries.{Binary}
 use Rattle.nextest_filter_readiness.specs.Questions.{ready_view}
 use Rattle.selection_making.specs.Kept.{Adds}
 use Rattle.selection_making.specs.Passing.{IsPassing}

@@ -2,7 +2,7 @@ use Rattle.std.proofs.Common.{[], ◌∷◌, ap, map}
 use Rattle.std.proofs.lemmas.Result.{err_from_is_err_and}
 use Rattle.record_rules.specs.BinaryView.{binary_view}
 use Rattle.test_lister.proofs.Asking.{asked_nothing}
-use Rattle.selection_making.specs.Told.{Told}
+use Rattle.record_rules.specs.Told.{Told}
 use Rattle.selection_making.proofs.ListingFacts.{one_listing}
 use Rattle.selection_making.proofs.explaining.listing_of.Goals as goal
 
@@ -14,4 +14,4 @@ returns-in_err-id g c =
 pub returns-in-Ok : goal.returns-in-Ok
 returns-in-Ok g c =
     let id = (binary_view c.args.binary.now).id in
-    one_listing _ _ id (map (λ b. b.id.now) (c.info_of.result ∷ [])) c.in-Ok.listings.items c.swap_remove.result (ap (λ (t : Told). t.id ∷ []) c.info_of.ensures) c.swap_remove.ensures.value c.in-Ok.ensures
+    one_listing _ _ id (map (λ b. b.id.now) (c.info.result ∷ [])) c.in-Ok.listings.items c.swap_remove.result (ap (λ (t : Told). t.id ∷ []) c.info.ensures.told) c.swap_remove.ensures.value c.in-Ok.ensures

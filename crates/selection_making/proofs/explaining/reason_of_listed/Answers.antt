@@ -1,5 +1,5 @@
 use Rattle.std.proofs.Common.{Option, ℕ, subst}
-use Rattle.nextest_filter_queries.specs.Queries.{test_of}
+use Rattle.nextest_binaries.specs.Queries.{test_of}
 use Rattle.question_filters.specs.FirstTexts.{FindsFirst}
 use Rattle.question_filters.specs.QuestionFilters.{TextPasses, question_view}
 use Rattle.selection_making.proofs.ReasonFacts.{chosen_so}

@@ -1,4 +1,4 @@
-use Rattle.std.proofs.Common.{string_bytes, Contains, subst}
+use Rattle.std.proofs.Common.{Contains, subst}
 use Rattle.std.proofs.lemmas.List.Filters.{dedup_is}
 use Rattle.std.proofs.lemmas.List.Kept.{Contains-from_dedup}
 use Rattle.std.proofs.lemmas.List.Sorted.{Contains-permutation, IsPermutation-sym}
@@ -8,7 +8,7 @@ use Rattle.selection_making.proofs.plan.sorted_binaries.Goals as goal
 
 pub returns-clause-ascending : goal.returns-clause-ascending
 returns-clause-ascending c =
-    ascending_of_sort (λ b. string_bytes b.id) text_cmp text_total text_exact _ (λ a b. texts_tie (string_bytes a.id) (string_bytes b.id)) _ _ _ c.in_ok-sort.ensures.permutation c.in_ok-sort.ensures.sorted c.dedup.ensures.filtered
+    ascending_of_sort (λ b. b.id) text_cmp text_total text_exact _ (λ a b. texts_tie a.id b.id) _ _ _ c.in_ok-sort.ensures.permutation c.in_ok-sort.ensures.sorted c.dedup.ensures.filtered
 
 pub returns-clause-all_of_them : goal.returns-clause-all_of_them
 returns-clause-all_of_them c b h =

@@ -6,5 +6,5 @@ use Rattle.guppy_package_table.proofs.table.PackageTable.with_links.Goals as goa
 
 pub over-requires-clause-ends : goal.over-requires-clause-ends
 over-requires-clause-ends c =
-    let same = ap (λ (s : SharedRows). s.packages.items) c.in_ok-clone.ensures.cases ∙ ap (λ (t : TableValue). t.packages) c.self.view_is in
+    let same = ap (λ (s : SharedRows). s.rows.value.packages) c.in_ok-clone.ensures.cases ∙ ap (λ (t : TableValue). t.packages) c.self.view_is in
     subst (λ packages. AreKnownEnds (ids_of packages) c.args.links.items) (sym same) (ends_known c.args.self.now.packages c.args.links.items c.requires.kept.ends_known)

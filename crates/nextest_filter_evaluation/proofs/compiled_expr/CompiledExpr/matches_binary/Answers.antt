@@ -1,7 +1,7 @@
 use Rattle.nextest_filter_evaluation.specs.Meaning.{DefaultGives}
 use Rattle.nextest_filter_evaluation.specs.Kleene.{may_be}
 use Rattle.nextest_filter_evaluation.specs.Compiled.{compiled_of}
-use Rattle.nextest_filter_queries.specs.Queries.{binary_of}
+use Rattle.nextest_binaries.specs.Queries.{binary_of}
 use Rattle.nextest_filter_evaluation.proofs.KleeneFacts.{may_be_given}
 use Rattle.nextest_filter_evaluation.proofs.MeaningFacts.{gives_with_default, knows_alike, known_exactly}
 use Rattle.nextest_filter_evaluation.proofs.compiled_expr.CompiledExpr.matches_binary.Goals as goal

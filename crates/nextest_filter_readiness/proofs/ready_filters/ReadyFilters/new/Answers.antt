@@ -6,7 +6,7 @@ use Rattle.nextest_filter_evaluation.specs.Formulas.{has_leaf}
 use Rattle.nextest_filter_evaluation.specs.declared.compiled_expr.CompiledExpr.{CompiledExpr}
 use Rattle.nextest_filter_readiness.specs.Ready.{ready_of}
 use Rattle.nextest_filter_readiness.specs.declared.ready_expr.ReadyExpr.{ReadyExpr}
-use Rattle.nextest_filter_queries.specs.Queries.{binary_of}
+use Rattle.nextest_binaries.specs.Queries.{binary_of}
 use Rattle.nextest_filter_readiness.specs.Questions.{lent_of, ready_view}
 use Rattle.nextest_filter_readiness.proofs.QuestionFacts.{answers_either}
 use Rattle.nextest_filter_readiness.proofs.ready_filters.ReadyFilters.new.Goals as goal

@@ -1,8 +1,8 @@
 -- What a filter is asked about.
 use Rattle.workspace_record.specs.Records.{Text}
 use Rattle.nextest_binaries.specs.declared.build_platform.BuildPlatform.{BuildPlatform}
-use Rattle.nextest_filter_queries.specs.declared.queries.BinaryQuery.{BinaryQuery}
-use Rattle.nextest_filter_queries.specs.declared.queries.TestQuery.{TestQuery}
+use Rattle.nextest_binaries.specs.declared.queries.BinaryQuery.{BinaryQuery}
+use Rattle.nextest_binaries.specs.declared.queries.TestQuery.{TestQuery}
 
 -- a binary: its package's id, its own id, its target's name, its kind and its platform
 pub record Binary : Type 0 where

@@ -1,6 +1,6 @@
 -- What filters are asked about the tests of a record's binaries.
 use Rattle.workspace_record.specs.Records.{Text}
-use Rattle.nextest_filter_queries.specs.Queries as asked
+use Rattle.nextest_binaries.specs.Queries as asked
 use Rattle.record_rules.specs.Binaries.{Binary, kind_text, platform_of}
 
 -- a binary of the record, as filters are asked about it

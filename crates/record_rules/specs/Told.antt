@@ -2,7 +2,7 @@
 use Rattle.workspace_record.specs.Records.{Text}
 use Rattle.workspace_record.specs.declared.kinds.TargetKind.{TargetKind}
 use Rattle.nextest_binaries.specs.declared.build_platform.BuildPlatform.{BuildPlatform}
-use Rattle.test_lister.specs.declared.binary.BinaryInfo.{BinaryInfo}
+use Rattle.nextest_binaries.specs.declared.binary_info.BinaryInfo.{BinaryInfo}
 use Rattle.record_rules.specs.Binaries.{Binary, platform_of}
 
 -- a binary's id, its package's id, and its target's name, kind and platform

@@ -1,6 +1,6 @@
 //! What a lister is told of a binary.
 
-use nextest_binaries::BuildPlatform;
+use crate::build_platform::BuildPlatform;
 use workspace_record::TargetKind;
 
 /// A test binary, under an id of its own.

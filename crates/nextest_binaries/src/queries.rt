@@ -1,8 +1,8 @@
-use crate::binary_id::RustBinaryId;
 use crate::binary_kind::RustTestBinaryKind;
+use crate::build_platform::BuildPlatform;
+use crate::rust_binary_id::RustBinaryId;
 use crate::test_name::TestCaseName;
 use guppy_row_parts::PackageId;
-use nextest_filter_faults::BuildPlatform;
 
 /// A binary that a filter is asked about.
 #[derive(Clone, Copy, Debug, PartialEq, Eq)]

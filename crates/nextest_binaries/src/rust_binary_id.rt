@@ -1,5 +1,5 @@
+use crate::binary_ids::binary_id;
 use crate::binary_kind::RustTestBinaryKind;
-use nextest_binaries::binary_id;
 use std::alloc::{AllocError, Global};
 use std::marker::Model;
 

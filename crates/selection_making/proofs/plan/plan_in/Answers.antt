@@ -1,0 +1,25 @@
+use Rattle.std.proofs.Common.{Contains, map, subst}
+use Rattle.std.proofs.lemmas.Result.{err_from_is_err_and}
+use Rattle.record_rules.specs.BinaryView.{binary_view}
+use Rattle.question_filters.specs.QuestionFilters.{question_view}
+use Rattle.selection_making.specs.Kept.{AreThose}
+use Rattle.selection_making.specs.Plans.{MayMatch}
+use Rattle.selection_making.specs.Questions.{Question}
+use Rattle.selection_making.proofs.PlanFacts.{plan_err, plan_made}
+use Rattle.selection_making.proofs.plan.plan_in.Goals as goal
+
+pub returns-in_err-filters : goal.returns-in_err-filters
+returns-in_err-filters c =
+    let q : Question = record { workspace = c.args.checked; choice = c.args.choice.now; table = c.args.table.now; scope = c.args.scope; texts = map (λ t. t.now) c.args.texts.now; asks = c.args.asks } in
+    let p = err_from_is_err_and c.from_residual-in_err-filters.result c.from_residual-in_err-filters.ensures.1 in
+    rw (p.1, p.2) (plan_err q c.in_ok-on.on c.in_ok-on.ensures.on _ c.in_err-filters.ensures.filters)
+
+pub returns : goal.returns
+returns c =
+    let q : Question = record { workspace = c.args.checked; choice = c.args.choice.now; table = c.args.table.now; scope = c.args.scope; texts = map (λ t. t.now) c.args.texts.now; asks = c.args.asks } in
+    let on = c.in_ok-on.on in
+    let filters = question_view c.in_ok-filters.filters in
+    let f = c.in_ok-filters.ensures.filters in
+    let kept = c.in_ok-let_through.field-0.items in
+    let those = subst (λ bs. AreThose (MayMatch q.asks (λ f. Contains on f) filters) bs (map binary_view kept)) c.into_binaries-all.ensures.binaries c.in_ok-let_through.ensures in
+    plan_made q on c.in_ok-on.ensures.on filters f.0 f.1.0 (f.1.1, f.1.2) f.2 kept c.in_ok-asked.asked.items those c.in_ok-asked.ensures.ascending c.in_ok-asked.ensures.all_of_them
