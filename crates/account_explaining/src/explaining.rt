@@ -4,9 +4,9 @@ ghost use Rattle.std.specs.Prelude.{◌≡◌, ◌≢◌, ◌↔◌, [], false, 
 ghost use Rattle.feature_account.specs.Accounts.{concludes, IsSound};
 ghost use Rattle.feature_account.specs.Explanations.{IsExplanation, IsSublist};
 
-use feature_account::Rule;
 use feature_account::found::{contains, insert, insert_premises};
 use feature_account::soundness::rule_of;
+use feature_account::{LentFeature, LentRule, Rule, lend_rules};
 use indexmap::IndexSet;
 use std::alloc::{AllocError, Global};
 use workspace_record::Feature;
@@ -26,7 +26,8 @@ pub fn explanation_of(
     ensures explains { IfOk result (λ o. IfSome o (λ v. IsExplanation rules.now feature.now v.items)) }
     ensures in_order { IfOk result (λ o. IfSome o (λ v. IsSublist v.items account.now)) }
 {
-    let entries = needed_entries(alloc, rules, account, feature)?;
+    let lent = lend_rules(alloc, rules)?;
+    let entries = needed_entries(alloc, &lent, account, &LentFeature::of(feature))?;
     if entries.is_empty() {
         return Ok(None);
     }
@@ -36,23 +37,23 @@ pub fn explanation_of(
 // Goes from the end, and takes each entry whose conclusion is the goal or a premise of one taken.
 fn needed_entries(
     alloc: Global,
-    rules: &[Rule],
+    rules: &[LentRule<'_>],
     account: &[usize],
-    goal: &Feature,
+    goal: &LentFeature<'_>,
 ) -> Result<Vec<usize>, AllocError>
     requires sound { IsSound rules.now account.now }
     ensures none { IfOk result (λ v. v.items ≡ [] → concludes rules.now account.now goal.now ≡ false) }
     ensures explains { IfOk result (λ v. v.items ≢ [] → IsExplanation rules.now goal.now v.items) }
     ensures in_order { IfOk result (λ v. IsSublist v.items account.now) }
 {
-    let mut needed: IndexSet<&Feature> = IndexSet::new(alloc);
+    let mut needed: IndexSet<&LentFeature<'_>> = IndexSet::new(alloc);
     insert(&mut needed, goal)?;
     let mut entries = Vec::new(alloc);
     for place in (0..account.len()).rev() {
         let rule = rule_of(rules, account[place]);
-        if contains(&needed, &rule.conclusion) {
+        if contains(&needed, rule.conclusion()) {
             entries.push(account[place])?;
-            insert_premises(&mut needed, &rule.premises)?;
+            insert_premises(&mut needed, rule.premises())?;
         }
     }
     entries.reverse();

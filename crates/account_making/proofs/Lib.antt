@@ -1,4 +1,5 @@
 pub mod Concluding
+pub mod FoundFacts
 pub mod LowestFacts
 pub mod ReadyFacts
 pub mod SearchFacts

@@ -10,6 +10,8 @@ use Rattle.std.proofs.lemmas.Option.{slice_get_within}
 use Rattle.std.specs.Map.{lookup}
 use Rattle.indexmap.specs.IndexMap.{IndexMap, Updates, get}
 use Rattle.workspace_record.specs.Features.{FeatureValue, feature_eq, features_decide}
+use Rattle.feature_account.specs.LentPremises.{lent_premises_view}
+use Rattle.feature_account.specs.declared.lent_rule.LentPremises.{LentPremises}
 use Rattle.feature_account.specs.declared.rule.Rule.{Rule}
 use Rattle.feature_account.proofs.FoundFacts.{lent, lent_eq, same_either_way}
 use Rattle.account_making.specs.Waiting.{is_premise, waiting_at, IsWaiting}
@@ -73,6 +75,10 @@ waits_all rules m count le ge all = record {
   known = λ n f h. let lt = all.known n f h in omega (arith, lt, ge);
   few = λ f. let most = all.few f in omega (arith, most, ge);
 }
+
+-- the premises that were looked at are the rule's
+pub rule_waits : {S : Type 0} (rule : Rule) (p : LentPremises) → lent_premises_view p ≡ rule.premises → (m0 m1 : IndexMap (Bor FeatureValue) (Vec ℕ Global) S) (i : ℕ) → ((f : FeatureValue) → waiting_at m1 f ≡ waiting_at m0 f ++ cond (is_premise (lent_premises_view p) f) (i ∷ []) []) → (f : FeatureValue) → waiting_at m1 f ≡ waiting_at m0 f ++ cond (is_premise rule.premises f) (i ∷ []) []
+rule_waits rule p same m0 m1 i added f = added f ∙ ap (λ q. waiting_at m0 f ++ cond (is_premise q f) (i ∷ []) []) same
 
 -- one rule more
 module _ {S : Type 0} (rules : List Rule) (m0 m1 : IndexMap (Bor FeatureValue) (Vec ℕ Global) S) (i : ℕ) (rule : Rule) (before : WaitsBelow rules i m0) (stands : slice_get rules i ≡ Some rule) (added : (f : FeatureValue) → waiting_at m1 f ≡ waiting_at m0 f ++ cond (is_premise rule.premises f) (i ∷ []) []) where

@@ -11,6 +11,6 @@ mod write_account_error;
 mod writing;
 
 pub use crate::account::Account;
-pub use crate::making::account_of;
+pub use crate::making::{account_of, account_of_lent};
 pub use crate::write_account_error::WriteAccountError;
 pub use crate::writing::{push_numbers, write_account};

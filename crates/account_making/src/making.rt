@@ -9,11 +9,10 @@ ghost use Rattle.account_making.specs.Lowest.{IsLowestAccount, IsLooksOf};
 use crate::account::Account;
 use crate::ready::Ready;
 use crate::waiting::waiting_rules;
-use feature_account::Rule;
 use feature_account::found::{insert, is_open};
+use feature_account::{LentFeature, LentRule, Rule, lend_rules};
 use indexmap::IndexSet;
 use std::alloc::{AllocError, Global};
-use workspace_record::Feature;
 
 /// The account that lists at each place the lowest rule that may stand there, until none may.
 ///
@@ -24,18 +23,29 @@ pub fn account_of(alloc: Global, rules: &[Rule]) -> Result<Account, AllocError>
     ensures on { IfOk result (λ a. (f : FeatureValue) → IsTrue (concludes rules.now a.rules.items f) ↔ IsOn rules.now f) }
     ensures looks { IfOk result (λ a. IsLooksOf rules.now a.rules.items a.looks) }
 {
+    let lent = lend_rules(alloc, rules)?;
+    account_of_lent(alloc, &lent)
+}
+
+/// The same of rules whose texts are lent.
+pub fn account_of_lent(alloc: Global, rules: &[LentRule<'_>]) -> Result<Account, AllocError>
+    ensures lowest { IfOk result (λ a. IsLowestAccount rules.now a.rules.items) }
+    ensures on { IfOk result (λ a. (f : FeatureValue) → IsTrue (concludes rules.now a.rules.items f) ↔ IsOn rules.now f) }
+    ensures looks { IfOk result (λ a. IsLooksOf rules.now a.rules.items a.looks) }
+{
     let waiting = waiting_rules(alloc, rules)?;
     let mut ready = Ready::each(alloc, rules.len());
-    let mut found: IndexSet<&Feature> = IndexSet::new(alloc);
+    let mut found: IndexSet<&LentFeature<'_>> = IndexSet::new(alloc);
     let mut account = Vec::new(alloc);
     let mut looks = 0;
     while let Some(number) = ready.take_least() {
         looks += 1;
         let rule = &rules[number];
         if is_open(&found, rule) {
-            insert(&mut found, &rule.conclusion)?;
+            let conclusion = rule.conclusion();
+            insert(&mut found, conclusion)?;
             account.push(number)?;
-            ready.wake(&waiting, &rule.conclusion)?;
+            ready.wake(&waiting, conclusion)?;
         }
     }
     Ok(Account {

@@ -3,10 +3,10 @@
 ghost use Rattle.std.specs.Prelude.{◌≡◌, ◌<◌, ◌∷◌, [], ℕ, true, All, OnOk, IfSome, IfNone};
 ghost use Rattle.account_making.specs.Waiting.{waiting_at, size, IsEach, IsReady, IsTakenLeast, IsWith};
 
+use feature_account::LentFeature;
 use indexmap::IndexMap;
 use std::alloc::{AllocError, Global};
 use std::collections::BTreeSet;
-use workspace_record::Feature;
 
 /// Those from `next` on, none of which was ever looked at, and those before it that were woken since.
 #[derive(Drop)]
@@ -57,10 +57,10 @@ impl Ready {
     }
 
     /// Has the rules that wait for the feature looked at again.
-    pub(crate) fn wake<'a>(
+    pub(crate) fn wake<'r, 'a>(
         &mut self,
-        waiting: &IndexMap<&'a Feature, Vec<usize>>,
-        feature: &'a Feature,
+        waiting: &IndexMap<&'r LentFeature<'a>, Vec<usize>>,
+        feature: &'r LentFeature<'a>,
     ) -> Result<(), AllocError>
         requires ready { IsReady self.old }
         requires known { All (λ n. n < self.old.count) (waiting_at waiting.now feature.now) }

@@ -2,47 +2,47 @@
 
 ghost use Rattle.std.specs.Prelude.{◌≡◌, [], ◌∷◌, ◌++◌, OnOk, IfOk, ◌||◌, if◌then◌else◌};
 ghost use Rattle.workspace_record.specs.Features.{FeatureValue, feature_eq};
+ghost use Rattle.feature_account.specs.LentPremises.{lent_premises_view};
 ghost use Rattle.account_making.specs.Waiting.{is_premise, waiting_at, IsWaiting};
 
-use feature_account::{Premises, Rule};
+use feature_account::{LentFeature, LentPremises, LentRule};
 use indexmap::IndexMap;
 use std::alloc::{AllocError, Global};
-use workspace_record::Feature;
 
 /// The numbers of the rules that wait for a feature, found by the feature.
-pub(crate) fn waiting_rules<'a>(
+pub(crate) fn waiting_rules<'r, 'a>(
     alloc: Global,
-    rules: &'a [Rule],
-) -> Result<IndexMap<&'a Feature, Vec<usize>>, AllocError>
+    rules: &'r [LentRule<'a>],
+) -> Result<IndexMap<&'r LentFeature<'a>, Vec<usize>>, AllocError>
     ensures { IfOk result (IsWaiting rules.entry.now) }
 {
     let mut waiting = IndexMap::new(alloc);
     for (number, rule) in rules.iter().enumerate() {
-        add_premises(alloc, &mut waiting, &rule.premises, number)?;
+        add_premises(alloc, &mut waiting, rule.premises(), number)?;
     }
     Ok(waiting)
 }
 
-fn add_premises<'a>(
+fn add_premises<'r, 'a>(
     alloc: Global,
-    waiting: &mut IndexMap<&'a Feature, Vec<usize>>,
-    premises: &'a Premises,
+    waiting: &mut IndexMap<&'r LentFeature<'a>, Vec<usize>>,
+    premises: &'r LentPremises<'a>,
     number: usize,
 ) -> Result<(), AllocError>
-    ensures { OnOk result ((f : FeatureValue) → waiting_at waiting.new f ≡ waiting_at waiting.old f ++ (if is_premise premises.entry.now f then number ∷ [] else [])) }
+    ensures { OnOk result ((f : FeatureValue) → waiting_at waiting.new f ≡ waiting_at waiting.old f ++ (if is_premise (lent_premises_view premises.entry.now) f then number ∷ [] else [])) }
 {
     match premises {
-        Premises::None => Ok(()),
-        Premises::One(a) => add_number(alloc, waiting, a, number),
-        Premises::Two(a, b) => add_two(alloc, waiting, a, b, number),
+        LentPremises::None => Ok(()),
+        LentPremises::One(a) => add_number(alloc, waiting, a, number),
+        LentPremises::Two(a, b) => add_two(alloc, waiting, a, b, number),
     }
 }
 
-fn add_two<'a>(
+fn add_two<'r, 'a>(
     alloc: Global,
-    waiting: &mut IndexMap<&'a Feature, Vec<usize>>,
-    first: &'a Feature,
-    second: &'a Feature,
+    waiting: &mut IndexMap<&'r LentFeature<'a>, Vec<usize>>,
+    first: &'r LentFeature<'a>,
+    second: &'r LentFeature<'a>,
     number: usize,
 ) -> Result<(), AllocError>
     ensures { OnOk result ((f : FeatureValue) → waiting_at waiting.new f ≡ waiting_at waiting.old f ++ (if feature_eq f first.entry.now || feature_eq f second.entry.now then number ∷ [] else [])) }
@@ -53,10 +53,10 @@ fn add_two<'a>(
     add_number(alloc, waiting, second, number)
 }
 
-fn add_number<'a>(
+fn add_number<'r, 'a>(
     alloc: Global,
-    waiting: &mut IndexMap<&'a Feature, Vec<usize>>,
-    feature: &'a Feature,
+    waiting: &mut IndexMap<&'r LentFeature<'a>, Vec<usize>>,
+    feature: &'r LentFeature<'a>,
     number: usize,
 ) -> Result<(), AllocError>
     ensures { OnOk result ((f : FeatureValue) → waiting_at waiting.new f ≡ waiting_at waiting.old f ++ (if feature_eq f feature.entry.now then number ∷ [] else [])) }

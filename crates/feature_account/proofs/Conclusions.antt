@@ -1,5 +1,5 @@
 -- What lists of entries conclude.
-use Rattle.std.proofs.Common.{◌≡◌, ℕ, ⊎_elim, true, false, ◌||◌, List, [], ◌∷◌, ◌++◌, Some, append_assoc, refl, sym, ◌∙◌, ap, subst, slice_get, true≢false}
+use Rattle.std.proofs.Common.{◌≡◌, ℕ, ⊎_elim, true, ◌||◌, List, [], ◌∷◌, ◌++◌, Some, refl, sym, ◌∙◌, ap, subst, slice_get, true≢false}
 use Rattle.std.specs.List.{cons_option}
 use Rattle.std.specs.Option.{option_map}
 use Rattle.std.proofs.lemmas.Bool.{or_cases, or_left, or_right}

@@ -1,12 +1,9 @@
 -- Why no entry of an explanation can be dropped.
-use Rattle.std.proofs.Common.{◌≡◌, ℕ, ⊎_elim, true, false, ◌||◌, List, [], ◌∷◌, ◌++◌, Some, append-nil, append_assoc, refl, sym, ◌∙◌, ap, subst, slice_get, true≢false}
-use Rattle.std.specs.List.{cons_option}
+use Rattle.std.proofs.Common.{◌≡◌, ℕ, ⊎_elim, true, false, List, [], ◌∷◌, ◌++◌, Some, append-nil, append_assoc, refl, sym, ◌∙◌, ap, subst, true≢false}
 use Rattle.std.specs.Option.{option_map}
 use Rattle.std.proofs.lemmas.Bool.{and_parts, or_cases, or_left, or_right}
-use Rattle.std.proofs.lemmas.List.Elements.{filter_map-append}
-use Rattle.std.proofs.lemmas.List.Folds.{list_any-append}
 use Rattle.workspace_record.specs.Features.{FeatureValue, feature_eq, features_decide}
-use Rattle.feature_account.specs.Accounts.{conclusions, concluded_set, concludes, IsSoundAfter}
+use Rattle.feature_account.specs.Accounts.{concludes, IsSoundAfter}
 use Rattle.feature_account.specs.Closed.{FeatureSet, has_premises, is_premise}
 use Rattle.feature_account.specs.Explanations.{EndsIn, needs, EachIsUsed, IsExplanation, IsSublist}
 use Rattle.feature_account.specs.declared.rule.Premises.{Premises}

@@ -7,7 +7,7 @@ use Rattle.workspace_record.specs.Records.{Text, Package, Link, Workspace}
 use Rattle.workspace_record.specs.declared.choice.PlatformTable.{PlatformTable}
 use Rattle.record_index.specs.LinkNames.{links_named}
 use Rattle.feature_account.specs.Lines.{counting_lines}
-use Rattle.feature_account.specs.RuleList.{is_slash_link, slash_lines, strong_targets, target_has, named_of, weak_rule, weak_rules}
+use Rattle.feature_account.specs.RuleList.{slash_lines, strong_targets, target_has, named_of, weak_rule, weak_rules}
 
 -- elements that give nothing may be left out
 flat_map_kept : {X Y : Type 0} (p : X → Bool) (f : X → List Y) → ((x : X) → p x ≡ false → f x ≡ []) → (xs : List X) → flat_map f (filter p xs) ≡ flat_map f xs

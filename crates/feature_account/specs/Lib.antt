@@ -10,3 +10,5 @@ pub mod IsEntry
 pub mod IsRule
 pub mod Laws
 pub mod VerdictTexts
+pub mod LentLabels
+pub mod LentPremises

@@ -8,13 +8,15 @@ ghost use Rattle.feature_account.specs.Accounts.{IsFirstOpen, IsValidAccount, Is
 ghost use Rattle.feature_account.specs.RuleList.{rule_list};
 
 use crate::found::is_open;
-use crate::rule::Rule;
-use crate::rule_list::rules;
+use crate::lent_feature::LentFeature;
+use crate::lent_rule::LentRule;
+use crate::rule_list::lent_rules;
 use crate::soundness::first_fault;
 use crate::verdict::Verdict;
 use indexmap::IndexSet;
+use record_index::RecordIndex;
 use std::alloc::{AllocError, Global};
-use workspace_record::{Feature, FeatureChoice, PlatformTable, WorkspaceRecord};
+use workspace_record::{FeatureChoice, PlatformTable, WorkspaceRecord};
 
 /// Whether a list of rule numbers accounts for what is on: each rule is known, each conclusion is new,
 /// each premise is concluded earlier, and what is concluded is closed under the rules. Else the first
@@ -33,12 +35,16 @@ pub fn check_account(
     ensures accepted { IfOk result (λ v. (v ≡ Verdict.Accepted)
         ↔ IsValidAccount (rule_list record.now choice.now table.now) account.now) }
 {
-    let rules = rules(alloc, record, choice, table)?;
+    let index = RecordIndex::of(alloc, record)?;
+    let rules = lent_rules(alloc, &index, choice, table)?;
     verdict_of(alloc, &rules, account)
 }
 
 // The lowest rule that is open, if there is one.
-fn first_open<'a>(rules: &'a [Rule], concluded: &IndexSet<&'a Feature>) -> Option<usize>
+fn first_open<'r, 'a>(
+    rules: &'r [LentRule<'a>],
+    concluded: &IndexSet<&'r LentFeature<'a>>,
+) -> Option<usize>
     ensures none { IfNone result (IsClosed rules.entry.now (found_set concluded.now)) }
     ensures first { IfSome result (IsFirstOpen rules.entry.now (found_set concluded.now)) }
 {
@@ -50,7 +56,11 @@ fn first_open<'a>(rules: &'a [Rule], concluded: &IndexSet<&'a Feature>) -> Optio
     None
 }
 
-fn verdict_of(alloc: Global, rules: &[Rule], account: &[usize]) -> Result<Verdict, AllocError>
+fn verdict_of(
+    alloc: Global,
+    rules: &[LentRule<'_>],
+    account: &[usize],
+) -> Result<Verdict, AllocError>
     ensures { IfOk result (IsVerdict rules.now account.now) }
 {
     let mut concluded = IndexSet::new(alloc);

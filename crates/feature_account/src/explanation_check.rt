@@ -6,11 +6,13 @@ ghost use Rattle.feature_account.specs.Explanations.{EachIsUsed, EndsIn, IsExpla
 ghost use Rattle.feature_account.specs.RuleList.{rule_list};
 
 use crate::found::{contains, insert_premises};
-use crate::rule::Rule;
-use crate::rule_list::rules;
+use crate::lent_feature::LentFeature;
+use crate::lent_rule::LentRule;
+use crate::rule_list::lent_rules;
 use crate::soundness::{first_fault, rule_of};
 use crate::verdict::Verdict;
 use indexmap::IndexSet;
+use record_index::RecordIndex;
 use std::alloc::{AllocError, Global};
 use workspace_record::{Feature, FeatureChoice, PlatformTable, WorkspaceRecord};
 
@@ -33,13 +35,14 @@ pub fn check_explanation(
     ensures accepted { IfOk result (λ v. (v ≡ Verdict.Accepted)
         ↔ IsExplanation (rule_list record.now choice.now table.now) feature.now explanation.now) }
 {
-    let rules = rules(alloc, record, choice, table)?;
+    let index = RecordIndex::of(alloc, record)?;
+    let rules = lent_rules(alloc, &index, choice, table)?;
     verdict_of(alloc, &rules, feature, explanation)
 }
 
 fn verdict_of(
     alloc: Global,
-    rules: &[Rule],
+    rules: &[LentRule<'_>],
     goal: &Feature,
     entries: &[usize],
 ) -> Result<Verdict, AllocError>
@@ -55,7 +58,7 @@ fn verdict_of(
 // Of entries that may all stand: whether the last concludes the goal, and the others are used.
 fn verdict_on_use(
     alloc: Global,
-    rules: &[Rule],
+    rules: &[LentRule<'_>],
     goal: &Feature,
     entries: &[usize],
 ) -> Result<Verdict, AllocError>
@@ -72,14 +75,14 @@ fn verdict_on_use(
 }
 
 // Whether the last entry concludes the goal.
-fn ends_in(rules: &[Rule], goal: &Feature, entries: &[usize]) -> bool
+fn ends_in(rules: &[LentRule<'_>], goal: &Feature, entries: &[usize]) -> bool
     ensures { IsTrue result ↔ EndsIn rules.now goal.now entries.now }
 {
     match entries.split_last() {
         None => false,
         Some((number, _)) => match rules.get(*number) {
             None => false,
-            Some(rule) => rule.conclusion == *goal,
+            Some(rule) => *rule.conclusion() == LentFeature::of(goal),
         },
     }
 }
@@ -88,20 +91,20 @@ fn ends_in(rules: &[Rule], goal: &Feature, entries: &[usize]) -> bool
 // that is found on the way from the end.
 fn first_unused(
     alloc: Global,
-    rules: &[Rule],
+    rules: &[LentRule<'_>],
     entries: &[usize],
 ) -> Result<Option<usize>, AllocError>
     requires { IsSound rules.now entries.now }
     ensures { IfOk result (λ o. MatchOption o (EachIsUsed rules.now entries.now) (IsFirstUnused rules.now entries.now)) }
 {
-    let mut needed: IndexSet<&Feature> = IndexSet::new(alloc);
+    let mut needed: IndexSet<&LentFeature<'_>> = IndexSet::new(alloc);
     let mut unused = None;
     for place in (0..entries.len()).rev() {
         let rule = rule_of(rules, entries[place]);
-        if place + 1 < entries.len() && !contains(&needed, &rule.conclusion) {
+        if place + 1 < entries.len() && !contains(&needed, rule.conclusion()) {
             unused = Some(place);
         }
-        insert_premises(&mut needed, &rule.premises)?;
+        insert_premises(&mut needed, rule.premises())?;
     }
     Ok(unused)
 }

@@ -7,6 +7,8 @@ mod entry;
 mod explanation_check;
 pub mod found;
 pub mod laws;
+mod lent_feature;
+mod lent_rule;
 pub mod lines;
 mod own_features;
 pub mod parts;
@@ -17,9 +19,11 @@ mod verdict;
 
 pub use crate::account_check::check_account;
 pub use crate::explanation_check::check_explanation;
+pub use crate::lent_feature::LentFeature;
+pub use crate::lent_rule::{LentPremises, LentRule, lend_rules};
 pub use crate::own_features::chosen_features;
 pub use crate::rule::{Premises, Rule};
-pub use crate::rule_list::{rules, rules_in};
+pub use crate::rule_list::{lent_rules, rules, rules_in};
 pub use crate::verdict::Verdict;
 pub use workspace_record::{
     Feature, FeatureChoice, FeatureRecord, GroupRecord, Label, LineKind, LineRecord, LinkRecord,

@@ -4,6 +4,7 @@ ghost use Rattle.std.specs.Prelude.{◌≡◌, ◌++◌, OnOk, IfOk, map, string
 ghost use Rattle.std.specs.List.{flat_map};
 ghost use Rattle.feature_account.specs.RuleList.{named_of, dep_of, own_features, default_features, standard_features, member_features, chosen_features};
 
+use crate::lent_feature::{LentFeature, copies_of};
 use record_index::{PackageIndex, RecordIndex};
 use std::alloc::{AllocError, Global};
 use workspace_record::{
@@ -13,124 +14,119 @@ use workspace_record::{
 /// The feature that Cargo switches on by default.
 pub(crate) const DEFAULT: &str = "default";
 
-pub(crate) fn own_features(alloc: Global, row: &PackageRecord) -> Result<Vec<Feature>, AllocError>
-    ensures { IfOk result (λ v. v.items ≡ own_features row.now) }
+pub(crate) fn own_features<'a>(
+    alloc: Global,
+    row: &'a PackageRecord,
+) -> Result<Vec<LentFeature<'a>>, AllocError>
+    ensures { IfOk result (λ v. v.items ≡ own_features row.entry.now) }
 {
     let mut features = Vec::new(alloc);
-    push_own_features(alloc, row, &mut features)?;
+    push_own_features(row, &mut features)?;
     Ok(features)
 }
 
-fn push_own_features(
-    alloc: Global,
-    row: &PackageRecord,
-    features: &mut Vec<Feature>,
+fn push_own_features<'a>(
+    row: &'a PackageRecord,
+    features: &mut Vec<LentFeature<'a>>,
 ) -> Result<(), AllocError>
-    ensures { OnOk result (features.new.items ≡ features.old.items ++ own_features row.now) }
+    ensures { OnOk result (features.new.items ≡ features.old.items ++ own_features row.entry.now) }
 {
-    push_named(alloc, row.id.as_str(), &row.features, features)?;
-    push_dependencies(alloc, row.id.as_str(), &row.optional, features)?;
+    push_named(row.id.as_str(), &row.features, features)?;
+    push_dependencies(row.id.as_str(), &row.optional, features)?;
     Ok(())
 }
 
-fn push_named(
-    alloc: Global,
-    id: &str,
-    named: &[FeatureRecord],
-    features: &mut Vec<Feature>,
+fn push_named<'a>(
+    id: &'a str,
+    named: &'a [FeatureRecord],
+    features: &mut Vec<LentFeature<'a>>,
 ) -> Result<(), AllocError>
-    ensures { OnOk result (features.new.items ≡ features.old.items ++ map (λ f. named_of id.now f.name) named.now) }
+    ensures { OnOk result (features.new.items ≡ features.old.items ++ map (λ f. named_of id.entry.now f.name) named.entry.now) }
 {
     for feature in named {
-        features.push(Feature::named(alloc, id, feature.name.as_str())?)?;
+        features.push(LentFeature::named(id, feature.name.as_str()))?;
     }
     Ok(())
 }
 
-fn push_dependencies(
-    alloc: Global,
-    id: &str,
-    names: &[String],
-    features: &mut Vec<Feature>,
+fn push_dependencies<'a>(
+    id: &'a str,
+    names: &'a [String],
+    features: &mut Vec<LentFeature<'a>>,
 ) -> Result<(), AllocError>
-    ensures { OnOk result (features.new.items ≡ features.old.items ++ map (dep_of id.now) (map string_bytes names.now)) }
+    ensures { OnOk result (features.new.items ≡ features.old.items ++ map (dep_of id.entry.now) (map string_bytes names.entry.now)) }
 {
     for name in names {
-        features.push(Feature::dep(alloc, id, name.as_str())?)?;
+        features.push(LentFeature::dep(id, name.as_str()))?;
     }
     Ok(())
 }
 
-fn push_default(
-    alloc: Global,
-    owner: &PackageIndex<'_>,
-    features: &mut Vec<Feature>,
+fn push_default<'a>(
+    owner: &PackageIndex<'a>,
+    features: &mut Vec<LentFeature<'a>>,
 ) -> Result<(), AllocError>
     ensures { OnOk result (features.new.items ≡ features.old.items ++ default_features owner.now) }
 {
     if owner.has_feature(DEFAULT) {
         let row = owner.row();
-        features.push(Feature::named(alloc, row.id.as_str(), DEFAULT)?)?;
+        features.push(LentFeature::named(row.id.as_str(), DEFAULT))?;
     }
     Ok(())
 }
 
-fn push_standard(
-    alloc: Global,
+fn push_standard<'a>(
     standard: Standard,
-    owner: &PackageIndex<'_>,
-    features: &mut Vec<Feature>,
+    owner: &PackageIndex<'a>,
+    features: &mut Vec<LentFeature<'a>>,
 ) -> Result<(), AllocError>
     ensures { OnOk result (features.new.items ≡ features.old.items ++ standard_features standard owner.now) }
 {
     match standard {
         Standard::None => Ok(()),
-        Standard::Default => push_default(alloc, owner, features),
-        Standard::All => push_own_features(alloc, owner.row(), features),
+        Standard::Default => push_default(owner, features),
+        Standard::All => push_own_features(owner.row(), features),
     }
 }
 
-fn push_member_features(
-    alloc: Global,
+fn push_member_features<'a>(
     index: &RecordIndex<'_>,
     standard: Standard,
-    owner: &PackageIndex<'_>,
-    features: &mut Vec<Feature>,
+    owner: &PackageIndex<'a>,
+    features: &mut Vec<LentFeature<'a>>,
 ) -> Result<(), AllocError>
     ensures { OnOk result (features.new.items ≡ features.old.items ++ member_features index.now standard owner.now) }
 {
     let row = owner.row();
     if index.is_member(row.id.as_str()) {
-        features.push(Feature::base(alloc, row.id.as_str())?)?;
-        push_standard(alloc, standard, owner, features)?;
+        features.push(LentFeature::base(row.id.as_str()))?;
+        push_standard(standard, owner, features)?;
     }
     Ok(())
 }
 
-fn push_members_features(
-    alloc: Global,
+fn push_members_features<'a>(
     index: &RecordIndex<'_>,
     standard: Standard,
-    packages: &[PackageIndex<'_>],
-    features: &mut Vec<Feature>,
+    packages: &[PackageIndex<'a>],
+    features: &mut Vec<LentFeature<'a>>,
 ) -> Result<(), AllocError>
     ensures { OnOk result (features.new.items ≡ features.old.items ++ flat_map (member_features index.now standard) packages.now) }
 {
     for owner in packages {
-        push_member_features(alloc, index, standard, owner, features)?;
+        push_member_features(index, standard, owner, features)?;
     }
     Ok(())
 }
 
-fn push_extras(
-    alloc: Global,
-    extras: &[Feature],
-    features: &mut Vec<Feature>,
+fn push_extras<'a>(
+    extras: &'a [Feature],
+    features: &mut Vec<LentFeature<'a>>,
 ) -> Result<(), AllocError>
-    ensures { OnOk result (features.new.items ≡ features.old.items ++ extras.now) }
+    ensures { OnOk result (features.new.items ≡ features.old.items ++ extras.entry.now) }
 {
     for extra in extras {
-        features.push(extra.copy(alloc)?)?;
+        features.push(LentFeature::of(extra))?;
     }
     Ok(())
 }
@@ -145,25 +141,20 @@ pub fn chosen_features(
     ensures chosen { IfOk result (λ v. v.items ≡ chosen_features record.now choice.now) }
 {
     let index = RecordIndex::of(alloc, record)?;
-    chosen_by(alloc, &index, choice)
+    let chosen = chosen_by(alloc, &index, choice)?;
+    copies_of(alloc, &chosen)
 }
 
 /// The same, where the record is found by its index.
-pub(crate) fn chosen_by(
+pub(crate) fn chosen_by<'a>(
     alloc: Global,
-    index: &RecordIndex<'_>,
-    choice: &FeatureChoice,
-) -> Result<Vec<Feature>, AllocError>
-    ensures { IfOk result (λ v. v.items ≡ chosen_features index.now choice.now) }
+    index: &RecordIndex<'a>,
+    choice: &'a FeatureChoice,
+) -> Result<Vec<LentFeature<'a>>, AllocError>
+    ensures { IfOk result (λ v. v.items ≡ chosen_features index.now choice.entry.now) }
 {
     let mut features = Vec::new(alloc);
-    push_members_features(
-        alloc,
-        index,
-        choice.standard,
-        index.packages(),
-        &mut features,
-    )?;
-    push_extras(alloc, &choice.extras, &mut features)?;
+    push_members_features(index, choice.standard, index.packages(), &mut features)?;
+    push_extras(&choice.extras, &mut features)?;
     Ok(features)
 }

@@ -6,6 +6,8 @@ ghost use Rattle.feature_account.specs.Entries.{entry_value};
 ghost use Rattle.feature_account.specs.RuleList.{base_rules, given, link_rules, named_of, rules_of_entry};
 
 use crate::entry::entry_of;
+use crate::lent_feature::LentFeature;
+use crate::lent_rule::copies_of;
 use crate::rule::{Premises, Rule};
 use crate::rule_list::{push_base_rules, push_link_rules, push_rules_of_entry};
 use record_index::{PackageIndex, RecordIndex};
@@ -28,7 +30,7 @@ pub fn package_rules(alloc: Global, row: &PackageRecord) -> Result<Vec<Rule>, Al
 {
     let mut rules = Vec::new(alloc);
     push_base_rules(alloc, row, &mut rules)?;
-    Ok(rules)
+    copies_of(alloc, &rules)
 }
 
 /// The rules of an entry of a feature of the package.
@@ -37,13 +39,13 @@ pub fn entry_rules<'a>(
     index: &RecordIndex<'a>,
     table: &PlatformTable,
     owner: &PackageIndex<'a>,
-    feature: &FeatureRecord,
+    feature: &'a FeatureRecord,
     entry: &'a str,
 ) -> Result<Vec<Rule>, AllocError>
-    ensures rules { IfOk result (λ v. v.items ≡ rules_of_entry index.now table.now owner.now (named_of owner.now.id feature.now.name) (entry_value entry.entry.now)) }
+    ensures rules { IfOk result (λ v. v.items ≡ rules_of_entry index.now table.now owner.now (named_of owner.now.id feature.entry.now.name) (entry_value entry.entry.now)) }
 {
     let row = owner.row();
-    let premise = Feature::named(alloc, row.id.as_str(), feature.name.as_str())?;
+    let premise = LentFeature::named(row.id.as_str(), feature.name.as_str());
     let mut rules = Vec::new(alloc);
     push_rules_of_entry(
         alloc,
@@ -54,7 +56,7 @@ pub fn entry_rules<'a>(
         entry_of(entry),
         &mut rules,
     )?;
-    Ok(rules)
+    copies_of(alloc, &rules)
 }
 
 /// The rules of the lines of a link.
@@ -68,5 +70,5 @@ pub fn link_rules(
 {
     let mut rules = Vec::new(alloc);
     push_link_rules(alloc, index, table, link, &mut rules)?;
-    Ok(rules)
+    copies_of(alloc, &rules)
 }

@@ -2,7 +2,6 @@
 
 ghost use Rattle.std.specs.Prelude.{◌≡◌, [], ◌∷◌, ◌++◌, OnOk, IfOk, map, filter, string_bytes, if◌then◌else◌};
 ghost use Rattle.std.specs.List.{flat_map};
-ghost use Rattle.std.specs.Option.{option_map_or};
 ghost use Rattle.feature_account.specs.EntryView.{entry_view};
 ghost use Rattle.feature_account.specs.Entries.{entry_value};
 ghost use Rattle.record_index.specs.LinkNames.{link_view};
@@ -10,13 +9,15 @@ ghost use Rattle.feature_account.specs.Lines.{counts, counting_lines};
 ghost use Rattle.feature_account.specs.RuleList.{given, implies, named_of, dep_of, has_feature, has_optional, base_rules, target_has, is_slash_link, slash_lines, dependency_features, strong_targets, strong_features, weak_rule, weak_rules, rules_of_entry, feature_rules, entry_rules, line_start, asked_features, line_features, line_rules, link_rules, rule_list};
 
 use crate::entry::{Entry, entry_of};
+use crate::lent_feature::LentFeature;
+use crate::lent_rule::{LentRule, copies_of};
 use crate::lines::counts;
 use crate::own_features::{DEFAULT, chosen_by, own_features};
-use crate::rule::{Premises, Rule};
+use crate::rule::Rule;
 use record_index::{LentLink, PackageIndex, RecordIndex};
 use std::alloc::{AllocError, Global};
 use workspace_record::{
-    Feature, FeatureChoice, FeatureRecord, LineRecord, LinkRecord, PackageRecord, PlatformTable,
+    FeatureChoice, FeatureRecord, LineRecord, LinkRecord, PackageRecord, PlatformTable,
     WorkspaceRecord,
 };
 
@@ -49,22 +50,35 @@ pub fn rules_in(
 ) -> Result<Vec<Rule>, AllocError>
     ensures listed { IfOk result (λ v. v.items ≡ rule_list index.now choice.now table.now) }
 {
+    let rules = lent_rules(alloc, index, choice, table)?;
+    copies_of(alloc, &rules)
+}
+
+/// The same rules, whose texts the record and the choice lend.
+pub fn lent_rules<'a>(
+    alloc: Global,
+    index: &RecordIndex<'a>,
+    choice: &'a FeatureChoice,
+    table: &PlatformTable,
+) -> Result<Vec<LentRule<'a>>, AllocError>
+    ensures listed { IfOk result (λ v. v.items ≡ rule_list index.now choice.entry.now table.now) }
+{
     let mut rules = Vec::new(alloc);
     let links = &index.record().links;
     push_rules(alloc, index, links, choice, table, &mut rules)?;
     Ok(rules)
 }
 
-fn push_rules(
+fn push_rules<'a>(
     alloc: Global,
-    index: &RecordIndex<'_>,
-    links: &[LinkRecord],
-    choice: &FeatureChoice,
+    index: &RecordIndex<'a>,
+    links: &'a [LinkRecord],
+    choice: &'a FeatureChoice,
     table: &PlatformTable,
-    rules: &mut Vec<Rule>,
+    rules: &mut Vec<LentRule<'a>>,
 ) -> Result<(), AllocError>
     requires { links.now ≡ (index.now).links }
-    ensures { OnOk result (rules.new.items ≡ rules.old.items ++ rule_list index.now choice.now table.now) }
+    ensures { OnOk result (rules.new.items ≡ rules.old.items ++ rule_list index.now choice.entry.now table.now) }
 {
     push_given(chosen_by(alloc, index, choice)?, rules)?;
     push_packages_base_rules(alloc, index.packages(), rules)?;
@@ -72,57 +86,49 @@ fn push_rules(
     push_links_rules(alloc, index, table, links, rules)
 }
 
-fn push_given(features: Vec<Feature>, rules: &mut Vec<Rule>) -> Result<(), AllocError>
-    ensures { OnOk result (rules.new.items ≡ rules.old.items ++ map given features.items) }
+fn push_given<'a>(
+    features: Vec<LentFeature<'a>>,
+    rules: &mut Vec<LentRule<'a>>,
+) -> Result<(), AllocError>
+    ensures { OnOk result (rules.new.items ≡ rules.old.items ++ map given features.entry.items) }
 {
     for conclusion in features {
-        rules.push(Rule {
-            premises: Premises::None,
-            conclusion,
-        })?;
+        rules.push(LentRule::given(conclusion))?;
     }
     Ok(())
 }
 
-fn push_implications(
-    alloc: Global,
-    premise: &Feature,
-    conclusions: Vec<Feature>,
-    rules: &mut Vec<Rule>,
+fn push_implications<'a>(
+    premise: &LentFeature<'a>,
+    conclusions: Vec<LentFeature<'a>>,
+    rules: &mut Vec<LentRule<'a>>,
 ) -> Result<(), AllocError>
-    ensures { OnOk result (rules.new.items ≡ rules.old.items ++ map (implies premise.now) conclusions.items) }
+    ensures { OnOk result (rules.new.items ≡ rules.old.items ++ map (implies premise.now) conclusions.entry.items) }
 {
     for conclusion in conclusions {
-        let premises = Premises::One(premise.copy(alloc)?);
-        rules.push(Rule {
-            premises,
-            conclusion,
-        })?;
+        rules.push(LentRule::implies(premise.again(), conclusion))?;
     }
     Ok(())
 }
 
-pub(crate) fn push_base_rules(
+pub(crate) fn push_base_rules<'a>(
     alloc: Global,
-    row: &PackageRecord,
-    rules: &mut Vec<Rule>,
+    row: &'a PackageRecord,
+    rules: &mut Vec<LentRule<'a>>,
 ) -> Result<(), AllocError>
-    ensures { OnOk result (rules.new.items ≡ rules.old.items ++ base_rules row.now) }
+    ensures { OnOk result (rules.new.items ≡ rules.old.items ++ base_rules row.entry.now) }
 {
     for feature in own_features(alloc, row)? {
-        let conclusion = Feature::base(alloc, row.id.as_str())?;
-        rules.push(Rule {
-            premises: Premises::One(feature),
-            conclusion,
-        })?;
+        let base = LentFeature::base(row.id.as_str());
+        rules.push(LentRule::implies(feature, base))?;
     }
     Ok(())
 }
 
-fn push_packages_base_rules(
+fn push_packages_base_rules<'a>(
     alloc: Global,
-    packages: &[PackageIndex<'_>],
-    rules: &mut Vec<Rule>,
+    packages: &[PackageIndex<'a>],
+    rules: &mut Vec<LentRule<'a>>,
 ) -> Result<(), AllocError>
     ensures { OnOk result (rules.new.items ≡ rules.old.items ++ flat_map base_rules packages.now) }
 {
@@ -203,60 +209,58 @@ fn is_slash_link(index: &RecordIndex<'_>, entry: SlashEntry<'_>, link: &LinkReco
         && target_has(index, link, entry.feature)
 }
 
-fn push_dependency_features(
-    alloc: Global,
-    owner: &PackageIndex<'_>,
-    name: &str,
-    features: &mut Vec<Feature>,
+fn push_dependency_features<'a>(
+    owner: &PackageIndex<'a>,
+    name: &'a str,
+    features: &mut Vec<LentFeature<'a>>,
 ) -> Result<(), AllocError>
-    ensures { OnOk result (features.new.items ≡ features.old.items ++ dependency_features owner.now name.now) }
+    ensures { OnOk result (features.new.items ≡ features.old.items ++ dependency_features owner.now name.entry.now) }
 {
     let row = owner.row();
     if owner.has_optional(name) {
-        features.push(Feature::dep(alloc, row.id.as_str(), name)?)?;
+        features.push(LentFeature::dep(row.id.as_str(), name))?;
         if owner.has_feature(name) {
-            features.push(Feature::named(alloc, row.id.as_str(), name)?)?;
+            features.push(LentFeature::named(row.id.as_str(), name))?;
         }
     }
     Ok(())
 }
 
-fn push_targets(
-    alloc: Global,
-    id: &str,
-    name: &str,
+fn push_targets<'a>(
+    id: &'a str,
+    name: &'a str,
     lines: &[&LineRecord],
-    features: &mut Vec<Feature>,
+    features: &mut Vec<LentFeature<'a>>,
 ) -> Result<(), AllocError>
-    ensures { OnOk result (features.new.items ≡ features.old.items ++ map (λ _. named_of id.now name.now) (map (λ l. l.now) lines.now)) }
+    ensures { OnOk result (features.new.items ≡ features.old.items ++ map (λ _. named_of id.entry.now name.entry.now) (map (λ l. l.now) lines.now)) }
 {
     for _line in lines {
-        features.push(Feature::named(alloc, id, name)?)?;
+        features.push(LentFeature::named(id, name))?;
     }
     Ok(())
 }
 
-fn push_strong_targets(
+fn push_strong_targets<'a>(
     alloc: Global,
     index: &RecordIndex<'_>,
     table: &PlatformTable,
-    entry: SlashEntry<'_>,
-    link: &LinkRecord,
-    features: &mut Vec<Feature>,
+    entry: SlashEntry<'a>,
+    link: &'a LinkRecord,
+    features: &mut Vec<LentFeature<'a>>,
 ) -> Result<(), AllocError>
-    ensures { OnOk result (features.new.items ≡ features.old.items ++ strong_targets index.now table.now entry.entry.row.now entry.entry.name.now entry.entry.feature.now link.now) }
+    ensures { OnOk result (features.new.items ≡ features.old.items ++ strong_targets index.now table.now entry.entry.row.now entry.entry.name.now entry.entry.feature.now link.entry.now) }
 {
     let lines = slash_lines(alloc, index, table, entry, link)?;
-    push_targets(alloc, link.to.as_str(), entry.feature, &lines, features)
+    push_targets(link.to.as_str(), entry.feature, &lines, features)
 }
 
-fn push_named_targets(
+fn push_named_targets<'a>(
     alloc: Global,
     index: &RecordIndex<'_>,
     table: &PlatformTable,
-    entry: SlashEntry<'_>,
-    links: &[LentLink<'_>],
-    features: &mut Vec<Feature>,
+    entry: SlashEntry<'a>,
+    links: &[LentLink<'a>],
+    features: &mut Vec<LentFeature<'a>>,
 ) -> Result<(), AllocError>
     ensures { OnOk result (features.new.items ≡ features.old.items ++ flat_map (strong_targets index.now table.now entry.entry.row.now entry.entry.name.now entry.entry.feature.now) (map link_view links.now)) }
 {
@@ -271,7 +275,7 @@ fn push_links_targets<'a>(
     index: &RecordIndex<'a>,
     table: &PlatformTable,
     entry: SlashEntry<'a>,
-    features: &mut Vec<Feature>,
+    features: &mut Vec<LentFeature<'a>>,
 ) -> Result<(), AllocError>
     ensures { OnOk result (features.new.items ≡ features.old.items ++ flat_map (strong_targets index.now table.now entry.entry.row.now entry.entry.name.now entry.entry.feature.now) index.now.links) }
 {
@@ -289,95 +293,78 @@ fn strong_features<'a>(
     owner: &PackageIndex<'a>,
     name: &'a str,
     feature: &'a str,
-) -> Result<Vec<Feature>, AllocError>
+) -> Result<Vec<LentFeature<'a>>, AllocError>
     ensures { IfOk result (λ v. v.items ≡ strong_features index.now table.now owner.now name.entry.now feature.entry.now) }
 {
     let row = owner.row();
     let mut features = Vec::new(alloc);
     let entry = SlashEntry { row, name, feature };
     push_links_targets(alloc, index, table, entry, &mut features)?;
-    push_dependency_features(alloc, owner, name, &mut features)?;
+    push_dependency_features(owner, name, &mut features)?;
     Ok(features)
 }
 
-fn weak_rule(
-    alloc: Global,
-    premise: &Feature,
-    row: &PackageRecord,
-    name: &str,
-    conclusion: Feature,
+fn weak_rule<'a>(
+    premise: &LentFeature<'a>,
+    row: &'a PackageRecord,
+    name: &'a str,
+    conclusion: LentFeature<'a>,
     line: &LineRecord,
-) -> Result<Rule, AllocError>
-    ensures { IfOk result (λ r. r ≡ weak_rule premise.now row.now name.now conclusion line.now) }
+) -> LentRule<'a>
+    ensures { result ≡ weak_rule premise.now row.entry.now name.entry.now conclusion.entry line.now }
 {
-    let premise = premise.copy(alloc)?;
-    let premises = if line.optional {
-        Premises::Two(premise, Feature::dep(alloc, row.id.as_str(), name)?)
+    if line.optional {
+        let dependency = LentFeature::dep(row.id.as_str(), name);
+        LentRule::both_imply(premise.again(), dependency, conclusion)
     } else {
-        Premises::One(premise)
-    };
-    Ok(Rule {
-        premises,
-        conclusion,
-    })
+        LentRule::implies(premise.again(), conclusion)
+    }
 }
 
-fn push_weak_rules(
-    alloc: Global,
-    premise: &Feature,
-    row: &PackageRecord,
-    name: &str,
-    target: &Feature,
+fn push_weak_rules<'a>(
+    premise: &LentFeature<'a>,
+    row: &'a PackageRecord,
+    name: &'a str,
+    target: &LentFeature<'a>,
     lines: &[&LineRecord],
-    rules: &mut Vec<Rule>,
+    rules: &mut Vec<LentRule<'a>>,
 ) -> Result<(), AllocError>
-    ensures { OnOk result (rules.new.items ≡ rules.old.items ++ map (weak_rule premise.now row.now name.now target.now) (map (λ l. l.now) lines.now)) }
+    ensures { OnOk result (rules.new.items ≡ rules.old.items ++ map (weak_rule premise.now row.entry.now name.entry.now target.now) (map (λ l. l.now) lines.now)) }
 {
     for line in lines {
-        let conclusion = target.copy(alloc)?;
-        rules.push(weak_rule(alloc, premise, row, name, conclusion, line)?)?;
+        rules.push(weak_rule(premise, row, name, target.again(), line))?;
     }
     Ok(())
 }
 
-fn push_own_feature(
-    alloc: Global,
-    owner: &PackageIndex<'_>,
-    premise: &Feature,
-    name: &str,
-    rules: &mut Vec<Rule>,
+fn push_own_feature<'a>(
+    owner: &PackageIndex<'a>,
+    premise: &LentFeature<'a>,
+    name: &'a str,
+    rules: &mut Vec<LentRule<'a>>,
 ) -> Result<(), AllocError>
-    ensures { OnOk result (rules.new.items ≡ rules.old.items ++ (if has_feature owner.now name.now then implies premise.now (named_of owner.now.id name.now) ∷ [] else [])) }
+    ensures { OnOk result (rules.new.items ≡ rules.old.items ++ (if has_feature owner.now name.entry.now then implies premise.now (named_of owner.now.id name.entry.now) ∷ [] else [])) }
 {
     if owner.has_feature(name) {
         let row = owner.row();
-        let premises = Premises::One(premise.copy(alloc)?);
-        let conclusion = Feature::named(alloc, row.id.as_str(), name)?;
-        rules.push(Rule {
-            premises,
-            conclusion,
-        })?;
+        let conclusion = LentFeature::named(row.id.as_str(), name);
+        rules.push(LentRule::implies(premise.again(), conclusion))?;
     }
     Ok(())
 }
 
-fn push_dependency(
-    alloc: Global,
-    owner: &PackageIndex<'_>,
-    premise: &Feature,
-    name: &str,
-    rules: &mut Vec<Rule>,
+fn push_dependency<'a>(
+    owner: &PackageIndex<'a>,
+    premise: &LentFeature<'a>,
+    name: &'a str,
+    rules: &mut Vec<LentRule<'a>>,
 ) -> Result<(), AllocError>
-    ensures { OnOk result (rules.new.items ≡ rules.old.items ++ (if has_optional owner.now name.now then implies premise.now (dep_of owner.now.id name.now) ∷ [] else [])) }
+    ensures { OnOk result (rules.new.items ≡ rules.old.items ++ (if has_optional owner.now name.entry.now then implies premise.now (dep_of owner.now.id name.entry.now) ∷ [] else [])) }
 {
     if owner.has_optional(name) {
         let row = owner.row();
-        let premises = Premises::One(premise.copy(alloc)?);
-        let conclusion = Feature::dep(alloc, row.id.as_str(), name)?;
-        rules.push(Rule {
-            premises,
-            conclusion,
-        })?;
+        let conclusion = LentFeature::dep(row.id.as_str(), name);
+        rules.push(LentRule::implies(premise.again(), conclusion))?;
     }
     Ok(())
 }
@@ -387,18 +374,18 @@ pub(crate) fn push_rules_of_entry<'a>(
     index: &RecordIndex<'a>,
     table: &PlatformTable,
     owner: &PackageIndex<'a>,
-    premise: &Feature,
+    premise: &LentFeature<'a>,
     entry: Entry<'a>,
-    rules: &mut Vec<Rule>,
+    rules: &mut Vec<LentRule<'a>>,
 ) -> Result<(), AllocError>
     ensures { OnOk result (rules.new.items ≡ rules.old.items ++ rules_of_entry index.now table.now owner.now premise.now (entry_view entry.entry)) }
 {
     match entry {
-        Entry::OwnFeature(name) => push_own_feature(alloc, owner, premise, name, rules),
-        Entry::Dependency(name) => push_dependency(alloc, owner, premise, name, rules),
+        Entry::OwnFeature(name) => push_own_feature(owner, premise, name, rules),
+        Entry::Dependency(name) => push_dependency(owner, premise, name, rules),
         Entry::Strong(name, feature) => {
             let features = strong_features(alloc, index, table, owner, name, feature)?;
-            push_implications(alloc, premise, features, rules)
+            push_implications(premise, features, rules)
         }
         Entry::Weak(name, feature) => {
             let row = owner.row();
@@ -408,32 +395,30 @@ pub(crate) fn push_rules_of_entry<'a>(
     }
 }
 
-fn push_link_weak_rules(
+fn push_link_weak_rules<'a>(
     alloc: Global,
     index: &RecordIndex<'_>,
     table: &PlatformTable,
-    premise: &Feature,
-    entry: SlashEntry<'_>,
-    link: &LinkRecord,
-    rules: &mut Vec<Rule>,
+    premise: &LentFeature<'a>,
+    entry: SlashEntry<'a>,
+    link: &'a LinkRecord,
+    rules: &mut Vec<LentRule<'a>>,
 ) -> Result<(), AllocError>
-    ensures { OnOk result (rules.new.items ≡ rules.old.items ++ weak_rules index.now table.now entry.entry.row.now premise.now entry.entry.name.now entry.entry.feature.now link.now) }
+    ensures { OnOk result (rules.new.items ≡ rules.old.items ++ weak_rules index.now table.now entry.entry.row.now premise.now entry.entry.name.now entry.entry.feature.now link.entry.now) }
 {
     let lines = slash_lines(alloc, index, table, entry, link)?;
-    let target = Feature::named(alloc, link.to.as_str(), entry.feature)?;
-    push_weak_rules(
-        alloc, premise, entry.row, entry.name, &target, &lines, rules,
-    )
+    let target = LentFeature::named(link.to.as_str(), entry.feature);
+    push_weak_rules(premise, entry.row, entry.name, &target, &lines, rules)
 }
 
-fn push_named_weak_rules(
+fn push_named_weak_rules<'a>(
     alloc: Global,
     index: &RecordIndex<'_>,
     table: &PlatformTable,
-    premise: &Feature,
-    entry: SlashEntry<'_>,
-    links: &[LentLink<'_>],
-    rules: &mut Vec<Rule>,
+    premise: &LentFeature<'a>,
+    entry: SlashEntry<'a>,
+    links: &[LentLink<'a>],
+    rules: &mut Vec<LentRule<'a>>,
 ) -> Result<(), AllocError>
     ensures { OnOk result (rules.new.items ≡ rules.old.items ++ flat_map (weak_rules index.now table.now entry.entry.row.now premise.now entry.entry.name.now entry.entry.feature.now) (map link_view links.now)) }
 {
@@ -447,9 +432,9 @@ fn push_weak_entry<'a>(
     alloc: Global,
     index: &RecordIndex<'a>,
     table: &PlatformTable,
-    premise: &Feature,
+    premise: &LentFeature<'a>,
     entry: SlashEntry<'a>,
-    rules: &mut Vec<Rule>,
+    rules: &mut Vec<LentRule<'a>>,
 ) -> Result<(), AllocError>
     ensures { OnOk result (rules.new.items ≡ rules.old.items ++ flat_map (weak_rules index.now table.now entry.entry.row.now premise.now entry.entry.name.now entry.entry.feature.now) index.now.links) }
 {
@@ -465,9 +450,9 @@ fn push_rules_of_entries<'a>(
     index: &RecordIndex<'a>,
     table: &PlatformTable,
     owner: &PackageIndex<'a>,
-    premise: &Feature,
+    premise: &LentFeature<'a>,
     entries: &'a [String],
-    rules: &mut Vec<Rule>,
+    rules: &mut Vec<LentRule<'a>>,
 ) -> Result<(), AllocError>
     ensures { OnOk result (rules.new.items ≡ rules.old.items ++ flat_map (λ e. rules_of_entry index.now table.now owner.now premise.now (entry_value e)) (map string_bytes entries.entry.now)) }
 {
@@ -484,12 +469,12 @@ fn push_feature_rules<'a>(
     table: &PlatformTable,
     owner: &PackageIndex<'a>,
     feature: &'a FeatureRecord,
-    rules: &mut Vec<Rule>,
+    rules: &mut Vec<LentRule<'a>>,
 ) -> Result<(), AllocError>
     ensures { OnOk result (rules.new.items ≡ rules.old.items ++ feature_rules index.now table.now owner.now feature.entry.now) }
 {
     let row = owner.row();
-    let premise = Feature::named(alloc, row.id.as_str(), feature.name.as_str())?;
+    let premise = LentFeature::named(row.id.as_str(), feature.name.as_str());
     push_rules_of_entries(
         alloc,
         index,
@@ -506,7 +491,7 @@ fn push_entry_rules<'a>(
     index: &RecordIndex<'a>,
     table: &PlatformTable,
     owner: &PackageIndex<'a>,
-    rules: &mut Vec<Rule>,
+    rules: &mut Vec<LentRule<'a>>,
 ) -> Result<(), AllocError>
     ensures { OnOk result (rules.new.items ≡ rules.old.items ++ entry_rules index.now table.now owner.now) }
 {
@@ -522,7 +507,7 @@ fn push_packages_entry_rules<'a>(
     index: &RecordIndex<'a>,
     table: &PlatformTable,
     packages: &[PackageIndex<'a>],
-    rules: &mut Vec<Rule>,
+    rules: &mut Vec<LentRule<'a>>,
 ) -> Result<(), AllocError>
     ensures { OnOk result (rules.new.items ≡ rules.old.items ++ flat_map (entry_rules index.now table.now) packages.now) }
 {
@@ -532,90 +517,83 @@ fn push_packages_entry_rules<'a>(
     Ok(())
 }
 
-fn line_start(alloc: Global, link: &LinkRecord, line: &LineRecord) -> Result<Feature, AllocError>
-    ensures { IfOk result (λ f. f ≡ line_start link.now line.now) }
+fn line_start<'a>(link: &'a LinkRecord, line: &LineRecord) -> LentFeature<'a>
+    ensures { result ≡ line_start link.entry.now line.now }
 {
     if line.optional {
-        Feature::dep(alloc, link.from.as_str(), link.name.as_str())
+        LentFeature::dep(link.from.as_str(), link.name.as_str())
     } else {
-        Feature::base(alloc, link.from.as_str())
+        LentFeature::base(link.from.as_str())
     }
 }
 
-fn push_asked_features(
-    alloc: Global,
-    id: &str,
-    line: &LineRecord,
+fn push_asked_features<'a>(
+    id: &'a str,
+    line: &'a LineRecord,
     target: &PackageIndex<'_>,
-    features: &mut Vec<Feature>,
+    features: &mut Vec<LentFeature<'a>>,
 ) -> Result<(), AllocError>
-    ensures { OnOk result (features.new.items ≡ features.old.items ++ asked_features id.now line.now target.now) }
+    ensures { OnOk result (features.new.items ≡ features.old.items ++ asked_features id.entry.now line.entry.now target.now) }
 {
     if line.default_features && target.has_feature(DEFAULT) {
-        features.push(Feature::named(alloc, id, DEFAULT)?)?;
+        features.push(LentFeature::named(id, DEFAULT))?;
     }
-    push_listed_features(alloc, id, &line.features, target, features)
+    push_listed_features(id, &line.features, target, features)
 }
 
-fn push_listed_features(
-    alloc: Global,
-    id: &str,
-    names: &[String],
+fn push_listed_features<'a>(
+    id: &'a str,
+    names: &'a [String],
     target: &PackageIndex<'_>,
-    features: &mut Vec<Feature>,
+    features: &mut Vec<LentFeature<'a>>,
 ) -> Result<(), AllocError>
-    ensures { OnOk result (features.new.items ≡ features.old.items ++ map (named_of id.now) (filter (has_feature target.now) (map string_bytes names.now))) }
+    ensures { OnOk result (features.new.items ≡ features.old.items ++ map (named_of id.entry.now) (filter (has_feature target.now) (map string_bytes names.entry.now))) }
 {
     for name in names {
         if target.has_feature(name.as_str()) {
-            features.push(Feature::named(alloc, id, name.as_str())?)?;
+            features.push(LentFeature::named(id, name.as_str()))?;
         }
     }
     Ok(())
 }
 
-fn line_features(
+fn line_features<'a>(
     alloc: Global,
     index: &RecordIndex<'_>,
-    link: &LinkRecord,
-    line: &LineRecord,
-) -> Result<Vec<Feature>, AllocError>
-    ensures { IfOk result (λ v. v.items ≡ line_features index.now link.now line.now) }
+    link: &'a LinkRecord,
+    line: &'a LineRecord,
+) -> Result<Vec<LentFeature<'a>>, AllocError>
+    ensures { IfOk result (λ v. v.items ≡ line_features index.now link.entry.now line.entry.now) }
 {
     let mut features = Vec::new(alloc);
-    features.push(Feature::base(alloc, link.to.as_str())?)?;
+    features.push(LentFeature::base(link.to.as_str()))?;
     if let Some(target) = index.package_of(link.to.as_str()) {
-        push_asked_features(alloc, link.to.as_str(), line, target, &mut features)?;
+        push_asked_features(link.to.as_str(), line, target, &mut features)?;
     }
     Ok(features)
 }
 
-fn push_line_rules(
+fn push_line_rules<'a>(
     alloc: Global,
     index: &RecordIndex<'_>,
-    link: &LinkRecord,
-    line: &LineRecord,
-    rules: &mut Vec<Rule>,
+    link: &'a LinkRecord,
+    line: &'a LineRecord,
+    rules: &mut Vec<LentRule<'a>>,
 ) -> Result<(), AllocError>
-    ensures { OnOk result (rules.new.items ≡ rules.old.items ++ line_rules index.now link.now line.now) }
+    ensures { OnOk result (rules.new.items ≡ rules.old.items ++ line_rules index.now link.entry.now line.entry.now) }
 {
-    let start = line_start(alloc, link, line)?;
-    push_implications(
-        alloc,
-        &start,
-        line_features(alloc, index, link, line)?,
-        rules,
-    )
+    let start = line_start(link, line);
+    push_implications(&start, line_features(alloc, index, link, line)?, rules)
 }
 
-fn push_lines_rules(
+fn push_lines_rules<'a>(
     alloc: Global,
     index: &RecordIndex<'_>,
-    link: &LinkRecord,
-    lines: &[&LineRecord],
-    rules: &mut Vec<Rule>,
+    link: &'a LinkRecord,
+    lines: &[&'a LineRecord],
+    rules: &mut Vec<LentRule<'a>>,
 ) -> Result<(), AllocError>
-    ensures { OnOk result (rules.new.items ≡ rules.old.items ++ flat_map (line_rules index.now link.now) (map (λ l. l.now) lines.now)) }
+    ensures { OnOk result (rules.new.items ≡ rules.old.items ++ flat_map (line_rules index.now link.entry.now) (map (λ l. l.now) lines.now)) }
 {
     for line in lines {
         push_line_rules(alloc, index, link, line, rules)?;
@@ -623,27 +601,27 @@ fn push_lines_rules(
     Ok(())
 }
 
-pub(crate) fn push_link_rules(
+pub(crate) fn push_link_rules<'a>(
     alloc: Global,
     index: &RecordIndex<'_>,
     table: &PlatformTable,
-    link: &LinkRecord,
-    rules: &mut Vec<Rule>,
+    link: &'a LinkRecord,
+    rules: &mut Vec<LentRule<'a>>,
 ) -> Result<(), AllocError>
-    ensures { OnOk result (rules.new.items ≡ rules.old.items ++ link_rules index.now table.now link.now) }
+    ensures { OnOk result (rules.new.items ≡ rules.old.items ++ link_rules index.now table.now link.entry.now) }
 {
     let lines = counting_lines(alloc, index, table, link)?;
     push_lines_rules(alloc, index, link, &lines, rules)
 }
 
-fn push_links_rules(
+fn push_links_rules<'a>(
     alloc: Global,
     index: &RecordIndex<'_>,
     table: &PlatformTable,
-    links: &[LinkRecord],
-    rules: &mut Vec<Rule>,
+    links: &'a [LinkRecord],
+    rules: &mut Vec<LentRule<'a>>,
 ) -> Result<(), AllocError>
-    ensures { OnOk result (rules.new.items ≡ rules.old.items ++ flat_map (link_rules index.now table.now) links.now) }
+    ensures { OnOk result (rules.new.items ≡ rules.old.items ++ flat_map (link_rules index.now table.now) links.entry.now) }
 {
     for link in links {
         push_link_rules(alloc, index, table, link, rules)?;

@@ -5,17 +5,17 @@ ghost use Rattle.feature_account.specs.Accounts.{concludes, IsFault, IsSound};
 ghost use Rattle.feature_account.specs.Found.{found_set};
 
 use crate::found::{contains, has_premises, insert};
-use crate::rule::Rule;
+use crate::lent_feature::LentFeature;
+use crate::lent_rule::LentRule;
 use crate::verdict::Verdict;
 use indexmap::IndexSet;
 use std::alloc::AllocError;
-use workspace_record::Feature;
 
 /// The first entry that may not stand, if there is one; else all that the entries conclude is found.
-pub(crate) fn first_fault<'a>(
-    rules: &'a [Rule],
+pub(crate) fn first_fault<'r, 'a>(
+    rules: &'r [LentRule<'a>],
     entries: &[usize],
-    concluded: &mut IndexSet<&'a Feature>,
+    concluded: &mut IndexSet<&'r LentFeature<'a>>,
 ) -> Result<Option<Verdict>, AllocError>
     requires { concluded.old.keys ≡ [] }
     ensures fault { IfOk result (λ o. IfSome o (IsFault rules.entry.now entries.now)) }
@@ -26,19 +26,20 @@ pub(crate) fn first_fault<'a>(
         let Some(rule) = rules.get(*number) else {
             return Ok(Some(Verdict::UnknownRule(place)));
         };
-        if contains(concluded, &rule.conclusion) {
+        let conclusion = rule.conclusion();
+        if contains(concluded, conclusion) {
             return Ok(Some(Verdict::RepeatedConclusion(place)));
         }
-        if !has_premises(concluded, &rule.premises) {
+        if !has_premises(concluded, rule.premises()) {
             return Ok(Some(Verdict::MissingPremise(place)));
         }
-        insert(concluded, &rule.conclusion)?;
+        insert(concluded, conclusion)?;
     }
     Ok(None)
 }
 
 /// The rule with this number.
-pub fn rule_of(rules: &[Rule], number: usize) -> &Rule
+pub fn rule_of<'r, 'a>(rules: &'r [LentRule<'a>], number: usize) -> &'r LentRule<'a>
     requires known { number < length rules.now }
     ensures stands { slice_get rules.entry.now number ≡ Some result.now }
 {

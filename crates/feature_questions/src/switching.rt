@@ -9,8 +9,8 @@ ghost use Rattle.account_making.specs.Lowest.{IsLowestAccount, IsLooksOf};
 ghost use Rattle.feature_questions.specs.Switching.{Accounts, AreOn, SwitchesOn, unknown_extra};
 
 use crate::questions::{checked_question, question_index};
-use account_making::{Account, account_of};
-use feature_account::rules_in;
+use account_making::{Account, account_of_lent};
+use feature_account::lent_rules;
 use feature_resolving::resolved_features;
 use feature_switching::FeaturesOn;
 use record_checks::{CheckedRecord, SelectError};
@@ -63,8 +63,8 @@ fn account_under(
     ensures on { IfOk result (λ a. (f : FeatureValue) → IsTrue (concludes (rule_list index.now choice.now table.now) a.rules.items f) ↔ IsOn (rule_list index.now choice.now table.now) f) }
     ensures looks { IfOk result (λ a. IsLooksOf (rule_list index.now choice.now table.now) a.rules.items a.looks) }
 {
-    let rules = rules_in(alloc, index, choice, table)?;
-    account_of(alloc, &rules)
+    let rules = lent_rules(alloc, index, choice, table)?;
+    account_of_lent(alloc, &rules)
 }
 
 /// The features that are on in a record that was tested, as `features_on` finds them. The extras of the

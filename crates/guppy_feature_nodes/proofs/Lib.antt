@@ -2,6 +2,7 @@ pub mod RowFacts
 pub mod LineFacts
 pub mod LinkOrder
 pub mod EdgeFacts
+pub mod EdgeLinkFacts
 pub mod OfferFacts
 pub mod NodeFacts
 pub mod GraphFacts

@@ -5,7 +5,8 @@ ghost use Rattle.std.specs.List.{list_any};
 ghost use Rattle.std.specs.List.Sorted.{IsStrictlySortedBy};
 ghost use Rattle.indexmap.specs.IndexSet.{insert_key};
 ghost use Rattle.guppy_feature_edges.specs.Joining.{place_cmp};
-ghost use Rattle.guppy_feature_nodes.specs.EdgeLinkViews.{AreEdgeLinks, shown_of};
+ghost use Rattle.guppy_feature_ids.specs.declared.link_declarations.LinkDeclarations.TheVariants.{Optional, Required, Unsplit};
+ghost use Rattle.guppy_feature_nodes.specs.EdgeLinkViews.{AreEdgeLinks, joined, shown_of};
 ghost use Rattle.guppy_feature_nodes.specs.Lines.{declares_at, links_shown};
 
 use crate::edge_lines::declares_at;
@@ -13,8 +14,8 @@ use guppy_feature_ids::LinkDeclarations;
 use guppy_row_parts::LinkRow;
 use std::alloc::{AllocError, Global};
 
-/// The links of all lines behind an edge, of the required ones, and of the optional ones, each once, in
-/// the order of the record.
+/// The links of the required lines behind an edge, and of the optional ones, each once, in the order of
+/// the record. Those of all lines are kept beside them where there are lines of both sorts.
 #[derive(Debug)]
 pub(crate) struct EdgeLinks {
     pub unsplit: Vec<usize>,
@@ -43,9 +44,9 @@ impl EdgeLinks {
         requires { IsStrictlySortedBy place_cmp places.now }
         ensures { IfOk result (AreEdgeLinks links.now places.now) }
     {
-        let unsplit = links_declaring(alloc, links, places, LinkDeclarations::Unsplit)?;
         let required = links_declaring(alloc, links, places, LinkDeclarations::Required)?;
         let optional = links_declaring(alloc, links, places, LinkDeclarations::Optional)?;
+        let unsplit = links_of_both(alloc, links, places, &required, &optional)?;
         Ok(EdgeLinks {
             unsplit,
             required,
@@ -58,11 +59,48 @@ impl EdgeLinks {
         ensures { result.now ≡ shown_of self.now shown }
     {
         match shown {
-            LinkDeclarations::Unsplit => &self.unsplit,
+            LinkDeclarations::Unsplit => self.all(),
             LinkDeclarations::Required => &self.required,
             LinkDeclarations::Optional => &self.optional,
         }
     }
+
+    /// Those of all lines.
+    fn all(&self) -> &[usize]
+        ensures { result.now ≡ joined self.now.required.items self.now.optional.items self.now.unsplit.items }
+    {
+        if self.optional.is_empty() {
+            return &self.required;
+        }
+        if self.required.is_empty() {
+            return &self.optional;
+        }
+        &self.unsplit
+    }
+}
+
+// The links of all lines where there are required and optional ones; else none, since they are those of
+// the one sort.
+#[tactic(auto, using(crate::proofs::EdgeLinkFacts::joined_is))]
+fn links_of_both(
+    alloc: Global,
+    links: &[LinkRow],
+    places: &[(usize, usize)],
+    required: &[usize],
+    optional: &[usize],
+) -> Result<Vec<usize>, AllocError>
+    requires ascend { IsStrictlySortedBy place_cmp places.now }
+    requires required { required.now ≡ links_shown links.now Required places.now }
+    requires optional { optional.now ≡ links_shown links.now Optional places.now }
+    ensures { IfOk result (λ v. joined required.now optional.now v.items ≡ links_shown links.now Unsplit places.now) }
+{
+    if required.is_empty() {
+        return Ok(Vec::new(alloc));
+    }
+    if optional.is_empty() {
+        return Ok(Vec::new(alloc));
+    }
+    links_declaring(alloc, links, places, LinkDeclarations::Unsplit)
 }
 
 fn links_declaring(

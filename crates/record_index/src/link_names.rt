@@ -1,6 +1,6 @@
 //! The links of packages by the names that they give them.
 
-ghost use Rattle.std.specs.Prelude.{◌≡◌, ◌++◌, ◌∷◌, [], None, cond, IfNone, IfOk, IfSome, OnOk, map};
+ghost use Rattle.std.specs.Prelude.{◌≡◌, ◌++◌, ◌∷◌, [], IfNone, IfOk, IfSome, OnOk, map};
 ghost use Rattle.indexmap.specs.IndexMap.{get};
 ghost use Rattle.record_index.specs.LinkNames.{NamesLinks, key_eq, link_view, links_in, links_named};
 ghost use Rattle.record_index.specs.declared.link_names.LinkName.{LinkName};
@@ -85,7 +85,7 @@ pub(crate) fn link_names<'a>(
     ensures { IfOk result (NamesLinks links.entry.now) }
 {
     let mut names: LinkNames<'a> = LinkNames {
-        groups: IndexMap::new(alloc),
+        groups: IndexMap::with_capacity(alloc, links.len())?,
     };
     for link in links {
         push_link(alloc, &mut names, link)?;
@@ -104,19 +104,7 @@ fn push_link<'a>(
         from: link.from.as_str(),
         name: link.name.as_str(),
     };
-    let mut group = take_group(alloc, names, key);
+    let group = names.groups.entry(key)?.or_insert(Vec::new(alloc));
     group.push(LentLink { row: link })?;
-    names.groups.insert(key, group)?;
     Ok(())
-}
-
-// The links that were found so far under a name, which are taken out.
-fn take_group<'a>(alloc: Global, names: &mut LinkNames<'a>, key: LinkName<'a>) -> Vec<LentLink<'a>>
-    ensures taken { map link_view result.items ≡ links_in (get key_eq names.old.groups key.entry) }
-    ensures left { (q : LinkName) → get key_eq names.new.groups q ≡ cond (key_eq key.entry q) None (get key_eq names.old.groups q) }
-{
-    match names.groups.swap_remove(&key) {
-        Some(group) => group,
-        None => Vec::new(alloc),
-    }
 }

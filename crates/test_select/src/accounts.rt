@@ -7,9 +7,9 @@ use crate::at_end::AtEnd;
 use crate::command_line::is_readable;
 use crate::failure::Failure;
 use crate::readable::print_entries;
-use account_making::account_of;
+use account_making::account_of_lent;
 use clap::ArgMatches;
-use feature_account::{Rule, rules_in};
+use feature_account::{LentRule, lent_rules};
 use feature_questions::{shared_question, write_account};
 use question_files::{FeatureQuestion, FileSource, feature_question, named_files};
 use std::alloc::Global;
@@ -41,7 +41,7 @@ fn print_account_of<'a, O: Write>(
     ensures { IfErr result (λ f. status_of f ≡ 1) }
 {
     let checked = shared_question(alloc, &question.record, &question.choice)?;
-    let rules = rules_in(alloc, checked.index(), &question.choice, &question.table)?;
+    let rules = lent_rules(alloc, checked.index(), &question.choice, &question.table)?;
     print_account_by(alloc, question, &rules, readable, out)?;
     at_end.let_go(rules);
     at_end.let_go(checked);
@@ -52,13 +52,13 @@ fn print_account_of<'a, O: Write>(
 fn print_account_by<'a, O: Write>(
     alloc: Global,
     question: &FeatureQuestion,
-    rules: &[Rule],
+    rules: &[LentRule<'_>],
     readable: bool,
     out: &mut O,
 ) -> Result<(), Failure<'a>>
     ensures { IfErr result (λ f. status_of f ≡ 1) }
 {
-    let account = account_of(alloc, rules)?;
+    let account = account_of_lent(alloc, rules)?;
     if readable {
         return print_entries(alloc, question, &account.rules, out);
     }

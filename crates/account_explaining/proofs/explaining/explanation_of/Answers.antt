@@ -1,4 +1,7 @@
-use Rattle.std.proofs.Common.{◌≢◌, [], refl, rules}
+use Rattle.std.proofs.Common.{◌≢◌, ◌∙◌, [], List, refl, rules, subst}
+use Rattle.workspace_record.specs.Features.{FeatureValue}
+use Rattle.feature_account.specs.Explanations.{IsExplanation}
+use Rattle.feature_account.specs.declared.rule.Rule.{Rule}
 use Rattle.account_explaining.proofs.Selecting.{goal_concluded}
 use Rattle.account_explaining.proofs.explaining.explanation_of.Goals as goal
 
@@ -6,4 +9,6 @@ pub returns-clause-found : goal.returns-clause-found
 returns-clause-found c =
     let entries = c.in_ok-entries.entries.items in
     let some : entries ≢ [] = search rules in
-    (λ h. goal_concluded c.args.rules.now c.args.feature.now c.args.account.now entries c.in_ok-entries.ensures.in_order (c.in_ok-entries.ensures.explains some), λ h. refl)
+    let same = c.deref.ensures.value ∙ c.in_ok-lent.ensures.lent in
+    let explained = subst (λ (f : FeatureValue). IsExplanation c.args.rules.now f entries) c.of.ensures.lent (subst (λ (rs : List Rule). IsExplanation rs c.of.result entries) same (c.in_ok-entries.ensures.explains some)) in
+    (λ h. goal_concluded c.args.rules.now c.args.feature.now c.args.account.now entries c.in_ok-entries.ensures.in_order explained, λ h. refl)

@@ -4,4 +4,4 @@ use Rattle.account_explaining.proofs.Selecting.{Selects}
 use Rattle.account_explaining.proofs.explaining.needed_entries.Given as goal
 
 abbrev pub invariant-loop-place : goal.invariant-loop-place
-invariant-loop-place l = Selects l.rules l.goal (take l.place l.account) (drop l.place l.account) (reverse l.entries.items) (found_set l.needed)
+invariant-loop-place l = Selects l.rules l.fn.goal (take l.place l.account) (drop l.place l.account) (reverse l.entries.items) (found_set l.needed)

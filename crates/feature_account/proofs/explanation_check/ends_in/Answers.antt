@@ -1,6 +1,6 @@
 use Rattle.std.proofs.Common.{length, ◌∙◌, refl, sym}
 use Rattle.std.proofs.lemmas.Bool.{ltb-false}
-use Rattle.workspace_record.specs.Features.{features_decide}
+use Rattle.workspace_record.specs.Features.{feature_eq, features_decide}
 use Rattle.std.proofs.lemmas.Option.{slice_get_read, slice_get_past}
 use Rattle.feature_account.proofs.ExplanationFacts.{ends_unknown, ends_known}
 use Rattle.feature_account.proofs.explanation_check.ends_in.Goals as goal
@@ -19,4 +19,5 @@ returns-in-Some-get c =
     let found = c.in-Some-get.ensures.lookup in
     let iff = ends_known rules c.args.goal.now c.args.entries.now c.in-Some.field-0-1.now n r c.in-Some.ensures.cases.0 (slice_get_read rules (length rules) n r refl found.3.0 found.1) in
     let decided = features_decide r.conclusion c.args.goal.now in
-    (λ h. iff.1 (decided.0 (sym c.eq.ensures ∙ h)), λ ends. c.eq.ensures ∙ decided.1 (iff.0 ends))
+    let same = c.eq.ensures ∙ (λ i. feature_eq (c.conclusion.ensures.conclusion i) (c.of.ensures.lent i)) in
+    (λ h. iff.1 (decided.0 (sym same ∙ h)), λ ends. same ∙ decided.1 (iff.0 ends))

@@ -1,4 +1,6 @@
-use Rattle.std.proofs.Common.{◌≡◌, ◌+◌, ◌-◌, ◌<◌, length, drop, inl, inr, sym, ◌∙◌, subst, arith}
+use Rattle.std.proofs.Common.{◌≡◌, ◌+◌, ◌-◌, ◌<◌, ◌||◌, ap, length, drop, inl, inr, sym, ◌∙◌, subst, arith}
+use Rattle.workspace_record.specs.Features.{FeatureValue}
+use Rattle.feature_account.specs.Closed.{is_premise}
 use Rattle.feature_account.specs.Found.{found_set}
 use Rattle.feature_account.proofs.ExplanationFacts.{UsedFrom, number_known, used_step, unused_step}
 use Rattle.feature_account.proofs.explanation_check.first_unused.Goals as goal
@@ -22,6 +24,6 @@ loop-place-preserved c =
     let next : place ≡ p + 1 = omega arith in
     let within : p < length entries = omega arith in
     let before = c.loop-place.invariant in
-    let grown = c.in_ok-insert_premises.ensures.found in
+    let grown : (f : FeatureValue) → more f ≡ (is_premise r.premises f || needed f) = λ f. c.in_ok-insert_premises.ensures.found f ∙ ap (λ p. is_premise p f || needed f) c.premises.ensures.premises in
     let known = c.rule_of-rule.ensures.stands in
-    elim c.if-place-entries.branch [ then-place-entries+then-not-contains w ↦ subst (UsedFrom rules (drop p entries) p more) (sym w.unused-is) (unused_step rules entries p place needed more unused r known next within before grown (omega (arith, w.if-place-entries.true)) (sym w.contains.ensures.answer ∙ w.if-not-contains.true)) | else-place-entries w ↦ subst (UsedFrom rules (drop p entries) p more) (sym w.unused-is) (used_step rules entries p place needed more unused r known next within before grown (elim w.else-place-entries.branch [ else-place-entries-via-then-place-entries+else-not-contains w' ↦ inr (sym w'.contains.ensures.answer ∙ w'.if-not-contains.false) | else-place-entries-via-else-place-entries w' ↦ inl (omega (arith, w'.if-place-entries.false)) ])) ]
+    elim c.if-place-entries.branch [ then-place-entries+then-not-contains w ↦ subst (UsedFrom rules (drop p entries) p more) (sym w.unused-is) (unused_step rules entries p place needed more unused r known next within before grown (omega (arith, w.if-place-entries.true)) (ap needed (sym w.conclusion.ensures.conclusion) ∙ sym w.contains.ensures.answer ∙ w.if-not-contains.true)) | else-place-entries w ↦ subst (UsedFrom rules (drop p entries) p more) (sym w.unused-is) (used_step rules entries p place needed more unused r known next within before grown (elim w.else-place-entries.branch [ else-place-entries-via-then-place-entries+else-not-contains w' ↦ inr (ap needed (sym w'.conclusion.ensures.conclusion) ∙ sym w'.contains.ensures.answer ∙ w'.if-not-contains.false) | else-place-entries-via-else-place-entries w' ↦ inl (omega (arith, w'.if-place-entries.false)) ])) ]

@@ -1,4 +1,4 @@
-use Rattle.std.proofs.Common.{◌≡◌, ◌++◌, map, take}
+use Rattle.std.proofs.Common.{◌≡◌, ◌++◌, take}
 use Rattle.std.specs.List.{flat_map}
 use Rattle.feature_account.specs.RuleList.{member_features}
 use Rattle.feature_account.proofs.own_features.push_members_features.Given as goal

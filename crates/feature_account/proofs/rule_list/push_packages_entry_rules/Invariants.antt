@@ -1,4 +1,4 @@
-use Rattle.std.proofs.Common.{◌≡◌, ◌++◌, map, take}
+use Rattle.std.proofs.Common.{◌≡◌, ◌++◌, take}
 use Rattle.std.specs.List.{flat_map}
 use Rattle.feature_account.specs.RuleList.{entry_rules}
 use Rattle.feature_account.proofs.rule_list.push_packages_entry_rules.Given as goal

@@ -1,6 +1,6 @@
-use Rattle.std.proofs.Common.{◌≡◌, ◌++◌, [], List, OnOk, append-nil, sym, ap, subst, ◌∙◌}
+use Rattle.std.proofs.Common.{◌≡◌, ◌++◌, List, OnOk, append-nil, sym, ap, subst, ◌∙◌}
 use Rattle.std.specs.List.{flat_map}
-use Rattle.workspace_record.specs.Records.{Package, Text, Link}
+use Rattle.workspace_record.specs.Records.{Package, Text}
 use Rattle.feature_account.specs.declared.rule.Rule.{Rule}
 use Rattle.record_index.specs.LinkNames.{links_named}
 use Rattle.feature_account.specs.RuleList.{weak_rules}

@@ -7,4 +7,4 @@ use Rattle.feature_questions.proofs.switching.account_under.Goals as goal
 
 pub returns-clause-on : goal.returns-clause-on
 returns-clause-on c =
-    subst (λ rules. IfOk c.account_of.result (λ a. (f : FeatureValue) → IsTrue (concludes rules a.rules.items f) ↔ IsOn rules f)) (c.deref.ensures.value ∙ c.in_ok-rules.ensures.listed) c.account_of.ensures.on
+    subst (λ rules. IfOk c.account_of_lent.result (λ a. (f : FeatureValue) → IsTrue (concludes rules a.rules.items f) ↔ IsOn rules f)) (c.deref.ensures.value ∙ c.in_ok-rules.ensures.listed) c.account_of_lent.ensures.on
