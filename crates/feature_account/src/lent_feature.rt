@@ -1,17 +1,18 @@
 //! Features whose texts are lent.
 
 ghost use Rattle.std.specs.Prelude.{◌≡◌, IfOk};
-ghost use Rattle.workspace_record.specs.Features.{Base, Named, Dep, label_eq, label_kind, label_name};
+ghost use Rattle.workspace_record.specs.Features.{Base, Named, Dep, label_cmp, label_eq, label_kind, label_name};
 ghost use Rattle.feature_account.specs.LentLabels.{lent_label_view};
 
 use std::alloc::{AllocError, Global};
+use std::cmp::Ordering;
 use std::hash::{Hash, Hasher};
 use std::marker::Model;
 use workspace_record::{Feature, Label};
 
 /// What a lent feature is of its package, as `Label` has it.
 #[derive(Clone, Copy, Debug)]
-pub(crate) enum LentLabel<'a> {
+enum LentLabel<'a> {
     Base,
     Named(&'a str),
     Dep(&'a str),
@@ -21,11 +22,20 @@ impl<'a> LentLabel<'a> {
     fn is(self, other: LentLabel<'_>) -> bool
         ensures { result ≡ label_eq (lent_label_view self.entry) (lent_label_view other.entry) }
     {
-        self.place() == other.place() && self.name() == other.name()
+        self.kind() == other.kind() && self.name() == other.name()
+    }
+
+    fn compare(self, other: LentLabel<'_>) -> Ordering
+        ensures { result ≡ label_cmp (lent_label_view self.entry) (lent_label_view other.entry) }
+    {
+        match self.kind().cmp(&other.kind()) {
+            Ordering::Equal => self.name().cmp(other.name()),
+            order => order,
+        }
     }
 
     // The place of its kind in the order of labels.
-    fn place(self) -> u8
+    fn kind(self) -> u8
         ensures { result ≡ label_kind (lent_label_view self.entry) }
     {
         match self {
@@ -83,6 +93,39 @@ impl Eq for LentFeature<'_> {
     ghost laws = { equivalence features_decide };
 }
 
+impl PartialOrd for LentFeature<'_> {
+    ghost use Rattle.std.specs.Ordering.{as_partial_cmp};
+    ghost use Rattle.workspace_record.specs.Features.{feature_cmp, features_in_order};
+
+    ghost partial_cmp = { as_partial_cmp feature_cmp };
+
+    ghost laws = { features_in_order };
+
+    fn partial_cmp(&self, other: &Self) -> Option<Ordering> {
+        Some(self.cmp(other))
+    }
+}
+
+impl Ord for LentFeature<'_> {
+    ghost use Rattle.std.proofs.Common.{refl};
+    ghost use Rattle.workspace_record.specs.Features.{feature_cmp, feature_cmp_total, feature_ties};
+
+    ghost cmp = { feature_cmp };
+
+    ghost total = { feature_cmp_total };
+
+    ghost matches_partial_cmp = { λ a b. refl };
+
+    ghost matches_eq = { feature_ties };
+
+    fn cmp(&self, other: &Self) -> Ordering {
+        match self.package.cmp(other.package) {
+            Ordering::Equal => self.label.compare(other.label),
+            order => order,
+        }
+    }
+}
+
 impl Hash for LentFeature<'_> {
     ghost use Rattle.workspace_record.specs.Features.{feature_writes, same_feature_writes};
 
@@ -119,22 +162,25 @@ impl<'a> LentFeature<'a> {
         }
     }
 
-    pub(crate) fn base(id: &'a str) -> LentFeature<'a>
-        ensures { result ≡ record { package_id = id.entry.now; label = Base } }
+    /// The package itself.
+    pub fn base(id: &'a str) -> LentFeature<'a>
+        ensures feature { result ≡ record { package_id = id.entry.now; label = Base } }
     {
         let label = LentLabel::Base;
         LentFeature { package: id, label }
     }
 
-    pub(crate) fn named(id: &'a str, name: &'a str) -> LentFeature<'a>
-        ensures { result ≡ record { package_id = id.entry.now; label = Named name.entry.now } }
+    /// The package's feature of this name.
+    pub fn named(id: &'a str, name: &'a str) -> LentFeature<'a>
+        ensures feature { result ≡ record { package_id = id.entry.now; label = Named name.entry.now } }
     {
         let label = LentLabel::Named(name);
         LentFeature { package: id, label }
     }
 
-    pub(crate) fn dep(id: &'a str, name: &'a str) -> LentFeature<'a>
-        ensures { result ≡ record { package_id = id.entry.now; label = Dep name.entry.now } }
+    /// The package's optional dependency of this name.
+    pub fn dep(id: &'a str, name: &'a str) -> LentFeature<'a>
+        ensures feature { result ≡ record { package_id = id.entry.now; label = Dep name.entry.now } }
     {
         let label = LentLabel::Dep(name);
         LentFeature { package: id, label }

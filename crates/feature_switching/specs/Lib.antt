@@ -1,4 +1,3 @@
 pub mod Digits
-pub mod LentLabels
 pub mod OnLines
 pub mod Searches

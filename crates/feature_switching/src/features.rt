@@ -8,8 +8,8 @@ ghost use Rattle.feature_account.specs.Accounts.{concluded_set};
 ghost use Rattle.feature_account.specs.RuleList.{base_of, named_of, dep_of};
 ghost use Rattle.feature_switching.specs.Digits.{digits};
 
-use crate::lent_label::LentLabel;
 use crate::search::{finds, finds_counted};
+use feature_account::LentFeature;
 use numbered_graph::Looks;
 use std::alloc::AllocError;
 use std::marker::{Brand, Model};
@@ -56,29 +56,28 @@ impl FeaturesOn {
         ensures answer { IsTrue result ↔ Contains self.now feature.now }
         ensures looks { looks.new ≤ looks.old + digits (length self.now) }
     {
-        let label = LentLabel::of(&feature.label);
-        finds_counted(&self.features, feature.package.as_str(), label, looks)
+        finds_counted(&self.features, &LentFeature::of(feature), looks)
     }
 
     /// Whether the package's base is on.
     pub fn contains_base(&self, package_id: &str) -> bool
         ensures { result ≡ concluded_set self.now (base_of package_id.now) }
     {
-        finds(&self.features, package_id, LentLabel::Base)
+        finds(&self.features, &LentFeature::base(package_id))
     }
 
     /// Whether the package's feature of this name is on.
     pub fn contains_named(&self, package_id: &str, name: &str) -> bool
         ensures { result ≡ concluded_set self.now (named_of package_id.now name.now) }
     {
-        finds(&self.features, package_id, LentLabel::Named(name))
+        finds(&self.features, &LentFeature::named(package_id, name))
     }
 
     /// Whether the package's optional dependency of this name is on.
     pub fn contains_dep(&self, package_id: &str, name: &str) -> bool
         ensures { result ≡ concluded_set self.now (dep_of package_id.now name.now) }
     {
-        finds(&self.features, package_id, LentLabel::Dep(name))
+        finds(&self.features, &LentFeature::dep(package_id, name))
     }
 
     /// The features in order.

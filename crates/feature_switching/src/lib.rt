@@ -3,7 +3,6 @@
 
 pub mod availability;
 mod features;
-mod lent_label;
 mod search;
 
 pub use crate::features::FeaturesOn;

@@ -2,7 +2,7 @@
 
 ghost use Rattle.std.specs.Prelude.{◌≡◌, ◌≢◌, ◌↔◌, ◌<◌, AllPairs, IfErr, IfOk, IsTrue, Ok, length};
 ghost use Rattle.package_rules.specs.Kept.{AreKept};
-ghost use Rattle.guppy_package_table.specs.Refusals.{IsRefusal};
+ghost use Rattle.package_rules.specs.Refusals.{IsRefusal};
 ghost use Rattle.guppy_package_table.specs.Tables.{IsTableOf, id_at, ids_of, numbered_links, place_among};
 ghost use Rattle.numbered_graph.specs.Links.{near_at};
 ghost use Rattle.guppy_workspace_members.specs.Members.{AreByName, AreByPath};

@@ -6,4 +6,3 @@ pub mod TableLinks
 pub mod Tables
 pub mod Members
 pub mod Indices
-pub mod Refusals

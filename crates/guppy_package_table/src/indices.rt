@@ -1,16 +1,16 @@
 //! What is found in rows at once.
 
-ghost use Rattle.std.specs.Prelude.{◌≡◌, All, IfOk, length, map, nat_lt};
+ghost use Rattle.std.specs.Prelude.{◌≡◌, IfOk, length, map, nat_lt};
 ghost use Rattle.numbered_graph.specs.Listings.{IsListing};
 ghost use Rattle.numbered_graph.specs.Sets.{has};
-ghost use Rattle.package_rules.specs.Kept.{IsRequirement};
+ghost use Rattle.package_rules.specs.Readings.{AreRequirementsOf, AreVersionsOf};
 ghost use Rattle.guppy_package_table.specs.Indices.{ArePackagesKept, IndexesLinks, IndexesPackages};
 ghost use Rattle.guppy_package_table.specs.Tables.{AreKnownEnds, firm_flags, ids_of, link_between};
 
 use crate::members::{Members, members_of};
 use crate::numbering::{firm_links, numbered_links};
 use crate::package_ids::ids_of;
-use crate::reading::{requirements_of, rust_names_of, versions_of};
+use crate::rust_names::rust_names_of;
 use guppy_package_parts::{LinkRow, PackageId, PackageRow, WorkspaceRow};
 use indexmap::IndexSet;
 use numbered_graph::{Graph, listing};
@@ -37,8 +37,8 @@ impl Drop for PackageIndices {
     }
 }
 
-/// The record of packages and a workspace with their indices, which tables share that differ in their
-/// links alone. The record is shared too, with whom it was had of.
+/// A record with what is found in its packages and workspace at once: what tables share that differ in
+/// their links alone. Whoever gave the record shares it too.
 pub struct SharedRows {
     pub rows: Rc<WorkspaceRecord>,
     pub indices: PackageIndices,
@@ -96,17 +96,19 @@ impl Drop for LinkIndices {
     }
 }
 
-/// What is found at once in packages and a workspace, which keep the rules with some links.
+/// What is found at once in packages and a workspace, which keep the rules with some links, beside the
+/// versions that were read.
 pub(crate) fn package_indices(
     alloc: Global,
     packages: &[PackageRow],
     workspace: &WorkspaceRow,
+    versions: Vec<Version>,
 ) -> Result<PackageIndices, AllocError>
-    requires { ArePackagesKept packages.now workspace.now }
+    requires kept { ArePackagesKept packages.now workspace.now }
+    requires read { AreVersionsOf packages.now versions.items }
     ensures { IfOk result (IndexesPackages packages.now workspace.now) }
 {
     let ids = ids_of(alloc, packages)?;
-    let versions = versions_of(alloc, packages)?;
     let members = members_of(alloc, &ids, workspace)?;
     Ok(PackageIndices {
         ids,
@@ -115,18 +117,18 @@ pub(crate) fn package_indices(
     })
 }
 
-/// What is found at once in links between these packages.
+/// What is found at once in links between these packages, beside the requirements that were read.
 pub(crate) fn link_indices(
     alloc: Global,
     shared: &SharedRows,
     links: &[LinkRow],
+    requirements: Vec<VersionReq>,
 ) -> Result<LinkIndices, AllocError>
     requires ids { shared.now.indices.ids.keys ≡ ids_of shared.now.rows.value.packages }
     requires ends { AreKnownEnds (ids_of shared.now.rows.value.packages) links.now }
-    requires read { All (λ l. IsRequirement l.requirement) links.now }
+    requires read { AreRequirementsOf links.now requirements.items }
     ensures { IfOk result (IndexesLinks shared.now.rows.value.packages links.now) }
 {
-    let requirements = requirements_of(alloc, links)?;
     let rust_names = rust_names_of(alloc, links)?;
     let graph = graph_of(alloc, &shared.indices.ids, links)?;
     let listing = listing_of(alloc, &graph, links)?;

@@ -10,9 +10,8 @@ mod members;
 mod named_features;
 mod numbering;
 mod package_details;
-mod package_graph_error;
 mod package_ids;
-mod reading;
+mod rust_names;
 mod table;
 mod table_links;
 
@@ -20,5 +19,5 @@ pub use crate::build_targets::BuildTargets;
 pub use crate::link_details::LinkDetails;
 pub use crate::named_features::NamedFeatures;
 pub use crate::package_details::PackageDetails;
-pub use crate::package_graph_error::PackageGraphError;
 pub use crate::table::PackageTable;
+pub use package_rules::PackageGraphError;

@@ -5,11 +5,12 @@ ghost use Rattle.std.specs.Option.{option_copied};
 ghost use Rattle.std.specs.Str.{bytes_eq};
 ghost use Rattle.numbered_graph.specs.Listings.{IsListing};
 ghost use Rattle.numbered_graph.specs.Sets.{has};
-ghost use Rattle.package_rules.specs.Kept.{AreKept, IsRequirement};
-ghost use Rattle.guppy_package_table.specs.Indices.{IndexesPackages};
+ghost use Rattle.package_rules.specs.Kept.{AreKept};
+ghost use Rattle.package_rules.specs.Readings.{AreReadIn, AreRequirementsOf, AreVersionsOf};
+ghost use Rattle.package_rules.specs.Refusals.{IsRefusal};
+ghost use Rattle.guppy_package_table.specs.Indices.{ArePackagesKept, IndexesPackages};
 ghost use Rattle.guppy_package_table.specs.LinkDetailsViews as link_views;
 ghost use Rattle.guppy_package_table.specs.PackageDetailsViews.{member_path_of, row_of};
-ghost use Rattle.guppy_package_table.specs.Refusals.{IsRefusal};
 ghost use Rattle.guppy_package_table.specs.TableLinks.{links_of};
 ghost use Rattle.guppy_package_table.specs.Tables.{AreKnownEnds, IsClear, IsFirstBetween, IsTableOf, firm_flags, ids_of, member_of, member_path_at, numbered_links, place_among};
 
@@ -17,12 +18,12 @@ use crate::indices::{LinkIndices, SharedRows, link_indices, package_indices};
 use crate::link_details::LinkDetails;
 use crate::members::{member_among, member_at};
 use crate::package_details::PackageDetails;
-use crate::package_graph_error::PackageGraphError;
 use crate::package_ids::find_id;
 use crate::table_links::TableLinks;
 use guppy_package_parts::{LinkRow, MemberRow, PackageId, PackageRow, WorkspaceRow};
 use numbered_graph::{Direction, Graph};
-use package_rules::first_broken_rule;
+use package_rules::{PackageGraphError, RowReadings, read_requirements, read_rows};
+use semver::{Version, VersionReq};
 use std::alloc::{AllocError, Global};
 use std::marker::Model;
 use std::rc::Rc;
@@ -83,20 +84,28 @@ impl PackageTable {
         ensures built { IfOk result (λ t. AreKept rows.value.packages rows.value.links rows.value.workspace × IsTableOf rows.value.packages rows.value.links rows.value.workspace t) }
         ensures refused { IfErr result (IsRefusal rows.value.packages rows.value.links rows.value.workspace) }
     {
-        test_rules(alloc, rows.as_ref())?;
-        let table = PackageTable::of_kept(alloc, rows)?;
+        let readings = read_record(alloc, rows.as_ref())?;
+        let table = PackageTable::of_kept(alloc, rows, readings)?;
         Ok(table)
     }
 
-    /// The table of a record whose rows keep the rules on packages, links and members.
-    fn of_kept(alloc: Global, rows: Rc<WorkspaceRecord>) -> Result<PackageTable, AllocError>
+    /// The table of a record whose rows keep the rules on packages, links and members, with what was read
+    /// of them.
+    fn of_kept(
+        alloc: Global,
+        rows: Rc<WorkspaceRecord>,
+        readings: RowReadings,
+    ) -> Result<PackageTable, AllocError>
         requires kept { AreKept rows.value.packages rows.value.links rows.value.workspace }
+        requires read { AreReadIn rows.value.packages rows.value.links readings }
         ensures { IfOk result (IsTableOf rows.value.packages rows.value.links rows.value.workspace) }
     {
-        let record = rows.as_ref();
-        let indices = package_indices(alloc, &record.packages, &record.workspace)?;
-        let shared = Rc::new(alloc, SharedRows { rows, indices })?;
-        PackageTable::over(alloc, shared, TableLinks::OfRecord)
+        let RowReadings {
+            versions,
+            requirements,
+        } = readings;
+        let shared = shared_rows(alloc, rows, versions)?;
+        PackageTable::over(alloc, shared, TableLinks::OfRecord, requirements)
     }
 
     /// The table of the same packages and workspace with these links, which keep the rules with them.
@@ -104,21 +113,28 @@ impl PackageTable {
         requires kept { AreKept self.now.packages links.items self.now.workspace }
         ensures built { IfOk result (IsTableOf self.now.packages links.items self.now.workspace) }
     {
-        PackageTable::over(alloc, self.shared.clone()?, TableLinks::Others(links))
+        let requirements = requirements_of(alloc, &links)?;
+        PackageTable::over(
+            alloc,
+            self.shared.clone()?,
+            TableLinks::Others(links),
+            requirements,
+        )
     }
 
     fn over(
         alloc: Global,
         shared: Rc<SharedRows>,
         links: TableLinks,
+        requirements: Vec<VersionReq>,
     ) -> Result<PackageTable, AllocError>
         requires ends { AreKnownEnds (ids_of shared.value.rows.value.packages) (links_of shared.value.rows.value.links links) }
-        requires read { All (λ l. IsRequirement l.requirement) (links_of shared.value.rows.value.links links) }
+        requires read { AreRequirementsOf (links_of shared.value.rows.value.links links) requirements.items }
         requires indexed { IndexesPackages shared.value.rows.value.packages shared.value.rows.value.workspace shared.value.indices }
         ensures { IfOk result (IsTableOf shared.value.rows.value.packages (links_of shared.value.rows.value.links links) shared.value.rows.value.workspace) }
     {
         let rows = shared.as_ref();
-        let indices = link_indices(alloc, rows, links.rows(rows.links()))?;
+        let indices = link_indices(alloc, rows, links.rows(rows.links()), requirements)?;
         Ok(PackageTable {
             shared,
             links,
@@ -286,15 +302,40 @@ fn rows_of(
     Ok(rows)
 }
 
-/// Tests the rules on packages, links and members.
-fn test_rules(alloc: Global, rows: &WorkspaceRecord) -> Result<(), PackageGraphError>
+/// What is read of the record's rows, which keep the rules on packages, links and members.
+fn read_record(alloc: Global, rows: &WorkspaceRecord) -> Result<RowReadings, PackageGraphError>
     ensures kept { IfOk result (λ _. AreKept rows.now.packages rows.now.links rows.now.workspace) }
+    ensures read { IfOk result (AreReadIn rows.now.packages rows.now.links) }
     ensures refused { IfErr result (IsRefusal rows.now.packages rows.now.links rows.now.workspace) }
 {
-    match first_broken_rule(alloc, &rows.packages, &rows.links, &rows.workspace)? {
-        None => Ok(()),
-        Some((rule, place)) => Err(PackageGraphError::Broken { rule, place }),
+    read_rows(alloc, &rows.packages, &rows.links, &rows.workspace)
+}
+
+/// The requirements of links that keep the rules, so that want of memory is all that stops it.
+fn requirements_of(alloc: Global, links: &[LinkRow]) -> Result<Vec<VersionReq>, AllocError>
+    ensures { IfOk result (λ requirements. AreRequirementsOf links.now requirements.items) }
+{
+    match read_requirements(alloc, links) {
+        Ok(requirements) => Ok(requirements),
+        Err(_) => Err(AllocError),
     }
+}
+
+/// The record with what is found in its packages and workspace at once, for tables to share.
+fn shared_rows(
+    alloc: Global,
+    rows: Rc<WorkspaceRecord>,
+    versions: Vec<Version>,
+) -> Result<Rc<SharedRows>, AllocError>
+    requires kept { ArePackagesKept rows.value.packages rows.value.workspace }
+    requires read { AreVersionsOf rows.value.packages versions.items }
+    ensures rows { IfOk result (λ shared. shared.value.rows ≡ rows) }
+    ensures indexed { IfOk result (λ shared. IndexesPackages rows.value.packages rows.value.workspace shared.value.indices) }
+{
+    let record = rows.as_ref();
+    let indices = package_indices(alloc, &record.packages, &record.workspace, versions)?;
+    let shared = Rc::new(alloc, SharedRows { rows, indices })?;
+    Ok(shared)
 }
 
 /// The path in the workspace of the member with a number, if there is one.

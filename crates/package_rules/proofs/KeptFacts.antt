@@ -1,5 +1,5 @@
 -- Rows that break none of the rules on packages, links and members.
-use Rattle.std.proofs.Common.{◌≡◌, ◌≢◌, ℕ, zero, suc, ◌<◌, ◌≤◌, ◌==◌, Bool, true, false, not, ◌&&◌, List, [], ◌∷◌, ◌++◌, Option, Some, None, is_none, is_ok, Result, Ok, Err, IfOk, length, get_or, take, map, position, nat_lt, cond, refl, sym, ◌∙◌, ap, subst, append-nil, append_assoc, arith, length-take, get_or-take, true≢false, All, AllPairs, Any, Contains, ◌↔◌}
+use Rattle.std.proofs.Common.{◌≡◌, ◌≢◌, ℕ, zero, suc, ◌<◌, ◌≤◌, ◌==◌, Bool, true, false, not, ◌&&◌, List, [], ◌∷◌, ◌++◌, Option, Some, None, is_none, is_ok, Result, Ok, Err, length, get_or, take, map, position, nat_lt, cond, refl, sym, ◌∙◌, ap, subst, append-nil, append_assoc, arith, length-take, get_or-take, true≢false, All, AllPairs, Any, Contains, ◌↔◌}
 use Rattle.std.specs.Bool.{Decides}
 use Rattle.std.specs.Cmp.{Equal-is}
 use Rattle.std.specs.List.{list_any, position_or_len, AllByRecursion}
@@ -83,7 +83,7 @@ module _ {X : Type 0} (p : X → Bool) (P : X → Type 0) (tells : (x : X) → (
     λ each. no_position p xs (list_any_none p xs (λ k d lt. (tells (get_or xs k d)).1 (each k d lt))),
   )
 
-fault_here : (rule : RecordRule) (a : Option ℕ) (b : Option (RecordRule × ℕ)) → (option_map_or (λ place. Some (rule, place)) a b ≡ None) ↔ ((a ≡ None) × (b ≡ None))
+pub fault_here : (rule : RecordRule) (a : Option ℕ) (b : Option (RecordRule × ℕ)) → (option_map_or (λ place. Some (rule, place)) a b ≡ None) ↔ ((a ≡ None) × (b ≡ None))
 fault_here rule None b = (λ e. (refl, e), λ h. h.1)
 fault_here rule (Some place) b = (λ e. absurd cc, λ h. absurd cc)
 
@@ -218,9 +218,3 @@ module _ (packages : List Package) (links : List Link) (workspace : WorkspaceDet
         },
         λ k. all.1 (ids.1 k.ids_apart, (versions_iff.1 k.versions_read, (link_ends_iff.1 k.ends_known, (keys.1 k.links_apart, (link_lines_iff.1 k.links_have_lines, (requirements_iff.1 k.requirements_read, (both.1 (members_iff.1 k.members_known, member_ids.1 k.members_apart), (names.1 k.member_names_apart, (paths.1 k.member_paths_apart, (defaults_iff.1 k.defaults_are_members, (targets_iff.1 k.targets_apart, tt))))))))))),
       )
-
--- the same of a call that answers the first broken rule
-pub kept_where_told : {E : Type 0} (r : Result (Option (RecordRule × ℕ)) E) (packages : List Package) (links : List Link) (workspace : WorkspaceDetails) → IfOk r (λ broken. broken ≡ first_fault (first_broken packages links workspace) package_rules) → IfOk r (λ broken. (broken ≡ None) ↔ AreKept packages links workspace)
-kept_where_told (Ok broken) packages links workspace e =
-    subst (λ first. (first ≡ None) ↔ AreKept packages links workspace) (sym e) (kept_iff packages links workspace)
-kept_where_told (Err error) packages links workspace e = tt

@@ -4,3 +4,5 @@ pub mod Positions
 pub mod FoundFacts
 pub mod RepeatFacts
 pub mod KeptFacts
+pub mod FaultFacts
+pub mod ReadingFacts

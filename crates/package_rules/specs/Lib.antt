@@ -5,3 +5,5 @@ pub mod RuleTexts
 pub mod Rules
 pub mod Found
 pub mod Kept
+pub mod Readings
+pub mod Refusals

@@ -87,10 +87,17 @@ first_broken packages links workspace RequiredFeatures = None
 first_broken packages links workspace Groups = None
 first_broken packages links workspace Filters = None
 
+-- the rules on links, but for that on requirements
+abbrev pub link_rules : List RecordRule
+link_rules = LinkEnds ∷ (LinkNames ∷ (LinkLines ∷ []))
+
+-- the rules on members and default members, and that on targets
+abbrev pub member_rules : List RecordRule
+member_rules = Members ∷ (MemberNames ∷ (MemberPaths ∷ (DefaultMembers ∷ (Targets ∷ []))))
+
 -- the rules on packages, links and members in the order in which they are tested
 abbrev pub package_rules : List RecordRule
-package_rules =
-    PackageIds ∷ (Versions ∷ (LinkEnds ∷ (LinkNames ∷ (LinkLines ∷ (Requirements ∷ (Members ∷ (MemberNames ∷ (MemberPaths ∷ (DefaultMembers ∷ (Targets ∷ []))))))))))
+package_rules = PackageIds ∷ (Versions ∷ (link_rules ++ (Requirements ∷ member_rules)))
 
 -- the first of the rules that is broken, and the first place that breaks it, where each rule has the place given for it
 abbrev pub first_fault : (RecordRule → Option ℕ) → List RecordRule → Option (RecordRule × ℕ)

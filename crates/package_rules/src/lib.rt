@@ -5,13 +5,16 @@ pub mod distinct;
 mod id_rules;
 mod link_rules;
 mod member_rules;
+mod package_graph_error;
 mod package_rules;
 mod paths;
+mod readings;
 mod record_rule;
 mod target_rules;
 pub mod text_sets;
-mod version_rules;
 
-pub use crate::package_rules::first_broken_rule;
+pub use crate::package_graph_error::PackageGraphError;
+pub use crate::package_rules::read_rows;
 pub use crate::paths::{PathText, compare_paths, same_path};
+pub use crate::readings::{RowReadings, read_requirements};
 pub use crate::record_rule::RecordRule;

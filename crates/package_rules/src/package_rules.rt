@@ -1,95 +1,103 @@
-//! The first rule on packages, links and members that rows break.
+//! What is read in rows, or the first rule on packages, links and members that they break.
 
-ghost use Rattle.std.specs.Prelude.{◌≡◌, ◌↔◌, IfOk, None};
+ghost use Rattle.std.specs.Prelude.{◌≡◌, IfErr, IfOk, List, None, option_map};
+ghost use Rattle.workspace_record.specs.Records.{Link, WorkspaceDetails};
 ghost use Rattle.package_rules.specs.Kept.{AreKept};
-ghost use Rattle.package_rules.specs.Rules.{first_broken, first_fault, package_rules};
+ghost use Rattle.package_rules.specs.Readings.{AreReadIn};
+ghost use Rattle.package_rules.specs.Refusals.{IsRefusal, Names};
+ghost use Rattle.package_rules.specs.Rules.{first_broken, first_fault, link_rules, member_rules};
 
 use crate::id_rules::first_repeated_id;
 use crate::link_rules::{first_empty_link, first_repeated_link, first_unknown_end};
 use crate::member_rules::{
     first_bad_member, first_repeated_name, first_repeated_path, first_unknown_default,
 };
+use crate::package_graph_error::PackageGraphError;
+use crate::readings::{RowReadings, read_requirements, read_versions};
 use crate::record_rule::RecordRule;
 use crate::target_rules::first_repeated_target;
-use crate::version_rules::{first_unread_requirement, first_unread_version};
-use std::alloc::{AllocError, Global};
+use std::alloc::Global;
 use workspace_record::{LinkRecord, PackageRecord, WorkspaceInfo};
 
-/// The rules on packages, links and members in the order in which they are tested.
-const RULES: [RecordRule; 11] = [
-    RecordRule::PackageIds,
-    RecordRule::Versions,
-    RecordRule::LinkEnds,
-    RecordRule::LinkNames,
-    RecordRule::LinkLines,
-    RecordRule::Requirements,
-    RecordRule::Members,
-    RecordRule::MemberNames,
-    RecordRule::MemberPaths,
-    RecordRule::DefaultMembers,
-    RecordRule::Targets,
-];
-
-/// The first of the rules on packages, links and members that these rows break, with the first
-/// place that breaks it. Places count packages, links, members or default members from 0, as the
-/// rule says; of two equal entries the later one breaks it.
-pub fn first_broken_rule(
+/// What is read in these rows, which keep the rules on packages, links and members; or the first of the
+/// rules that they break, with the first place that breaks it. Places count packages, links, members or
+/// default members from 0, as the rule says; of two equal entries the later one breaks it.
+pub fn read_rows(
     alloc: Global,
     packages: &[PackageRecord],
     links: &[LinkRecord],
     workspace: &WorkspaceInfo,
-) -> Result<Option<(RecordRule, usize)>, AllocError>
-    ensures first { IfOk result (λ broken. broken ≡ first_fault (first_broken packages.now links.now workspace.now) package_rules) }
-    ensures kept { IfOk result (λ broken. (broken ≡ None) ↔ AreKept packages.now links.now workspace.now) }
+) -> Result<RowReadings, PackageGraphError>
+    ensures kept { IfOk result (λ _. AreKept packages.now links.now workspace.now) }
+    ensures read { IfOk result (AreReadIn packages.now links.now) }
+    ensures refused { IfErr result (IsRefusal packages.now links.now workspace.now) }
 {
-    first_fault(alloc, &RULES, packages, links, workspace)
+    test(RecordRule::PackageIds, first_repeated_id(alloc, packages)?)?;
+    let versions = read_versions(alloc, packages)?;
+    test_links(alloc, packages, links)?;
+    let requirements = read_requirements(alloc, links)?;
+    test_members(alloc, packages, workspace)?;
+    Ok(RowReadings {
+        versions,
+        requirements,
+    })
 }
 
-fn first_fault(
+/// Tests the rules on links, but for that on requirements.
+fn test_links(
     alloc: Global,
-    rules: &[RecordRule],
     packages: &[PackageRecord],
     links: &[LinkRecord],
-    workspace: &WorkspaceInfo,
-) -> Result<Option<(RecordRule, usize)>, AllocError>
-    ensures { IfOk result (λ broken. broken ≡ first_fault (first_broken packages.now links.now workspace.now) rules.now) }
+) -> Result<(), PackageGraphError>
+    ensures kept { IfOk result (λ _. (w : WorkspaceDetails) → first_fault (first_broken packages.now links.now w) link_rules ≡ None) }
+    ensures refused { IfErr result (λ e. (w : WorkspaceDetails) → Names (first_fault (first_broken packages.now links.now w) link_rules) e) }
 {
-    for rule in rules {
-        if let Some(place) = first_broken(alloc, *rule, packages, links, workspace)? {
-            return Ok(Some((*rule, place)));
-        }
-    }
-    Ok(None)
+    test(
+        RecordRule::LinkEnds,
+        first_unknown_end(alloc, packages, links)?,
+    )?;
+    test(RecordRule::LinkNames, first_repeated_link(alloc, links)?)?;
+    test(RecordRule::LinkLines, first_empty_link(links))?;
+    Ok(())
 }
 
-/// The first place at which these rows break the rule.
-fn first_broken(
+/// Tests the rules on members and default members, and last of all that on targets.
+fn test_members(
     alloc: Global,
-    rule: RecordRule,
     packages: &[PackageRecord],
-    links: &[LinkRecord],
     workspace: &WorkspaceInfo,
-) -> Result<Option<usize>, AllocError>
-    ensures { IfOk result (λ place. place ≡ first_broken packages.now links.now workspace.now rule) }
+) -> Result<(), PackageGraphError>
+    ensures kept { IfOk result (λ _. (links : List Link) → first_fault (first_broken packages.now links workspace.now) member_rules ≡ None) }
+    ensures refused { IfErr result (λ e. (links : List Link) → Names (first_fault (first_broken packages.now links workspace.now) member_rules) e) }
 {
-    match rule {
-        RecordRule::PackageIds => first_repeated_id(alloc, packages),
-        RecordRule::Versions => first_unread_version(alloc, packages),
-        RecordRule::LinkEnds => first_unknown_end(alloc, packages, links),
-        RecordRule::LinkNames => first_repeated_link(alloc, links),
-        RecordRule::LinkLines => Ok(first_empty_link(links)),
-        RecordRule::Requirements => first_unread_requirement(alloc, links),
-        RecordRule::Members => first_bad_member(alloc, packages, workspace),
-        RecordRule::MemberNames => first_repeated_name(alloc, packages, &workspace.members),
-        RecordRule::MemberPaths => first_repeated_path(alloc, &workspace.members),
-        RecordRule::DefaultMembers => first_unknown_default(alloc, workspace),
-        RecordRule::Targets => first_repeated_target(alloc, packages),
-        RecordRule::OptionalLines
-        | RecordRule::FeatureNames
-        | RecordRule::BinaryIds
-        | RecordRule::BinaryIdTexts
-        | RecordRule::RequiredFeatures
-        | RecordRule::Groups
-        | RecordRule::Filters => Ok(None),
+    let members = &workspace.members;
+    test(
+        RecordRule::Members,
+        first_bad_member(alloc, packages, workspace)?,
+    )?;
+    test(
+        RecordRule::MemberNames,
+        first_repeated_name(alloc, packages, members)?,
+    )?;
+    test(
+        RecordRule::MemberPaths,
+        first_repeated_path(alloc, members)?,
+    )?;
+    test(
+        RecordRule::DefaultMembers,
+        first_unknown_default(alloc, workspace)?,
+    )?;
+    test(RecordRule::Targets, first_repeated_target(alloc, packages)?)?;
+    Ok(())
+}
+
+/// Refuses where the rule is broken at a place.
+fn test(rule: RecordRule, broken: Option<usize>) -> Result<(), PackageGraphError>
+    ensures kept { IfOk result (λ _. broken ≡ None) }
+    ensures refused { IfErr result (Names (option_map (λ place. (rule, place)) broken)) }
+{
+    match broken {
+        None => Ok(()),
+        Some(place) => Err(PackageGraphError::Broken { rule, place }),
     }
 }

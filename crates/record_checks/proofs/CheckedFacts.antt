@@ -4,9 +4,9 @@ use Rattle.std.specs.Option.{option_or}
 use Rattle.workspace_record.specs.Records.{Workspace}
 use Rattle.package_rules.specs.Kept.{AreKept}
 use Rattle.package_rules.specs.Rules.{first_fault}
-use Rattle.guppy_package_table.specs.Refusals.{IsRefusal}
-use Rattle.guppy_package_table.specs.declared.package_graph_error.PackageGraphError.{PackageGraphError}
-use Rattle.guppy_package_table.specs.declared.package_graph_error.PackageGraphError.TheVariants as graph
+use Rattle.package_rules.specs.Refusals.{IsRefusal}
+use Rattle.package_rules.specs.declared.package_graph_error.PackageGraphError.{PackageGraphError}
+use Rattle.package_rules.specs.declared.package_graph_error.PackageGraphError.TheVariants as graph
 use Rattle.package_rules.specs.declared.record_rule.RecordRule.{RecordRule}
 use Rattle.package_rules.proofs.KeptFacts.{kept_iff}
 use Rattle.record_rules.specs.RecordRules.{fault_of, further_broken, further_rules}

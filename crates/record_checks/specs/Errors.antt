@@ -1,7 +1,7 @@
 -- How the refusal of one thing is that of a larger one.
 use Rattle.std.specs.Prelude.{ℕ}
-use Rattle.guppy_package_table.specs.declared.package_graph_error.PackageGraphError.{PackageGraphError}
-use Rattle.guppy_package_table.specs.declared.package_graph_error.PackageGraphError.TheVariants as graph
+use Rattle.package_rules.specs.declared.package_graph_error.PackageGraphError.{PackageGraphError}
+use Rattle.package_rules.specs.declared.package_graph_error.PackageGraphError.TheVariants as graph
 use Rattle.nextest_filtering.specs.declared.refusals.FiltersetError.{FiltersetError}
 use Rattle.nextest_filtering.specs.declared.refusals.FiltersetError.TheVariants as filterset
 use Rattle.record_checks.specs.declared.record_error.RecordError.{RecordError}

@@ -2,7 +2,7 @@
 
 ghost use Rattle.std.specs.Prelude.{◌≡◌, IfErr, IfOk, map};
 ghost use Rattle.package_rules.specs.Kept.{AreKept};
-ghost use Rattle.guppy_package_table.specs.Refusals.{IsRefusal};
+ghost use Rattle.package_rules.specs.Refusals.{IsRefusal};
 ghost use Rattle.guppy_package_table.specs.Tables.{ids_of};
 ghost use Rattle.nextest_filtering.specs.Contexts.{IsContextOf};
 ghost use Rattle.nextest_filtering.specs.ContextViews.{listed_as};

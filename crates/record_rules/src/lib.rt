@@ -10,5 +10,5 @@ mod optional_lines;
 mod record_rules;
 mod test_binary;
 
-pub use crate::record_rules::{fault_of, further_fault_of};
+pub use crate::record_rules::further_fault_of;
 pub use package_rules::RecordRule;

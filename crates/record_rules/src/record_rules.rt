@@ -1,20 +1,19 @@
-//! The first rule that a record breaks.
+//! The first rule on features, binaries and groups that a record breaks.
 
 ghost use Rattle.std.specs.Prelude.{◌≡◌, IfOk, map};
 ghost use Rattle.package_rules.specs.Rules.{first_fault};
 ghost use Rattle.record_rules.specs.Binaries.{binaries};
 ghost use Rattle.record_rules.specs.BinaryView.{binary_view};
-ghost use Rattle.record_rules.specs.RecordRules.{further_broken, further_rules, fault_of};
+ghost use Rattle.record_rules.specs.RecordRules.{further_broken, further_rules};
 
-use crate::binaries::{TestBinary, binaries};
+use crate::binaries::TestBinary;
 use crate::binary_rules::{first_blank_binary, first_repeated_binary};
 use crate::feature_rules::{first_lacking_package, first_repeated_feature};
 use crate::group_rules::first_bad_group;
 use crate::optional_lines::first_unnamed_link;
-use package_rules::{RecordRule, first_broken_rule};
+use package_rules::RecordRule;
 use record_index::RecordIndex;
 use std::alloc::{AllocError, Global};
-use workspace_record::WorkspaceRecord;
 
 /// The rules on optional lines, features, binaries and names of groups in the order in which they are
 /// tested.
@@ -26,33 +25,6 @@ const FURTHER_RULES: [RecordRule; 6] = [
     RecordRule::RequiredFeatures,
     RecordRule::Groups,
 ];
-
-/// The first rule that the record breaks, with its first place: the rules on packages, links and
-/// members come before those on optional lines, features, binaries and names of groups.
-pub fn fault_of(
-    alloc: Global,
-    record: &WorkspaceRecord,
-) -> Result<Option<(RecordRule, usize)>, AllocError>
-    ensures first { IfOk result (λ fault. fault ≡ fault_of record.now) }
-{
-    let broken = first_broken_rule(alloc, &record.packages, &record.links, &record.workspace)?;
-    if broken.is_some() {
-        Ok(broken)
-    } else {
-        further_fault(alloc, record)
-    }
-}
-
-fn further_fault(
-    alloc: Global,
-    record: &WorkspaceRecord,
-) -> Result<Option<(RecordRule, usize)>, AllocError>
-    ensures { IfOk result (λ fault. fault ≡ first_fault (further_broken record.now) further_rules) }
-{
-    let index = RecordIndex::of(alloc, record)?;
-    let all = binaries(alloc, record)?;
-    further_fault_of(alloc, &index, &all)
-}
 
 /// The first rule on optional lines, features, binaries and names of groups that the record breaks, with
 /// its first place. The record is given with what is found in it at once, and with its test binaries.

@@ -2,7 +2,6 @@ use Rattle.std.proofs.Common.{◌≡◌, ◌+◌, ◌-◌, ◌/◌, ◌<◌, len
 use Rattle.std.specs.declared.cmp.Ordering.TheVariants.{Less, Equal, Greater}
 use Rattle.std.proofs.lemmas.List.{get_or_read}
 use Rattle.workspace_record.specs.Features.{FeatureValue, feature_cmp}
-use Rattle.feature_switching.specs.LentLabels.{lent_view}
 use Rattle.feature_switching.specs.Searches.{LooksLeft}
 use Rattle.feature_switching.proofs.SearchFacts.{found_at, found_nowhere, between_after, between_before, looks_at_start, looks_less}
 use Rattle.feature_switching.proofs.search.finds_counted.Goals as goal
@@ -18,24 +17,24 @@ loop-low-init g c = record {
 pub returns-in-Equal-clause-found : goal.returns-in-Equal-clause-found
 returns-in-Equal-clause-found g c =
     let on = c.args.features.now in
-    let f : FeatureValue = record { package_id = c.args.package_id.now; label = lent_view c.args.label } in
+    let f : FeatureValue = c.args.wanted.now in
     let low = c.loop-low.low in
     let high = c.loop-low.high in
     let i = low + (high - low) / 2 in
     let lt : i < length on = let test = c.loop-low-test.true in let within = c.loop-low.invariant.within in omega arith in
-    found_at on f c.requires i lt (subst (λ x. feature_cmp x f ≡ Equal) (get_or_read on i c.index-features-middle.result lt c.index-features-middle.is f) (sym c.compare.ensures ∙ c.in-Equal.is))
+    found_at on f c.requires i lt (subst (λ x. feature_cmp x f ≡ Equal) (c.of.ensures.lent ∙ get_or_read on i c.index-features-middle.result lt c.index-features-middle.is f) (sym c.cmp.ensures ∙ c.in-Equal.is))
 
 pub loop-low-preserved-in-Less : goal.loop-low-preserved-in-Less
 loop-low-preserved-in-Less g c =
     let on = c.args.features.now in
-    let f : FeatureValue = record { package_id = c.args.package_id.now; label = lent_view c.args.label } in
+    let f : FeatureValue = c.args.wanted.now in
     let low = c.loop-low.low in
     let high = c.loop-low.high in
     let i = low + (high - low) / 2 in
     let was = c.loop-low.invariant in
     let test : low < high = c.loop-low-test.true in
     let lt : i < length on = let within = was.within in omega arith in
-    let less : feature_cmp (get_or on i f) f ≡ Less = subst (λ x. feature_cmp x f ≡ Less) (get_or_read on i c.index-features-middle.result lt c.index-features-middle.is f) (sym c.compare.ensures ∙ c.in-Less.is) in
+    let less : feature_cmp (get_or on i f) f ≡ Less = subst (λ x. feature_cmp x f ≡ Less) (c.of.ensures.lent ∙ get_or_read on i c.index-features-middle.result lt c.index-features-middle.is f) (sym c.cmp.ensures ∙ c.in-Less.is) in
     record {
       ordered = omega arith;
       within = was.within;
@@ -46,14 +45,14 @@ loop-low-preserved-in-Less g c =
 pub loop-low-preserved : goal.loop-low-preserved
 loop-low-preserved g c =
     let on = c.args.features.now in
-    let f : FeatureValue = record { package_id = c.args.package_id.now; label = lent_view c.args.label } in
+    let f : FeatureValue = c.args.wanted.now in
     let low = c.loop-low.low in
     let high = c.loop-low.high in
     let i = low + (high - low) / 2 in
     let was = c.loop-low.invariant in
     let test : low < high = c.loop-low-test.true in
     let lt : i < length on = let within = was.within in omega arith in
-    let more : feature_cmp (get_or on i f) f ≡ Greater = subst (λ x. feature_cmp x f ≡ Greater) (get_or_read on i c.index-features-middle.result lt c.index-features-middle.is f) (sym c.compare.ensures ∙ c.in-Greater.is) in
+    let more : feature_cmp (get_or on i f) f ≡ Greater = subst (λ x. feature_cmp x f ≡ Greater) (c.of.ensures.lent ∙ get_or_read on i c.index-features-middle.result lt c.index-features-middle.is f) (sym c.cmp.ensures ∙ c.in-Greater.is) in
     record {
       ordered = omega arith;
       within = let within = was.within in omega arith;
@@ -63,5 +62,5 @@ loop-low-preserved g c =
 
 pub returns-clause-found : goal.returns-clause-found
 returns-clause-found g c =
-    let f : FeatureValue = record { package_id = c.args.package_id.now; label = lent_view c.args.label } in
+    let f : FeatureValue = c.args.wanted.now in
     found_nowhere c.args.features.now f c.requires c.loop-low.low c.loop-low.high (let test = c.loop-low-test.false in omega arith) c.loop-low.invariant.between

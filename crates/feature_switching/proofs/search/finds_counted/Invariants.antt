@@ -1,6 +1,5 @@
 use Rattle.std.proofs.Common.{◌+◌, ◌-◌, ◌≤◌, length}
 use Rattle.feature_switching.specs.Digits.{digits}
-use Rattle.feature_switching.specs.LentLabels.{lent_view}
 use Rattle.feature_switching.specs.Searches.{IsBetween, LooksLeft}
 use Rattle.feature_switching.proofs.search.finds_counted.Given as goal
 
@@ -8,7 +7,7 @@ abbrev pub invariant-loop-low : goal.invariant-loop-low
 invariant-loop-low g l = record {
   ordered : l.low ≤ l.high;
   within : l.high ≤ length l.features;
-  between : IsBetween l.features (record { package_id = l.package_id; label = lent_view l.label }) l.low l.high;
+  between : IsBetween l.features l.wanted l.low l.high;
   left : LooksLeft (l.high - l.low) (l.fn.looks + digits (length l.features)) l.looks;
 }
 

@@ -18,7 +18,7 @@ returns c =
     c.in_ok-graph.ensures ∙ ap (λ (ids : List Text). record { nodes = length ids; links = map (link_between ids) links }) c.requires.ids
     ∙ ap (λ n. record { nodes = n; links = map (link_between (ids_of packages)) links }) (length-map packages (λ p. p.id)) in
     record {
-      requirements = c.in_ok-requirements.ensures;
+      requirements = c.requires.read;
       rust_names = c.in_ok-rust_names.ensures;
       graph = graph;
       listing = subst (λ (g : GraphValue). IsListing g.links (has (firm_flags links)) (λ v. nat_lt v g.nodes) c.in_ok-listing.listing.items) graph c.in_ok-listing.ensures;

@@ -12,9 +12,9 @@ returns c =
     let within : ℕ → Type 0 = λ v. v < length packages in
     record {
       ids = c.in_ok-ids.ensures;
-      ids_apart = c.requires.ids_apart;
-      versions = c.in_ok-versions.ensures;
+      ids_apart = c.requires.kept.ids_apart;
+      versions = c.requires.read;
       members = members;
-      member_places = subst (All within) (sym members.places) (members_within packages workspace.members c.requires.members_known);
-      default_places = subst (All within) (sym members.defaults) (defaults_within packages workspace c.requires.members_known c.requires.defaults_are_members);
+      member_places = subst (All within) (sym members.places) (members_within packages workspace.members c.requires.kept.members_known);
+      default_places = subst (All within) (sym members.defaults) (defaults_within packages workspace c.requires.kept.members_known c.requires.kept.defaults_are_members);
     }

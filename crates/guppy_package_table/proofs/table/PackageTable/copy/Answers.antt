@@ -1,4 +1,4 @@
-use Rattle.std.proofs.Common.{◌≡◌, ◌∙◌, ap}
+use Rattle.std.proofs.Common.{◌≡◌, ◌∙◌}
 use Rattle.guppy_package_table.proofs.TableFacts.{listed_alike}
 use Rattle.guppy_package_table.proofs.table.PackageTable.copy.Goals as goal
 

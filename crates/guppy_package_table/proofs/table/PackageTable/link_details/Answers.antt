@@ -5,7 +5,6 @@ use Rattle.semver.specs.Parse.{req_of}
 use Rattle.workspace_record.specs.Records.{Link}
 use Rattle.guppy_package_table.proofs.Places.{same_read}
 use Rattle.guppy_package_table.specs.LinkRows.{name_in_rust}
-use Rattle.guppy_package_table.specs.TableLinks.{links_of}
 use Rattle.guppy_package_table.specs.Tables.{TableValue}
 use Rattle.guppy_package_table.proofs.table.PackageTable.link_details.Goals as goal
 

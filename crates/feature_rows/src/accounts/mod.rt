@@ -1,8 +1,0 @@
-//! Rules and accounts over the records, choices and tables of `accounts.json`, compared with the lists
-//! and verdicts that were worked out by hand.
-
-mod account_rows;
-mod rule_texts;
-mod switching;
-
-pub(crate) use crate::accounts::account_rows::AccountRows;

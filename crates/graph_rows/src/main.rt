@@ -1,0 +1,76 @@
+//! Rows of graphs over numbers, of packages and of features, compared with what each has to be.
+#![tactic(auto)]
+
+mod features;
+mod numbers;
+mod packages;
+
+use row_program::{RowRunner, run_rows};
+use std::io::Write;
+use std::process::ExitCode;
+use std::{fs, io};
+
+fn main(rt: HostRuntime) -> io::Result<ExitCode> {
+    let mut out = rt.stdout();
+    let numbers = run_numbers(&rt, &mut out)?;
+    let packages = run_packages(&rt, &mut out)?;
+    let features = run_features(&rt, &mut out)?;
+    let same = numbers && packages && features;
+    Ok(ExitCode::from(if same { 0 } else { 1 }))
+}
+
+fn run_numbers<W: Write>(rt: &HostRuntime, out: &mut W) -> io::Result<bool> {
+    let graphs = run_file(
+        rt,
+        "number graphs",
+        "number_graphs.json",
+        &mut numbers::GraphRows,
+        out,
+    )?;
+    let offers = run_file(rt, "offers", "offers.json", &mut numbers::OfferRows, out)?;
+    Ok(graphs && offers)
+}
+
+fn run_packages<W: Write>(rt: &HostRuntime, out: &mut W) -> io::Result<bool> {
+    let parts = run_file(rt, "parts", "parts.json", &mut packages::PartRows, out)?;
+    let rules = run_file(rt, "rules", "rules.json", &mut packages::RuleRows, out)?;
+    let graphs = run_file(
+        rt,
+        "package graphs",
+        "package_graphs.json",
+        &mut packages::GraphRows,
+        out,
+    )?;
+    Ok(parts && rules && graphs)
+}
+
+fn run_features<W: Write>(rt: &HostRuntime, out: &mut W) -> io::Result<bool> {
+    let nodes = run_file(rt, "nodes", "nodes.json", &mut features::NodeRows, out)?;
+    let graphs = run_file(
+        rt,
+        "feature graphs",
+        "feature_graphs.json",
+        &mut features::GraphRows,
+        out,
+    )?;
+    let accounts = run_file(
+        rt,
+        "accounts",
+        "accounts.json",
+        &mut features::AccountRows,
+        out,
+    )?;
+    Ok(nodes && graphs && accounts)
+}
+
+/// Runs the rows of a sort, which stand in the file.
+fn run_file<R: RowRunner, W: Write>(
+    rt: &HostRuntime,
+    sort: &str,
+    file: &str,
+    runner: &mut R,
+    out: &mut W,
+) -> io::Result<bool> {
+    let rows = fs::read(rt, file)?;
+    run_rows(rt.alloc(), sort, &rows, runner, out)
+}

@@ -1,0 +1,79 @@
+use crate::packages::graphs::details::tell_package;
+use crate::packages::graphs::members::tell_members;
+use crate::packages::graphs::resolves::tell_resolves;
+use crate::packages::graphs::sets::tell_sets;
+use crate::packages::graphs::whole_graph::tell_whole_graph;
+use guppy_package_graph::PackageGraph;
+use guppy_package_table::PackageGraphError;
+use row_program::{Answers, Row, RowFault, RowRunner};
+use row_records::record_under;
+use std::alloc::Global;
+use workspace_record::WorkspaceRecord;
+
+/// Rows of graphs. A row has a `record`, and where they are asked for `starts`, `direction` and
+/// `refused` (names of links that a closure refuses), `link` (a number), `package`, `target`, `set`,
+/// `other`, `wanted`, `unwanted` (names), `paths` and `names`.
+#[derive(Drop)]
+pub(crate) struct GraphRows;
+
+impl RowRunner for GraphRows {
+    fn inputs(&self) -> &'static [&'static str] {
+        &[
+            "record",
+            "starts",
+            "direction",
+            "refused",
+            "link",
+            "package",
+            "target",
+            "set",
+            "other",
+            "paths",
+            "names",
+            "wanted",
+            "unwanted",
+        ]
+    }
+
+    fn run_row(
+        &mut self,
+        alloc: Global,
+        row: Row<'_>,
+        answers: &mut Answers,
+    ) -> Result<(), RowFault> {
+        let record = record_under(alloc, row)?;
+        match graph_of(alloc, record) {
+            Ok(graph) => tell_graph(alloc, row, &graph, answers),
+            Err(error) => {
+                answers.show("built", &error);
+                Ok(())
+            }
+        }
+    }
+}
+
+fn graph_of(alloc: Global, record: WorkspaceRecord) -> Result<PackageGraph, PackageGraphError> {
+    let (packages, links, workspace) = (record.packages, record.links, record.workspace);
+    PackageGraph::from_records(alloc, packages, links, workspace)
+}
+
+fn tell_graph(
+    alloc: Global,
+    row: Row<'_>,
+    graph: &PackageGraph,
+    answers: &mut Answers,
+) -> Result<(), RowFault> {
+    let (packages, links) = (graph.package_count(), graph.link_count());
+    let rows = graph.link_rows().len();
+    let is_kept = graph.verify().is_ok();
+    answers.keep(
+        "built",
+        format!(in alloc; "{packages} packages, {links} links"),
+    );
+    answers.keep("kept", format!(in alloc; "{rows} links, {is_kept}"));
+    tell_resolves(alloc, row, graph, answers)?;
+    tell_sets(alloc, row, graph, answers)?;
+    tell_members(alloc, row, graph, answers)?;
+    tell_whole_graph(alloc, row, graph, answers)?;
+    tell_package(alloc, row, graph, answers)
+}

@@ -1,0 +1,48 @@
+//! Lists of features that are given up.
+
+use crate::features::graphs::{Question, answer_to, id_of};
+use guppy_feature_graph::{FeatureGraph, FeatureGraphData, FeatureList};
+use std::alloc::Global;
+use std::process::Abort;
+
+/// How many ids a list gives from its end, and how many labels it has.
+fn counts_of(list: FeatureList<'_>, other: FeatureList<'_>) -> (usize, usize) {
+    let mut count: usize = 0;
+    for id in list.into_iter().rev() {
+        if id.is_base() {
+            count = count.saturating_add(10);
+        }
+        count = count.saturating_add(1);
+    }
+    (count, other.into_labels().len())
+}
+
+/// Asks for both counts of the features of app.
+#[derive(Drop)]
+struct GivenUp;
+
+impl Question for GivenUp {
+    ghost use Rattle.std.specs.Prelude.{⊤};
+
+    type Answer = (usize, usize);
+
+    ghost can_ask = { λ _. ⊤ };
+
+    fn ask<R: Abort>(
+        &mut self,
+        rt: &R,
+        alloc: Global,
+        data: &FeatureGraphData<'_>,
+    ) -> (usize, usize) {
+        let app = id_of(rt, alloc, "app");
+        let graph = FeatureGraph::of(data);
+        let list = graph.all_features_for(alloc, &app).expect(rt, "a list");
+        let other = graph.all_features_for(alloc, &app).expect(rt, "a list");
+        counts_of(list, other)
+    }
+}
+
+#[test]
+fn given_up_from_the_end(rt: HostRuntime) {
+    assert_eq!(rt; answer_to(&rt, rt.alloc(), &mut GivenUp), (13, 3));
+}

@@ -1,0 +1,119 @@
+use crate::features::graphs::{Question, answer_to, id_of};
+use crate::features::visitors::{Follows, FollowsOptional};
+use guppy_feature_graph::{
+    ConditionalLink, FeatureGraph, FeatureGraphData, FeatureId, FeatureLinkContext,
+    FeatureLinkVisitor, FeatureQuery, LinkDeclarations,
+};
+use guppy_package_graph::DependencyDirection;
+use std::alloc::Global;
+use std::process::Abort;
+
+/// From the feature `weak` of app, and from its dependency foo.
+fn query_of<'g>(rt: &impl Abort, alloc: Global, graph: FeatureGraph<'g>) -> FeatureQuery<'g> {
+    let app = id_of(rt, alloc, "app");
+    let starts = [
+        FeatureId::named(&app, "weak"),
+        FeatureId::optional_dependency(&app, "foo"),
+    ];
+    let query = graph.query_directed(alloc, &starts, DependencyDirection::Forward);
+    query.expect(rt, "a query")
+}
+
+/// How many features the visitor includes.
+fn included_by(
+    rt: &impl Abort,
+    alloc: Global,
+    data: &FeatureGraphData<'_>,
+    visitor: &mut dyn FeatureLinkVisitor,
+) -> usize {
+    let query = query_of(rt, alloc, FeatureGraph::of(data));
+    let included = query.resolve_with(alloc, visitor).expect(rt, "memory");
+    included.len()
+}
+
+impl Question for Follows {
+    ghost use Rattle.std.specs.Prelude.{⊤};
+
+    type Answer = usize;
+
+    ghost can_ask = { λ _. ⊤ };
+
+    fn ask<R: Abort>(&mut self, rt: &R, alloc: Global, data: &FeatureGraphData<'_>) -> usize {
+        included_by(rt, alloc, data, self)
+    }
+}
+
+impl Question for Box<dyn FeatureLinkVisitor + Drop> {
+    ghost use Rattle.std.specs.Prelude.{⊤};
+
+    type Answer = usize;
+
+    ghost can_ask = { λ _. ⊤ };
+
+    fn ask<R: Abort>(&mut self, rt: &R, alloc: Global, data: &FeatureGraphData<'_>) -> usize {
+        included_by(rt, alloc, data, &mut **self)
+    }
+}
+
+#[test]
+fn refuses_all(rt: HostRuntime) {
+    let mut visitor = Follows { left: 0, shown: 0 };
+    assert_eq!(rt; answer_to(&rt, rt.alloc(), &mut visitor), 3);
+    assert_eq!(rt; visitor.shown, 4);
+}
+
+#[test]
+fn accepts_all(rt: HostRuntime) {
+    let mut visitor = Follows { left: 4, shown: 0 };
+    assert_eq!(rt; answer_to(&rt, rt.alloc(), &mut visitor), 5);
+    assert_eq!(rt; visitor.left, 0);
+}
+
+#[test]
+fn boxed_visitor(rt: HostRuntime) {
+    let boxed = Box::new(rt.alloc(), FollowsOptional).expect(&rt, "memory");
+    let mut visitor: Box<dyn FeatureLinkVisitor + Drop> = boxed;
+    assert_eq!(rt; answer_to(&rt, rt.alloc(), &mut visitor), 5);
+}
+
+/// Asks what a closure is shown, of halves alone.
+#[derive(Drop)]
+struct Halves;
+
+impl Question for Halves {
+    ghost use Rattle.std.specs.Prelude.{⊤};
+
+    type Answer = Vec<LinkDeclarations>;
+
+    ghost can_ask = { λ _. ⊤ };
+
+    fn ask<R: Abort>(
+        &mut self,
+        rt: &R,
+        alloc: Global,
+        data: &FeatureGraphData<'_>,
+    ) -> Vec<LinkDeclarations> {
+        let query = query_of(rt, alloc, FeatureGraph::of(data));
+        halves_shown(rt, alloc, query)
+    }
+}
+
+fn halves_shown(rt: &impl Abort, alloc: Global, query: FeatureQuery<'_>) -> Vec<LinkDeclarations> {
+    let mut shown = Vec::new(alloc);
+    let included = query.resolve_with_fn(
+        alloc,
+        |_cx: &FeatureLinkContext<'_>, link: ConditionalLink<'_>| -> bool {
+            let declarations = link.declarations();
+            declarations == LinkDeclarations::Unsplit || shown.push(declarations).is_ok()
+        },
+    );
+    assert!(rt; included.is_ok());
+    shown
+}
+
+#[test]
+fn closure_shown_the_required_half_first(rt: HostRuntime) {
+    let shown = answer_to(&rt, rt.alloc(), &mut Halves);
+    let wanted = [LinkDeclarations::Required, LinkDeclarations::Optional];
+    assert!(rt; shown.iter().copied().eq(wanted.iter().copied()));
+}

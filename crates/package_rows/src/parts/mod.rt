@@ -1,8 +1,0 @@
-//! Sources, targets, restrictions and statuses of the rows of `parts.json`, compared with what each has
-//! to be.
-
-mod part_rows;
-mod platforms;
-mod printing;
-
-pub(crate) use crate::parts::part_rows::PartRows;
