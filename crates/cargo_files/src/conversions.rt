@@ -1,5 +1,8 @@
 //! Records, tables and choices.
 
+ghost use Rattle.std.specs.Prelude.{IfOk, string_bytes};
+ghost use Rattle.cargo_files.specs.Made.{IsRecordFile, IsTableFile};
+
 use crate::refusal::{Refusal, SpecPlace};
 use cargo_cfg::{CfgSetting, TableError, read_settings, table_of};
 use cargo_choice::{FeatureWords, choice_of, feature_words};
@@ -8,15 +11,14 @@ use cargo_record::{Wanted, record_of};
 use record_files::read_record;
 use record_writing::{choice_text, record_text, table_text};
 use std::alloc::{AllocError, Global};
-use workspace_record::{LinkRecord, WorkspaceRecord};
+use workspace_record::LinkRecord;
 
 /// The record of what `cargo metadata` printed, of which these members are asked about.
-pub fn record_file(alloc: Global, metadata: &[u8], wanted: Wanted<'_>) -> Result<String, Refusal> {
+pub fn record_file(alloc: Global, metadata: &[u8], wanted: Wanted<'_>) -> Result<String, Refusal>
+    ensures made { IfOk result (λ text. IsRecordFile metadata.now wanted.entry (string_bytes text)) }
+{
     let metadata = read_metadata(alloc, metadata)?;
-    text_of_record(alloc, record_of(alloc, &metadata, wanted)?)
-}
-
-fn text_of_record(alloc: Global, record: WorkspaceRecord) -> Result<String, Refusal> {
+    let record = record_of(alloc, &metadata, wanted)?;
     Ok(record_text(alloc, &record)?)
 }
 
@@ -31,7 +33,9 @@ pub fn table_file(
     record: &[u8],
     triple: &str,
     settings: &[CfgSetting],
-) -> Result<String, Refusal> {
+) -> Result<String, Refusal>
+    ensures made { IfOk result (λ text. IsTableFile «record».now triple.now settings.now (string_bytes text)) }
+{
     let record = read_record(alloc, record)?;
     match table_of(alloc, &record, triple, settings) {
         Ok(table) => Ok(table_text(alloc, &table)?),

@@ -54,7 +54,7 @@ fn try_run<'a, O: Write>(
     match command(rt.alloc())?.try_get_matches_from(words) {
         Ok(matches) => {
             let text = converted(rt, &matches)?;
-            write!(out, "{text}")?;
+            writeln!(out, "{text}")?;
         }
         Err(shown) if !shown.use_stderr() => write!(out, "{shown}")?,
         Err(error) => return Err(Failure::from(error)),

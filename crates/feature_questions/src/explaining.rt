@@ -3,13 +3,14 @@
 ghost use Rattle.std.specs.Prelude.{IfOk};
 ghost use Rattle.feature_questions.specs.Explaining.{Explains, IsExplained};
 
-use crate::questions::question_index;
+use crate::questions::{question_index, shared_index};
 use account_explaining::explanation_of;
 use account_making::account_of;
 use feature_account::rules_in;
 use record_checks::SelectError;
 use record_index::RecordIndex;
 use std::alloc::{AllocError, Global};
+use std::rc::Rc;
 use workspace_record::{Feature, FeatureChoice, PlatformTable, WorkspaceRecord};
 
 /// The entries of the account of what is on, in its order, that the feature's conclusion rests on, that
@@ -25,6 +26,22 @@ pub fn explain(
     ensures answer { Explains record.now choice.now table.now feature.now result }
 {
     match question_index(alloc, record, choice) {
+        Err(refusal) => Err(refusal),
+        Ok(index) => Ok(explanation_under(alloc, &index, choice, table, feature)?),
+    }
+}
+
+/// The same of a record that is shared, of whose rows no copy is made.
+pub fn explain_shared(
+    alloc: Global,
+    record: &Rc<WorkspaceRecord>,
+    choice: &FeatureChoice,
+    table: &PlatformTable,
+    feature: &Feature,
+) -> Result<Option<Vec<usize>>, SelectError>
+    ensures answer { Explains «record».now.value choice.now table.now feature.now result }
+{
+    match shared_index(alloc, record, choice) {
         Err(refusal) => Err(refusal),
         Ok(index) => Ok(explanation_under(alloc, &index, choice, table, feature)?),
     }

@@ -9,7 +9,7 @@ mod ordering;
 mod questions;
 mod switching;
 
-pub use crate::explaining::explain;
+pub use crate::explaining::{explain, explain_shared};
 pub use crate::ordering::{package_order, package_order_in};
 pub use crate::questions::{checked_question, shared_question};
 pub use crate::switching::{account, features_on, features_on_in};

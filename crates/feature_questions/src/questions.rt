@@ -62,3 +62,17 @@ pub(crate) fn question_index<'r>(
         Err(refusal) => Err(refusal),
     }
 }
+
+/// The same of a record that is shared, of whose rows no copy is made.
+pub(crate) fn shared_index<'r>(
+    alloc: Global,
+    record: &'r Rc<WorkspaceRecord>,
+    choice: &FeatureChoice,
+) -> Result<RecordIndex<'r>, SelectError>
+    ensures served { ServesQuestion «record».entry.now.value choice.now result }
+{
+    match shared_question(alloc, record, choice) {
+        Ok(checked) => Ok(checked.into_index()),
+        Err(refusal) => Err(refusal),
+    }
+}

@@ -11,21 +11,16 @@ mod reason_rows;
 use crate::cargo_rows::CargoRows;
 use crate::file_rows::FileRows;
 use crate::reason_rows::ReasonRows;
-use row_program::run_rows;
+use row_program::run_file;
+use std::io;
 use std::process::ExitCode;
-use std::{fs, io};
 
 fn main(rt: HostRuntime) -> io::Result<ExitCode> {
-    let files = fs::read(&rt, "files.json")?;
-    let reasons = fs::read(&rt, "reasons.json")?;
-    let cargo = fs::read(&rt, "cargo.json")?;
-    let example = fs::read(&rt, "example.json")?;
-    let alloc = rt.alloc();
     let mut out = rt.stdout();
-    let mut same = true;
-    same &= run_rows(alloc, "files", &files, &mut FileRows, &mut out)?;
-    same &= run_rows(alloc, "reasons", &reasons, &mut ReasonRows, &mut out)?;
-    same &= run_rows(alloc, "cargo", &cargo, &mut CargoRows, &mut out)?;
-    same &= run_rows(alloc, "example", &example, &mut CargoRows, &mut out)?;
+    let files = run_file(&rt, "files", "files.json", &mut FileRows, &mut out)?;
+    let reasons = run_file(&rt, "reasons", "reasons.json", &mut ReasonRows, &mut out)?;
+    let cargo = run_file(&rt, "cargo", "cargo.json", &mut CargoRows, &mut out)?;
+    let example = run_file(&rt, "example", "example.json", &mut CargoRows, &mut out)?;
+    let same = files && reasons && cargo && example;
     Ok(ExitCode::from(if same { 0 } else { 1 }))
 }

@@ -12,21 +12,22 @@ use crate::compiled::CompiledRows;
 use crate::matchers::MatcherRows;
 use crate::syntax::FilterRows;
 use crate::texts::PlaceRows;
-use row_program::run_rows;
+use row_program::run_file;
+use std::io;
 use std::process::ExitCode;
-use std::{fs, io};
 
 fn main(rt: HostRuntime) -> io::Result<ExitCode> {
-    let matchers = fs::read(&rt, "matchers.json")?;
-    let texts = fs::read(&rt, "texts.json")?;
-    let syntax = fs::read(&rt, "syntax.json")?;
-    let compiled = fs::read(&rt, "compiled.json")?;
-    let alloc = rt.alloc();
     let mut out = rt.stdout();
-    let mut same = true;
-    same &= run_rows(alloc, "matchers", &matchers, &mut MatcherRows, &mut out)?;
-    same &= run_rows(alloc, "texts", &texts, &mut PlaceRows, &mut out)?;
-    same &= run_rows(alloc, "syntax", &syntax, &mut FilterRows, &mut out)?;
-    same &= run_rows(alloc, "compiled", &compiled, &mut CompiledRows, &mut out)?;
+    let matchers = run_file(&rt, "matchers", "matchers.json", &mut MatcherRows, &mut out)?;
+    let texts = run_file(&rt, "texts", "texts.json", &mut PlaceRows, &mut out)?;
+    let syntax = run_file(&rt, "syntax", "syntax.json", &mut FilterRows, &mut out)?;
+    let compiled = run_file(
+        &rt,
+        "compiled",
+        "compiled.json",
+        &mut CompiledRows,
+        &mut out,
+    )?;
+    let same = matchers && texts && syntax && compiled;
     Ok(ExitCode::from(if same { 0 } else { 1 }))
 }

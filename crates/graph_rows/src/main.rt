@@ -5,10 +5,9 @@ mod features;
 mod numbers;
 mod packages;
 
-use row_program::{RowRunner, run_rows};
-use std::io::Write;
+use row_program::run_file;
+use std::io::{self, Write};
 use std::process::ExitCode;
-use std::{fs, io};
 
 fn main(rt: HostRuntime) -> io::Result<ExitCode> {
     let mut out = rt.stdout();
@@ -61,16 +60,4 @@ fn run_features<W: Write>(rt: &HostRuntime, out: &mut W) -> io::Result<bool> {
         out,
     )?;
     Ok(nodes && graphs && accounts)
-}
-
-/// Runs the rows of a sort, which stand in the file.
-fn run_file<R: RowRunner, W: Write>(
-    rt: &HostRuntime,
-    sort: &str,
-    file: &str,
-    runner: &mut R,
-    out: &mut W,
-) -> io::Result<bool> {
-    let rows = fs::read(rt, file)?;
-    run_rows(rt.alloc(), sort, &rows, runner, out)
 }

@@ -5,7 +5,7 @@ ghost use Rattle.std.specs.Option.{option_copied};
 ghost use Rattle.std.specs.Str.{bytes_eq};
 ghost use Rattle.numbered_graph.specs.Listings.{IsListing};
 ghost use Rattle.numbered_graph.specs.Sets.{has};
-ghost use Rattle.package_rules.specs.Kept.{AreKept};
+ghost use Rattle.package_rules.specs.Kept.{AreKept, IsRequirement};
 ghost use Rattle.package_rules.specs.Readings.{AreReadIn, AreRequirementsOf, AreVersionsOf};
 ghost use Rattle.package_rules.specs.Refusals.{IsRefusal};
 ghost use Rattle.guppy_package_table.specs.Indices.{ArePackagesKept, IndexesPackages};
@@ -313,6 +313,7 @@ fn read_record(alloc: Global, rows: &WorkspaceRecord) -> Result<RowReadings, Pac
 
 /// The requirements of links that keep the rules, so that want of memory is all that stops it.
 fn requirements_of(alloc: Global, links: &[LinkRow]) -> Result<Vec<VersionReq>, AllocError>
+    requires { All (λ l. IsRequirement l.requirement) links.now }
     ensures { IfOk result (λ requirements. AreRequirementsOf links.now requirements.items) }
 {
     match read_requirements(alloc, links) {

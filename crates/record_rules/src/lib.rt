@@ -1,5 +1,5 @@
-//! The rules that records of workspaces keep, but for that on their filters, and the test binaries of a
-//! workspace.
+//! The rules that records of workspaces keep beyond those on packages, links and members, but for that on
+//! their filters: on optional lines, features, binaries and groups; and the test binaries of a workspace.
 #![tactic(auto)]
 
 pub mod binaries;

@@ -1,0 +1,9 @@
+pub mod Found
+pub mod RowFacts
+pub mod PackageFacts
+pub mod RecordFacts
+pub mod ChoiceFacts
+pub mod Shallow
+pub mod MapFacts
+pub mod Depths
+pub mod WrittenFacts

@@ -1,47 +1,64 @@
-use crate::object::{Member, push_members};
-use crate::text::{push_comma, push_text};
+ghost use Rattle.std.specs.Prelude.{◌≡◌, IfOk, Ok, map, string_bytes};
+ghost use Rattle.serde_json.specs.View.{view};
+ghost use Rattle.workspace_record.specs.LabelView.{label_view};
+ghost use Rattle.record_files.specs.Choices.{choice_file};
+ghost use Rattle.record_files.specs.Files.{Reads};
+ghost use Rattle.record_writing.specs.Files.{as_named};
+ghost use Rattle.record_writing.specs.Choices.{choice_data, extra_data, label_text, pair_data, standard_name};
+
+use crate::object::{Member, object_of, with_member};
+use serde_json::Value;
 use std::alloc::{AllocError, Global};
 use workspace_record::{Feature, FeatureChoice, Label, Standard};
 
-/// The file of a choice, in one line.
-pub fn choice_text(alloc: Global, choice: &FeatureChoice) -> Result<String, AllocError> {
-    let mut out = String::from_str(alloc, "{\"standard\":")?;
-    push_choice(alloc, &mut out, choice)?;
-    Ok(out)
+/// The file of a choice, in one line. It tells features by the words of Cargo's command line: a feature that
+/// is called as an optional dependency is told there is read as that.
+pub fn choice_text(alloc: Global, choice: &FeatureChoice) -> Result<String, AllocError>
+    ensures reads { IfOk result (λ text. Reads choice_file (string_bytes text) (Ok (as_named choice.now))) }
+{
+    let value = choice_value(alloc, choice)?;
+    value.to_string(alloc)
 }
 
-fn push_choice(alloc: Global, out: &mut String, choice: &FeatureChoice) -> Result<(), AllocError> {
-    push_text(alloc, out, standard_name(choice.standard))?;
-    out.push_str(",\"extras\":[")?;
-    for (place, extra) in choice.extras.iter().enumerate() {
-        push_comma(out, place)?;
-        push_extra(alloc, out, extra)?;
+fn choice_value(alloc: Global, choice: &FeatureChoice) -> Result<Value, AllocError>
+    ensures { IfOk result (λ v. view v ≡ choice_data choice.now) }
+{
+    let members = [("standard", Member::Text(standard_name(choice.standard)))];
+    let extras = Value::Array(extra_values(alloc, &choice.extras)?);
+    let own = object_of(alloc, &members)?;
+    Ok(Value::Object(with_member(alloc, own, "extras", extras)?))
+}
+
+fn extra_values(alloc: Global, extras: &[Feature]) -> Result<Vec<Value>, AllocError>
+    ensures { IfOk result (λ v. map view v.items ≡ map extra_data extras.now) }
+{
+    let mut values = Vec::with_capacity(alloc, extras.len())?;
+    for extra in extras {
+        values.push(extra_value(alloc, extra)?)?;
     }
-    out.push_str("]}\n")?;
-    Ok(())
+    Ok(values)
 }
 
-fn push_extra(alloc: Global, out: &mut String, extra: &Feature) -> Result<(), AllocError> {
+fn extra_value(alloc: Global, extra: &Feature) -> Result<Value, AllocError>
+    ensures { IfOk result (λ v. view v ≡ extra_data extra.now) }
+{
     let feature = label_text(alloc, &extra.label)?;
-    push_pair(alloc, out, extra.package.as_str(), feature.as_str())
+    pair_value(alloc, extra.package.as_str(), feature.as_str())
 }
 
-fn push_pair<'a>(
-    alloc: Global,
-    out: &mut String,
-    package: &'a str,
-    feature: &'a str,
-) -> Result<(), AllocError> {
+fn pair_value<'a>(alloc: Global, package: &'a str, feature: &'a str) -> Result<Value, AllocError>
+    ensures { IfOk result (λ v. view v ≡ pair_data «package».entry.now feature.entry.now) }
+{
     let members = [
         ("package", Member::Text(package)),
         ("feature", Member::Text(feature)),
     ];
-    push_members(alloc, out, &members)?;
-    out.push_str("}")?;
-    Ok(())
+    Ok(Value::Object(object_of(alloc, &members)?))
 }
 
-fn label_text(alloc: Global, label: &Label) -> Result<String, AllocError> {
+fn label_text(alloc: Global, label: &Label) -> Result<String, AllocError>
+    ensures { IfOk result (λ s. string_bytes s ≡ label_text (label_view label.now)) }
+{
     match label {
         Label::Base => Ok(String::new(alloc)),
         Label::Named(name) => String::from_str(alloc, name.as_str()),
@@ -49,7 +66,9 @@ fn label_text(alloc: Global, label: &Label) -> Result<String, AllocError> {
     }
 }
 
-fn standard_name(standard: Standard) -> &'static str {
+fn standard_name(standard: Standard) -> &'static str
+    ensures { result.now ≡ standard_name standard }
+{
     match standard {
         Standard::None => "none",
         Standard::Default => "default",

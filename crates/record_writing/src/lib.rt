@@ -8,7 +8,8 @@ mod object;
 mod package;
 mod record;
 mod table;
-mod text;
+mod target;
+mod workspace;
 
 pub use crate::choice::choice_text;
 pub use crate::listings::listings_text;

@@ -1,28 +1,37 @@
-use crate::text::{push_comma, push_text, push_texts};
+ghost use Rattle.std.specs.Prelude.{◌≡◌, IfOk, Ok, map, string_bytes};
+ghost use Rattle.serde_json.specs.Data.{no_members};
+ghost use Rattle.serde_json.specs.View.{members_view};
+ghost use Rattle.record_files.specs.Files.{Reads};
+ghost use Rattle.record_files.specs.Listings.{listing, listings_file};
+ghost use Rattle.record_writing.specs.Files.{by_name};
+ghost use Rattle.record_writing.specs.Maps.{listing_member};
+ghost use Rattle.record_writing.specs.Members.{put_all};
+
+use crate::object::texts_value;
+use serde_json::{Map, Value, put};
 use std::alloc::{AllocError, Global};
 
-/// The file of listings, with a line for each binary: its id and the names of its tests.
+/// The file of listings, with a line for each binary and each test, in the order of the ids' bytes. Of
+/// listings of one binary the last counts.
 pub fn listings_text(
     alloc: Global,
     listings: &[(String, Vec<String>)],
-) -> Result<String, AllocError> {
-    let mut out = String::from_str(alloc, "{")?;
-    for (place, (id, tests)) in listings.iter().enumerate() {
-        push_comma(&mut out, place)?;
-        push_listing(alloc, &mut out, id.as_str(), tests)?;
-    }
-    out.push_str("\n}\n")?;
-    Ok(out)
+) -> Result<String, AllocError>
+    ensures reads { IfOk result (λ text. Reads listings_file (string_bytes text) (Ok (by_name (map listing listings.now)))) }
+{
+    let value = Value::Object(listings_object(alloc, listings)?);
+    value.to_string_pretty(alloc)
 }
 
-fn push_listing(
+fn listings_object(
     alloc: Global,
-    out: &mut String,
-    id: &str,
-    tests: &[String],
-) -> Result<(), AllocError> {
-    out.push_str("\n")?;
-    push_text(alloc, out, id)?;
-    out.push_str(":")?;
-    push_texts(alloc, out, tests)
+    listings: &[(String, Vec<String>)],
+) -> Result<Map<String, Value>, AllocError>
+    ensures { IfOk result (λ m. members_view m.entries ≡ put_all (map listing_member (map listing listings.now)) no_members) }
+{
+    let mut object = Map::new(alloc);
+    for (id, tests) in listings {
+        put(&mut object, alloc, id.as_str(), texts_value(alloc, tests)?)?;
+    }
+    Ok(object)
 }

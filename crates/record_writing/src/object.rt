@@ -1,6 +1,11 @@
 //! The members of objects.
 
-use crate::text::{push_text, push_texts};
+ghost use Rattle.std.specs.Prelude.{◌≡◌, IfOk, OnOk, map, string_bytes};
+ghost use Rattle.serde_json.specs.Data.{no_members, put, string};
+ghost use Rattle.serde_json.specs.View.{members_view, view};
+ghost use Rattle.record_writing.specs.Members.{member_data, members_data, put_all, texts_data};
+
+use serde_json::{Map, Value, put};
 use std::alloc::{AllocError, Global};
 
 /// The value of a member.
@@ -13,50 +18,68 @@ pub(crate) enum Member<'a> {
     Flag(bool),
 }
 
-/// Appends the beginning of an object, with these members, of which there is one.
-pub(crate) fn push_members(
+/// An object with these members.
+pub(crate) fn object_of(
     alloc: Global,
-    out: &mut String,
     members: &[(&str, Member<'_>)],
-) -> Result<(), AllocError> {
-    for (place, (key, member)) in members.iter().enumerate() {
-        out.push_str(if place > 0 { "," } else { "{" })?;
-        push_key(out, key)?;
-        push_member(alloc, out, *member)?;
-    }
-    Ok(())
+) -> Result<Map<String, Value>, AllocError>
+    ensures { IfOk result (λ m. members_view m.entries ≡ put_all (members_data members.now) no_members) }
+{
+    with_members(alloc, Map::new(alloc), members)
 }
 
-/// Appends further members of an object.
-pub(crate) fn push_more(
+/// The object with these members put into it, one after another.
+pub(crate) fn with_members(
     alloc: Global,
-    out: &mut String,
+    mut object: Map<String, Value>,
     members: &[(&str, Member<'_>)],
-) -> Result<(), AllocError> {
+) -> Result<Map<String, Value>, AllocError>
+    ensures { IfOk result (λ m. members_view m.entries ≡ put_all (members_data members.now) (members_view object.entries)) }
+{
     for (key, member) in members {
-        out.push_str(",")?;
-        push_key(out, key)?;
-        push_member(alloc, out, *member)?;
+        put(&mut object, alloc, key, value_of(alloc, *member)?)?;
     }
-    Ok(())
+    Ok(object)
 }
 
-/// Appends a key, which has nothing to escape.
-fn push_key(out: &mut String, key: &str) -> Result<(), AllocError> {
-    out.push_str("\"")?;
-    out.push_str(key)?;
-    out.push_str("\":")?;
-    Ok(())
+/// The object with a value under a key.
+pub(crate) fn with_member(
+    alloc: Global,
+    mut object: Map<String, Value>,
+    key: &str,
+    value: Value,
+) -> Result<Map<String, Value>, AllocError>
+    ensures { IfOk result (λ m. members_view m.entries ≡ put key.now (view value) (members_view object.entries)) }
+{
+    put(&mut object, alloc, key, value)?;
+    Ok(object)
 }
 
-fn push_member(alloc: Global, out: &mut String, member: Member<'_>) -> Result<(), AllocError> {
+fn value_of(alloc: Global, member: Member<'_>) -> Result<Value, AllocError>
+    ensures { IfOk result (λ v. view v ≡ member_data member.entry) }
+{
     match member {
-        Member::Text(text) => push_text(alloc, out, text),
-        Member::OptionalText(Some(text)) => push_text(alloc, out, text.as_str()),
-        Member::Texts(texts) => push_texts(alloc, out, texts),
-        Member::OptionalTexts(Some(texts)) => push_texts(alloc, out, texts),
-        Member::Flag(true) => Ok(out.push_str("true")?),
-        Member::Flag(false) => Ok(out.push_str("false")?),
-        Member::OptionalText(None) | Member::OptionalTexts(None) => Ok(out.push_str("null")?),
+        Member::Text(text) => Value::try_from_str(alloc, text),
+        Member::OptionalText(Some(text)) => Value::try_from_str(alloc, text.as_str()),
+        Member::Texts(texts) => texts_value(alloc, texts),
+        Member::OptionalTexts(Some(texts)) => texts_value(alloc, texts),
+        Member::Flag(flag) => Ok(Value::Bool(flag)),
+        Member::OptionalText(None) | Member::OptionalTexts(None) => Ok(Value::Null),
     }
+}
+
+pub(crate) fn texts_value(alloc: Global, texts: &[String]) -> Result<Value, AllocError>
+    ensures { IfOk result (λ v. view v ≡ texts_data (map string_bytes texts.now)) }
+{
+    Ok(Value::Array(text_values(alloc, texts)?))
+}
+
+fn text_values(alloc: Global, texts: &[String]) -> Result<Vec<Value>, AllocError>
+    ensures { IfOk result (λ v. map view v.items ≡ map string (map string_bytes texts.now)) }
+{
+    let mut values = Vec::with_capacity(alloc, texts.len())?;
+    for text in texts {
+        values.push(Value::try_from_str(alloc, text.as_str())?)?;
+    }
+    Ok(values)
 }

@@ -1,39 +1,49 @@
-use crate::object::{Member, push_members, push_more};
-use crate::text::push_comma;
-use std::alloc::{AllocError, Global};
-use workspace_record::{FeatureRecord, PackageInfo, PackageRecord, TargetKind, TargetRecord};
+ghost use Rattle.std.specs.Prelude.{◌≡◌, IfOk, map};
+ghost use Rattle.serde_json.specs.Data.{no_members};
+ghost use Rattle.serde_json.specs.View.{members_view, view};
+ghost use Rattle.record_writing.specs.Members.{put_all};
+ghost use Rattle.record_writing.specs.Rows.{details_members, feature_data, package_data};
 
-pub(crate) fn push_packages(
+use crate::object::{Member, object_of, with_member, with_members};
+use crate::target::target_values;
+use serde_json::{Map, Value};
+use std::alloc::{AllocError, Global};
+use workspace_record::{FeatureRecord, PackageInfo, PackageRecord};
+
+pub(crate) fn package_values(
     alloc: Global,
-    out: &mut String,
     packages: &[PackageRecord],
-) -> Result<(), AllocError> {
-    for (place, row) in packages.iter().enumerate() {
-        push_comma(out, place)?;
-        push_package(alloc, out, row)?;
+) -> Result<Vec<Value>, AllocError>
+    ensures { IfOk result (λ v. map view v.items ≡ map package_data packages.now) }
+{
+    let mut values = Vec::with_capacity(alloc, packages.len())?;
+    for row in packages {
+        values.push(package_value(alloc, row)?)?;
     }
-    Ok(())
+    Ok(values)
 }
 
-fn push_package(alloc: Global, out: &mut String, row: &PackageRecord) -> Result<(), AllocError> {
-    let own = [
+fn package_value(alloc: Global, row: &PackageRecord) -> Result<Value, AllocError>
+    ensures { IfOk result (λ v. view v ≡ package_data row.now) }
+{
+    let members = [
         ("id", Member::Text(row.id.as_str())),
         ("name", Member::Text(row.name.as_str())),
         ("version", Member::Text(row.version.as_str())),
         ("optional", Member::Texts(&row.optional)),
     ];
-    push_members(alloc, out, &own)?;
-    push_info(alloc, out, &row.info)?;
-    out.push_str(",\"features\":[")?;
-    push_features(alloc, out, &row.features)?;
-    out.push_str("],\"targets\":[")?;
-    push_targets(alloc, out, &row.targets)?;
-    out.push_str("]}")?;
-    Ok(())
+    let features = Value::Array(feature_values(alloc, &row.features)?);
+    let targets = Value::Array(target_values(alloc, &row.targets)?);
+    let details = details_of(alloc, &row.info)?;
+    let own = with_members(alloc, details, &members)?;
+    let own = with_member(alloc, own, "features", features)?;
+    Ok(Value::Object(with_member(alloc, own, "targets", targets)?))
 }
 
-/// Appends the details of a package, behind other members; none of its metadata is written.
-fn push_info(alloc: Global, out: &mut String, info: &PackageInfo) -> Result<(), AllocError> {
+/// An object with the details of a package; none of its metadata is written.
+fn details_of(alloc: Global, info: &PackageInfo) -> Result<Map<String, Value>, AllocError>
+    ensures { IfOk result (λ m. members_view m.entries ≡ put_all (details_members info.now) no_members) }
+{
     let members = [
         ("source", Member::OptionalText(&info.source)),
         ("path", Member::OptionalText(&info.path)),
@@ -54,66 +64,25 @@ fn push_info(alloc: Global, out: &mut String, info: &PackageInfo) -> Result<(), 
         ("rust_version", Member::OptionalText(&info.rust_version)),
         ("publish", Member::OptionalTexts(&info.publish)),
     ];
-    push_more(alloc, out, &members)
+    object_of(alloc, &members)
 }
 
-fn push_features(
-    alloc: Global,
-    out: &mut String,
-    features: &[FeatureRecord],
-) -> Result<(), AllocError> {
-    for (place, feature) in features.iter().enumerate() {
-        push_comma(out, place)?;
-        let members = [
-            ("name", Member::Text(feature.name.as_str())),
-            ("enables", Member::Texts(&feature.enables)),
-        ];
-        push_members(alloc, out, &members)?;
-        out.push_str("}")?;
+fn feature_values(alloc: Global, features: &[FeatureRecord]) -> Result<Vec<Value>, AllocError>
+    ensures { IfOk result (λ v. map view v.items ≡ map feature_data features.now) }
+{
+    let mut values = Vec::with_capacity(alloc, features.len())?;
+    for feature in features {
+        values.push(feature_value(alloc, feature)?)?;
     }
-    Ok(())
+    Ok(values)
 }
 
-fn push_targets(
-    alloc: Global,
-    out: &mut String,
-    targets: &[TargetRecord],
-) -> Result<(), AllocError> {
-    for (place, target) in targets.iter().enumerate() {
-        push_comma(out, place)?;
-        push_target(alloc, out, target)?;
-    }
-    Ok(())
-}
-
-fn push_target(alloc: Global, out: &mut String, target: &TargetRecord) -> Result<(), AllocError> {
+fn feature_value(alloc: Global, feature: &FeatureRecord) -> Result<Value, AllocError>
+    ensures { IfOk result (λ v. view v ≡ feature_data feature.now) }
+{
     let members = [
-        ("kind", Member::Text(kind_name(target.kind))),
-        ("name", Member::Text(target.name.as_str())),
-        (
-            "required_features",
-            Member::Texts(&target.required_features),
-        ),
-        ("tested", Member::Flag(target.tested)),
-        ("path", Member::Text(target.info.path.as_str())),
-        ("edition", Member::Text(target.info.edition.as_str())),
-        ("crate_types", Member::Texts(&target.info.crate_types)),
-        ("doc", Member::Flag(target.info.doc)),
-        ("doctest", Member::Flag(target.info.doctest)),
+        ("name", Member::Text(feature.name.as_str())),
+        ("enables", Member::Texts(&feature.enables)),
     ];
-    push_members(alloc, out, &members)?;
-    out.push_str("}")?;
-    Ok(())
-}
-
-fn kind_name(kind: TargetKind) -> &'static str {
-    match kind {
-        TargetKind::Lib => "lib",
-        TargetKind::ProcMacro => "proc-macro",
-        TargetKind::Test => "test",
-        TargetKind::Bench => "bench",
-        TargetKind::Bin => "bin",
-        TargetKind::Example => "example",
-        TargetKind::BuildScript => "build-script",
-    }
+    Ok(Value::Object(object_of(alloc, &members)?))
 }

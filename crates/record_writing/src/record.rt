@@ -1,93 +1,41 @@
-use crate::link::push_links;
-use crate::object::{Member, push_members, push_more};
-use crate::package::push_packages;
-use crate::text::push_comma;
+ghost use Rattle.std.specs.Prelude.{◌≡◌, IfOk, Ok, string_bytes};
+ghost use Rattle.serde_json.specs.View.{view};
+ghost use Rattle.record_files.specs.Files.{Reads};
+ghost use Rattle.record_files.specs.Records.{record_file};
+ghost use Rattle.record_writing.specs.Files.{without_metadata};
+ghost use Rattle.record_writing.specs.Rows.{record_data};
+
+use crate::link::link_values;
+use crate::object::{Member, object_of, with_member};
+use crate::package::package_values;
+use crate::workspace::{group_values, workspace_value};
+use serde_json::Value;
 use std::alloc::{AllocError, Global};
-use workspace_record::{GroupRecord, MemberRecord, WorkspaceInfo, WorkspaceRecord};
+use workspace_record::WorkspaceRecord;
 
-/// The file of a record, in one line. The metadata of packages and of the workspace are left out.
-pub fn record_text(alloc: Global, record: &WorkspaceRecord) -> Result<String, AllocError> {
-    let mut out = String::from_str(alloc, "{\"packages\":[")?;
-    push_rows(alloc, &mut out, record)?;
-    Ok(out)
+/// The file of a record, in one line, with the keys of each object in the order of their bytes. The
+/// metadata of packages and of the workspace are left out.
+pub fn record_text(alloc: Global, record: &WorkspaceRecord) -> Result<String, AllocError>
+    ensures reads { IfOk result (λ text. Reads record_file (string_bytes text) (Ok (without_metadata «record».now))) }
+{
+    let value = record_value(alloc, record)?;
+    value.to_string(alloc)
 }
 
-fn push_rows(alloc: Global, out: &mut String, record: &WorkspaceRecord) -> Result<(), AllocError> {
-    push_packages(alloc, out, &record.packages)?;
-    out.push_str("],\"links\":[")?;
-    push_links(alloc, out, &record.links)?;
-    out.push_str("],\"workspace\":")?;
-    push_workspace(alloc, out, &record.workspace)?;
-    out.push_str(",\"groups\":[")?;
-    push_groups(alloc, out, &record.groups)?;
-    out.push_str("]")?;
-    push_default_filter(alloc, out, &record.default_filter)?;
-    out.push_str("}\n")?;
-    Ok(())
-}
-
-fn push_default_filter(
-    alloc: Global,
-    out: &mut String,
-    filter: &Option<String>,
-) -> Result<(), AllocError> {
-    push_more(
-        alloc,
-        out,
-        &[("default_filter", Member::OptionalText(filter))],
-    )
-}
-
-fn push_workspace(
-    alloc: Global,
-    out: &mut String,
-    workspace: &WorkspaceInfo,
-) -> Result<(), AllocError> {
-    let members = [
-        ("root", Member::Text(workspace.root.as_str())),
-        (
-            "target_directory",
-            Member::Text(workspace.target_directory.as_str()),
-        ),
-        (
-            "build_directory",
-            Member::OptionalText(&workspace.build_directory),
-        ),
-        ("default_members", Member::Texts(&workspace.default_members)),
-    ];
-    push_members(alloc, out, &members)?;
-    out.push_str(",\"members\":[")?;
-    push_workspace_members(alloc, out, &workspace.members)?;
-    out.push_str("]}")?;
-    Ok(())
-}
-
-fn push_workspace_members(
-    alloc: Global,
-    out: &mut String,
-    rows: &[MemberRecord],
-) -> Result<(), AllocError> {
-    for (place, row) in rows.iter().enumerate() {
-        push_comma(out, place)?;
-        let members = [
-            ("package", Member::Text(row.package.as_str())),
-            ("path", Member::Text(row.path.as_str())),
-        ];
-        push_members(alloc, out, &members)?;
-        out.push_str("}")?;
-    }
-    Ok(())
-}
-
-fn push_groups(alloc: Global, out: &mut String, groups: &[GroupRecord]) -> Result<(), AllocError> {
-    for (place, group) in groups.iter().enumerate() {
-        push_comma(out, place)?;
-        let members = [
-            ("name", Member::Text(group.name.as_str())),
-            ("filter", Member::Text(group.filter.as_str())),
-        ];
-        push_members(alloc, out, &members)?;
-        out.push_str("}")?;
-    }
-    Ok(())
+fn record_value(alloc: Global, record: &WorkspaceRecord) -> Result<Value, AllocError>
+    ensures { IfOk result (λ v. view v ≡ record_data «record».now) }
+{
+    let members = [(
+        "default_filter",
+        Member::OptionalText(&record.default_filter),
+    )];
+    let own = object_of(alloc, &members)?;
+    let packages = Value::Array(package_values(alloc, &record.packages)?);
+    let own = with_member(alloc, own, "packages", packages)?;
+    let links = Value::Array(link_values(alloc, &record.links)?);
+    let own = with_member(alloc, own, "links", links)?;
+    let workspace = workspace_value(alloc, &record.workspace)?;
+    let own = with_member(alloc, own, "workspace", workspace)?;
+    let groups = Value::Array(group_values(alloc, &record.groups)?);
+    Ok(Value::Object(with_member(alloc, own, "groups", groups)?))
 }

@@ -1,26 +1,45 @@
-use crate::text::{push_comma, push_text};
+ghost use Rattle.std.specs.Prelude.{◌≡◌, IfOk, Ok, map, string_bytes};
+ghost use Rattle.serde_json.specs.Data.{no_members};
+ghost use Rattle.serde_json.specs.View.{members_view, view};
+ghost use Rattle.record_files.specs.Files.{Reads};
+ghost use Rattle.record_files.specs.Tables.{table_file};
+ghost use Rattle.workspace_record.specs.Tables.{answered, entry_of};
+ghost use Rattle.record_writing.specs.Files.{table_by_name};
+ghost use Rattle.record_writing.specs.Maps.{answer_member, table_data};
+ghost use Rattle.record_writing.specs.Members.{put_all};
+
+use crate::object::{Member, object_of, with_member};
+use indexmap::IndexMap;
+use serde_json::{Map, Value, put};
 use std::alloc::{AllocError, Global};
 use workspace_record::PlatformTable;
 
-/// The file of a table, with a line for each answer.
-pub fn table_text(alloc: Global, table: &PlatformTable) -> Result<String, AllocError> {
-    let mut out = String::from_str(alloc, "{\"answers\":{")?;
-    push_answers(alloc, &mut out, table)?;
-    Ok(out)
+/// The file of a table, with a line for each answer, in the order of the specs' bytes.
+pub fn table_text(alloc: Global, table: &PlatformTable) -> Result<String, AllocError>
+    ensures reads { IfOk result (λ text. Reads table_file (string_bytes text) (Ok (table_by_name table.now))) }
+{
+    let value = table_value(alloc, table)?;
+    value.to_string_pretty(alloc)
 }
 
-fn push_answers(alloc: Global, out: &mut String, table: &PlatformTable) -> Result<(), AllocError> {
-    for (place, (spec, answer)) in table.answers.iter().enumerate() {
-        push_comma(out, place)?;
-        out.push_str("\n")?;
-        push_text(alloc, out, spec.as_str())?;
-        out.push_str(if *answer { ":true" } else { ":false" })?;
+fn table_value(alloc: Global, table: &PlatformTable) -> Result<Value, AllocError>
+    ensures { IfOk result (λ v. view v ≡ table_data (answered table.now) table.now.unknown_counts) }
+{
+    let members = [("unknown_counts", Member::Flag(table.unknown_counts))];
+    let answers = Value::Object(answers_object(alloc, &table.answers)?);
+    let own = object_of(alloc, &members)?;
+    Ok(Value::Object(with_member(alloc, own, "answers", answers)?))
+}
+
+fn answers_object(
+    alloc: Global,
+    answers: &IndexMap<String, bool>,
+) -> Result<Map<String, Value>, AllocError>
+    ensures { IfOk result (λ m. members_view m.entries ≡ put_all (map answer_member (map entry_of answers.now.entries)) no_members) }
+{
+    let mut object = Map::new(alloc);
+    for (spec, answer) in answers.iter() {
+        put(&mut object, alloc, spec.as_str(), Value::Bool(*answer))?;
     }
-    out.push_str("\n},\"unknown_counts\":")?;
-    out.push_str(if table.unknown_counts {
-        "true}\n"
-    } else {
-        "false}\n"
-    })?;
-    Ok(())
+    Ok(object)
 }

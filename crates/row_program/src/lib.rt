@@ -14,4 +14,4 @@ mod running;
 pub use crate::answer::Answers;
 pub use crate::fault::RowFault;
 pub use crate::row::{Row, file_text};
-pub use crate::running::{RowRunner, run_rows};
+pub use crate::running::{RowRunner, run_file};

@@ -4,6 +4,7 @@ use crate::report::Report;
 use crate::row::Row;
 use serde_json::Value;
 use std::alloc::Global;
+use std::fs;
 use std::io::{self, Write};
 
 /// Runs rows of one sort.
@@ -20,13 +21,24 @@ pub trait RowRunner {
     ) -> Result<(), RowFault>;
 }
 
-/// Runs each row of a file of rows of this sort, and writes what differs from what is wanted: the
+/// Runs each row of this sort in the file with the name, and writes what differs from what is wanted: the
 /// row's name, the key, what was wanted and what came. The last line counts the rows of the sort, and
 /// those that differ.
 ///
 /// Answers whether there were rows and none differs. A row differs too where it wants nothing, or has
 /// a key that is neither an input nor the key of an answer.
-pub fn run_rows<R: RowRunner, W: Write>(
+pub fn run_file<R: RowRunner, W: Write>(
+    rt: &HostRuntime,
+    sort: &str,
+    file: &str,
+    runner: &mut R,
+    out: &mut W,
+) -> io::Result<bool> {
+    let text = fs::read(rt, file)?;
+    run_rows(rt.alloc(), sort, &text, runner, out)
+}
+
+fn run_rows<R: RowRunner, W: Write>(
     alloc: Global,
     sort: &str,
     file: &[u8],

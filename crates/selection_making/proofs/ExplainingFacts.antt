@@ -3,7 +3,9 @@ use Rattle.std.proofs.Common.{◌≡◌, ◌==◌, ◌<◌, ◌↔◌, arith, in
 use Rattle.std.specs.Bool.{Decides}
 use Rattle.std.proofs.lemmas.Bool.Decides.{Decides-eqb}
 use Rattle.std.proofs.lemmas.List.{length-map}
-use Rattle.workspace_record.specs.Records.{Text}
+use Rattle.workspace_record.specs.Records.{Text, Workspace}
+use Rattle.workspace_record.specs.Choices.{Choice}
+use Rattle.workspace_record.specs.declared.choice.PlatformTable.{PlatformTable}
 use Rattle.workspace_record.specs.Features.{FeatureValue}
 use Rattle.test_lister.specs.Listers.{Shown}
 use Rattle.nextest_filter_evaluation.specs.Formulas.{SomeAnswersGive}
@@ -29,6 +31,8 @@ use Rattle.selection_making.specs.Questions.{IsFeatureOn, Question}
 use Rattle.selection_making.specs.Readings.{Readings}
 use Rattle.selection_making.specs.Selecting.{IsAnswered}
 use Rattle.selection_making.specs.Telling.{TellsAmong}
+use Rattle.question_filters.specs.declared.scope.LinkScope.{LinkScope}
+use Rattle.selection_making.specs.declared.asked_binaries.AskedBinaries.{AskedBinaries}
 use Rattle.selection_making.specs.declared.reason.Reason.{Reason}
 use Rattle.selection_making.specs.declared.reason.TestReason.{TestReason}
 use Rattle.selection_making.specs.declared.reason.BinaryReason.{BinaryReason}
@@ -92,3 +96,9 @@ module _ (q : Question) (id : Text) (test : Option Text) (old : Shown) where
     explained_by given says all same new result told =
         let h = subst (λ (bs : List Binary). TellsAmong (IsReasonOfTest filters (IsTrue given)) (IsReasonOfBinary filters) (λ f. Contains on f) bs id test old result new) same told in
         explained read (is_answered q on are_on filters cx names followed are) new result (tells_alike (IsReasonOfTest filters (IsTrue given)) (IsReasonOfTestIn q read) (IsReasonOfBinary filters) (IsReasonOfBinaryIn q read) (of_test given says) of_binary (λ f. Contains on f) (IsFeatureOn q) are_on.members (binaries q.workspace) id test old new result h)
+
+-- what is explained in one record is in an equal one
+pub explained_in : (w v : Workspace) (choice : Choice) (table : PlatformTable) (scope : LinkScope) (texts : List Text) (asks : AskedBinaries) (id : Text) (test : Option Text) (old : Shown) (r : Result Reason SelectError) (new : Shown) → w ≡ v
+    → Explains (record { workspace = w; choice = choice; table = table; scope = scope; texts = texts; asks = asks }) id test old r new
+    → Explains (record { workspace = v; choice = choice; table = table; scope = scope; texts = texts; asks = asks }) id test old r new
+explained_in w v choice table scope texts asks id test old r new same = subst (λ (x : Workspace). Explains (record { workspace = x; choice = choice; table = table; scope = scope; texts = texts; asks = asks }) id test old r new) same

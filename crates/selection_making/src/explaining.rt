@@ -1,7 +1,8 @@
 //! Whether and why a test is chosen, or a binary asked.
 
-ghost use Rattle.std.specs.Prelude.{◌≡◌, ◌<◌, IfOk, IsTrue, Contains, length, map, option_map};
+ghost use Rattle.std.specs.Prelude.{◌≡◌, ◌<◌, IfOk, IsTrue, None, Contains, length, map, option_map};
 ghost use Rattle.list_facts.specs.Texts.{texts};
+ghost use Rattle.feature_questions.specs.Switching.{unknown_extra};
 ghost use Rattle.nextest_binaries.specs.Queries.{test_of};
 ghost use Rattle.question_filters.specs.QuestionFilters.{question_view};
 ghost use Rattle.record_rules.specs.BinaryView.{binary_view};
@@ -13,7 +14,7 @@ ghost use Rattle.selection_making.specs.declared.asked_binaries.AskedBinaries.Th
 
 use crate::finding::{binary_with_id, first_off};
 use crate::reason::{BinaryReason, Reason, TestReason};
-use feature_questions::{checked_question, features_on_in};
+use feature_questions::{checked_question, features_on_in, shared_question};
 use feature_switching::FeaturesOn;
 use guppy_row_parts::contains_text;
 use nextest_filtering::{TestCaseName, TestQuery};
@@ -21,9 +22,10 @@ use question_filters::{
     LinkScope, QuestionFilters, default_holds, default_may_pass, filters_over, first_that_holds,
     some_may_pass,
 };
-use record_checks::SelectError;
+use record_checks::{CheckedRecord, SelectError};
 use record_rules::binaries::TestBinary;
 use std::alloc::{AllocError, Global};
+use std::rc::Rc;
 use test_lister::{AskError, Listing, TestLister, ask_each};
 use workspace_record::{FeatureChoice, PlatformTable, WorkspaceRecord};
 
@@ -46,8 +48,48 @@ pub fn why<'a>(
     ensures explains { Explains (record { workspace = «record».entry.now; choice = choice.now; table = table.now; scope = scope; texts = map (λ t. t.now) texts.now; asks = LetThrough }) id.entry.now (option_map (λ t. t.now) test.entry) (shown lister.old) result (shown lister.new) }
 {
     let checked = checked_question(alloc, record, choice)?;
-    let on = features_on_in(alloc, &checked, choice, table)?;
-    let filters = filters_over(alloc, &checked, &on, table, scope, texts)?;
+    why_in(
+        alloc, &checked, choice, table, scope, texts, id, test, lister,
+    )
+}
+
+/// The same of a record that is shared, of whose rows no copy is made.
+pub fn why_shared<'a>(
+    alloc: Global,
+    record: &'a Rc<WorkspaceRecord>,
+    choice: &FeatureChoice,
+    table: &PlatformTable,
+    scope: LinkScope,
+    texts: &[&str],
+    id: &'a str,
+    test: Option<&str>,
+    lister: &mut dyn TestLister,
+) -> Result<Reason<'a>, SelectError>
+    ensures explains { Explains (record { workspace = «record».entry.now.value; choice = choice.now; table = table.now; scope = scope; texts = map (λ t. t.now) texts.now; asks = LetThrough }) id.entry.now (option_map (λ t. t.now) test.entry) (shown lister.old) result (shown lister.new) }
+{
+    let checked = shared_question(alloc, record, choice)?;
+    why_in(
+        alloc, &checked, choice, table, scope, texts, id, test, lister,
+    )
+}
+
+/// The same of a record that was tested, where the extras of the choice are known.
+fn why_in<'a>(
+    alloc: Global,
+    checked: &CheckedRecord<'a>,
+    choice: &FeatureChoice,
+    table: &PlatformTable,
+    scope: LinkScope,
+    texts: &[&str],
+    id: &'a str,
+    test: Option<&str>,
+    lister: &mut dyn TestLister,
+) -> Result<Reason<'a>, SelectError>
+    requires known { unknown_extra checked.now choice.now ≡ None }
+    ensures { Explains (record { workspace = checked.now; choice = choice.now; table = table.now; scope = scope; texts = map (λ t. t.now) texts.now; asks = LetThrough }) id.entry.now (option_map (λ t. t.now) test.entry) (shown lister.old) result (shown lister.new) }
+{
+    let on = features_on_in(alloc, checked, choice, table)?;
+    let filters = filters_over(alloc, checked, &on, table, scope, texts)?;
     let are_given = !texts.is_empty();
     let all = checked.binaries();
     among(alloc, all, &on, &filters, are_given, id, test, lister)

@@ -14,7 +14,7 @@ mod selecting;
 mod selection;
 
 pub use crate::asked_binaries::AskedBinaries;
-pub use crate::explaining::why;
+pub use crate::explaining::{why, why_shared};
 pub use crate::reason::{BinaryReason, Reason, TestReason};
 pub use crate::report::write_report;
 pub use crate::selecting::{select, select_plain, select_shared};

@@ -8,25 +8,21 @@ mod selections;
 
 use crate::runs::ProgramRows;
 use crate::selections::SelectionRows;
-use row_program::run_rows;
+use row_program::run_file;
+use std::io;
 use std::process::ExitCode;
-use std::{fs, io};
 
 fn main(rt: HostRuntime) -> io::Result<ExitCode> {
-    let selections = fs::read(&rt, "selections.json")?;
-    let runs = fs::read(&rt, "runs.json")?;
-    let example = fs::read(&rt, "example.json")?;
-    let alloc = rt.alloc();
     let mut out = rt.stdout();
-    let mut same = true;
-    same &= run_rows(
-        alloc,
+    let selections = run_file(
+        &rt,
         "selections",
-        &selections,
+        "selections.json",
         &mut SelectionRows,
         &mut out,
     )?;
-    same &= run_rows(alloc, "runs", &runs, &mut ProgramRows, &mut out)?;
-    same &= run_rows(alloc, "example", &example, &mut ProgramRows, &mut out)?;
+    let runs = run_file(&rt, "runs", "runs.json", &mut ProgramRows, &mut out)?;
+    let example = run_file(&rt, "example", "example.json", &mut ProgramRows, &mut out)?;
+    let same = selections && runs && example;
     Ok(ExitCode::from(if same { 0 } else { 1 }))
 }

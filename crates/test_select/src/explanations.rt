@@ -8,7 +8,7 @@ use crate::command_line::{feature_word, is_readable, package_word};
 use crate::failure::Failure;
 use crate::readable::print_entries;
 use clap::ArgMatches;
-use feature_questions::{explain, write_explanation};
+use feature_questions::{explain_shared, write_explanation};
 use question_files::{FeatureQuestion, FileSource, RunFailure, feature_question, named_files};
 use record_files::label_of;
 use std::alloc::{AllocError, Global};
@@ -38,8 +38,8 @@ fn print_explanation_of<'a, O: Write>(
 ) -> Result<(), Failure<'a>>
     ensures { IfErr result (λ f. status_of f ≡ 1) }
 {
-    let record = question.record.as_ref();
-    match explain(alloc, record, &question.choice, &question.table, feature)? {
+    let (record, choice, table) = (&question.record, &question.choice, &question.table);
+    match explain_shared(alloc, record, choice, table, feature)? {
         Some(entries) if readable => print_entries(alloc, question, &entries, out),
         Some(entries) => {
             write_explanation(alloc, feature, &entries, out)?;

@@ -11,7 +11,7 @@ use clap::ArgMatches;
 use question_files::{FeatureQuestion, FileSource, RunFailure, named_files};
 use question_filters::LinkScope;
 use record_checks::SelectError;
-use selection_making::{Reason, why};
+use selection_making::{Reason, why_shared};
 use std::alloc::Global;
 use std::io::{self, Write};
 use test_lister::TestLister;
@@ -51,9 +51,8 @@ fn reason_of<'a>(
 ) -> Result<Reason<'a>, SelectError>
     ensures { ExplainsQuestion question.entry.now scope (map (λ t. t.now) texts.now) id.entry.now (option_map (λ t. t.now) test.entry) (shown lister.old) result (shown lister.new) }
 {
-    let record = question.record.as_ref();
-    let (choice, table) = (&question.choice, &question.table);
-    why(alloc, record, choice, table, scope, texts, id, test, lister)
+    let (record, choice, table) = (&question.record, &question.choice, &question.table);
+    why_shared(alloc, record, choice, table, scope, texts, id, test, lister)
 }
 
 fn print_reason<'a, O: Write>(reason: &Reason<'_>, out: &mut O) -> Result<(), Failure<'a>>

@@ -1,0 +1,40 @@
+-- What the files are that are made of what Cargo and rustc print.
+use Rattle.std.specs.Prelude.{◌≡◌, ℕ, List, false, Ok, map}
+use Rattle.workspace_record.specs.Records.{Text, Workspace}
+use Rattle.workspace_record.specs.Tables.{answer}
+use Rattle.workspace_record.specs.declared.choice.PlatformTable.{PlatformTable}
+use Rattle.record_files.specs.Files.{Reads}
+use Rattle.record_files.specs.Records as read
+use Rattle.record_files.specs.Tables as read_table
+use Rattle.record_writing.specs.Files.{table_by_name, without_metadata}
+use Rattle.cargo_metadata.specs.Files as cargo
+use Rattle.cargo_metadata.specs.Metadata.{Metadata, metadata_file}
+use Rattle.cargo_record.specs.Kept.{kept_row}
+use Rattle.cargo_record.specs.Lines.{AreLinesOf, line_rows, unlinked}
+use Rattle.cargo_record.specs.Members.{IsWorkspaceOf}
+use Rattle.cargo_record.specs.declared.members.Wanted.{Wanted}
+use Rattle.cargo_cfg.specs.Settings.{Setting}
+use Rattle.cargo_cfg.specs.TableAnswers.{IsAnswer, specs_of}
+
+-- the record has Cargo's packages, the members that are asked about, and a line for each dependency that was resolved
+pub record IsRecordOf (m : Metadata) (wanted : Wanted) (w : Workspace) : Type 0 where
+  pub packages : w.packages ≡ map kept_row m.packages
+  pub workspace : IsWorkspaceOf m wanted w.workspace
+  pub lines : AreLinesOf (unlinked w) m (line_rows w.links)
+
+-- the text is the file of such a record of what was printed, without metadata
+pub record IsRecordFile (printed : List ℕ) (wanted : Wanted) (text : Text) : Type 0 where
+  pub metadata : Metadata
+  pub tells : cargo.Reads metadata_file printed (Ok metadata)
+  pub made : Workspace
+  pub is_record : IsRecordOf metadata wanted made
+  pub reads : Reads read.record_file text (Ok (without_metadata made))
+
+-- the text is the file of a table that answers each spec of the record in the file, and no other, for the platform
+pub record IsTableFile (file : List ℕ) (triple : Text) (settings : List Setting) (text : Text) : Type 0 where
+  pub asked : Workspace
+  pub tells : Reads read.record_file file (Ok asked)
+  pub table : PlatformTable
+  pub answers : (spec : Text) → IsAnswer triple settings (specs_of asked.links) spec (answer table spec)
+  pub known : table.unknown_counts ≡ false
+  pub reads : Reads read_table.table_file text (Ok (table_by_name table))
