@@ -1,12 +1,10 @@
 -- What the files are that are made of what Cargo and rustc print.
-use Rattle.std.specs.Prelude.{◌≡◌, ℕ, List, false, Ok, map}
+use Rattle.std.specs.Prelude.{◌≡◌, ℕ, List, [], None, false, Ok, map}
 use Rattle.workspace_record.specs.Records.{Text, Workspace}
-use Rattle.workspace_record.specs.Tables.{answer}
-use Rattle.workspace_record.specs.declared.choice.PlatformTable.{PlatformTable}
 use Rattle.record_files.specs.Files.{Reads}
 use Rattle.record_files.specs.Records as read
-use Rattle.record_files.specs.Tables as read_table
-use Rattle.record_writing.specs.Files.{table_by_name, without_metadata}
+use Rattle.record_files.specs.Tables.{Table, table_file}
+use Rattle.record_writing.specs.Files.{found, without_metadata}
 use Rattle.cargo_metadata.specs.Files as cargo
 use Rattle.cargo_metadata.specs.Metadata.{Metadata, metadata_file}
 use Rattle.cargo_record.specs.Kept.{kept_row}
@@ -21,6 +19,8 @@ pub record IsRecordOf (m : Metadata) (wanted : Wanted) (w : Workspace) : Type 0 
   pub packages : w.packages ≡ map kept_row m.packages
   pub workspace : IsWorkspaceOf m wanted w.workspace
   pub lines : AreLinesOf (unlinked w) m (line_rows w.links)
+  pub groups : w.groups ≡ []
+  pub default_filter : w.default_filter ≡ None
 
 -- the text is the file of such a record of what was printed, without metadata
 pub record IsRecordFile (printed : List ℕ) (wanted : Wanted) (text : Text) : Type 0 where
@@ -34,7 +34,7 @@ pub record IsRecordFile (printed : List ℕ) (wanted : Wanted) (text : Text) : T
 pub record IsTableFile (file : List ℕ) (triple : Text) (settings : List Setting) (text : Text) : Type 0 where
   pub asked : Workspace
   pub tells : Reads read.record_file file (Ok asked)
-  pub table : PlatformTable
-  pub answers : (spec : Text) → IsAnswer triple settings (specs_of asked.links) spec (answer table spec)
+  pub table : Table
+  pub reads : Reads table_file text (Ok table)
+  pub answers : (spec : Text) → IsAnswer triple settings (specs_of asked.links) spec (found spec table.answers)
   pub known : table.unknown_counts ≡ false
-  pub reads : Reads read_table.table_file text (Ok (table_by_name table))

@@ -5,5 +5,6 @@ pub mod RecordFacts
 pub mod ChoiceFacts
 pub mod Shallow
 pub mod MapFacts
+pub mod NameFacts
 pub mod Depths
 pub mod WrittenFacts

@@ -1,5 +1,6 @@
 -- What the files that are written are read as.
-use Rattle.std.specs.Prelude.{List, [], ◌∷◌, None, map}
+use Rattle.std.specs.Prelude.{List, [], ◌∷◌, Option, None, bytes_eq, map}
+use Rattle.std.specs.Map.{lookup}
 use Rattle.std.specs.Ordering.{match_ordering}
 use Rattle.list_facts.specs.Ascending.{text_cmp}
 use Rattle.workspace_record.specs.Tables.{answered}
@@ -45,6 +46,10 @@ with_entries (e ∷ es) found = with_entries es (with_entry e.0 e.1 found)
 -- the entries, ascending by their names, of those of one name the last
 abbrev pub by_name : {A : Type 0} → List (Text × A) → List (Text × A)
 by_name es = with_entries es []
+
+-- what stands under a name among entries
+abbrev pub found : {A : Type 0} → Text → List (Text × A) → Option A
+found name es = lookup (bytes_eq name) es
 
 -- the table with its answers in the order of their specs
 abbrev pub table_by_name : PlatformTable → Table

@@ -1,10 +1,13 @@
 ghost use Rattle.std.specs.Prelude.{◌≡◌, IfOk, Ok, map, string_bytes};
+ghost use Rattle.std.specs.String.{string_eq};
+ghost use Rattle.indexmap.specs.IndexMap.{IsUnique};
 ghost use Rattle.serde_json.specs.Data.{no_members};
 ghost use Rattle.serde_json.specs.View.{members_view, view};
 ghost use Rattle.record_files.specs.Files.{Reads};
 ghost use Rattle.record_files.specs.Tables.{table_file};
-ghost use Rattle.workspace_record.specs.Tables.{answered, entry_of};
-ghost use Rattle.record_writing.specs.Files.{table_by_name};
+ghost use Rattle.workspace_record.specs.Records.{Text};
+ghost use Rattle.workspace_record.specs.Tables.{answer, answered, entry_of};
+ghost use Rattle.record_writing.specs.Files.{by_name, found, table_by_name};
 ghost use Rattle.record_writing.specs.Maps.{answer_member, table_data};
 ghost use Rattle.record_writing.specs.Members.{put_all};
 
@@ -17,13 +20,15 @@ use workspace_record::PlatformTable;
 /// The file of a table, with a line for each answer, in the order of the specs' bytes.
 pub fn table_text(alloc: Global, table: &PlatformTable) -> Result<String, AllocError>
     ensures reads { IfOk result (λ text. Reads table_file (string_bytes text) (Ok (table_by_name table.now))) }
+    ensures answers { IfOk result (λ _. (spec : Text) → found spec (by_name (answered table.now)) ≡ answer table.now spec) }
 {
     let value = table_value(alloc, table)?;
     value.to_string_pretty(alloc)
 }
 
 fn table_value(alloc: Global, table: &PlatformTable) -> Result<Value, AllocError>
-    ensures { IfOk result (λ v. view v ≡ table_data (answered table.now) table.now.unknown_counts) }
+    ensures value { IfOk result (λ v. view v ≡ table_data (answered table.now) table.now.unknown_counts) }
+    ensures unique { IfOk result (λ _. IsUnique string_eq table.now.answers) }
 {
     let members = [("unknown_counts", Member::Flag(table.unknown_counts))];
     let answers = Value::Object(answers_object(alloc, &table.answers)?);
@@ -35,7 +40,8 @@ fn answers_object(
     alloc: Global,
     answers: &IndexMap<String, bool>,
 ) -> Result<Map<String, Value>, AllocError>
-    ensures { IfOk result (λ m. members_view m.entries ≡ put_all (map answer_member (map entry_of answers.now.entries)) no_members) }
+    ensures members { IfOk result (λ m. members_view m.entries ≡ put_all (map answer_member (map entry_of answers.now.entries)) no_members) }
+    ensures unique { IfOk result (λ _. IsUnique string_eq answers.now) }
 {
     let mut object = Map::new(alloc);
     for (spec, answer) in answers.iter() {
