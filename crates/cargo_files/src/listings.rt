@@ -1,10 +1,8 @@
 //! Listings of the test binaries of a record.
 
-ghost use Rattle.std.specs.Prelude.{◌≡◌, IfOk, Ok, OnOk, bytes_eq, map, option_map, string_bytes};
+ghost use Rattle.std.specs.Prelude.{◌≡◌, IfOk, OnOk, bytes_eq, map, option_map, string_bytes};
 ghost use Rattle.package_rules.specs.Places.{first_repeat};
-ghost use Rattle.record_files.specs.Files.{Reads};
-ghost use Rattle.record_files.specs.Listings.{listings_file};
-ghost use Rattle.record_writing.specs.Files.{by_name};
+ghost use Rattle.record_writing.specs.Files.{ReadAsListings};
 ghost use Rattle.cargo_files.specs.Added.{IsAdded, listing};
 
 use crate::refusal::Refusal;
@@ -145,7 +143,7 @@ fn repeated(alloc: Global, id: &str, name: &str) -> Result<Refusal, Refusal> {
 
 /// The file of listings.
 pub fn listings_file(alloc: Global, listings: &Listings) -> Result<String, Refusal>
-    ensures reads { IfOk result (λ text. Reads listings_file (string_bytes text) (Ok (by_name (map listing listings.now.items)))) }
+    ensures reads { IfOk result (λ text. ReadAsListings (map listing listings.now.items) (string_bytes text)) }
 {
     Ok(listings_text(alloc, listings)?)
 }

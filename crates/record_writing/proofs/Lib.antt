@@ -4,6 +4,7 @@ pub mod PackageFacts
 pub mod RecordFacts
 pub mod ChoiceFacts
 pub mod Shallow
+pub mod Entries
 pub mod MapFacts
 pub mod NameFacts
 pub mod Depths

@@ -8,7 +8,7 @@ use Rattle.record_files.specs.Faults.{Fault}
 use Rattle.record_files.specs.Listings.{listing_of, listings_file}
 use Rattle.record_files.specs.Tables.{answer_of, table_file, table_of}
 use Rattle.record_files.specs.Values.{each_member}
-use Rattle.record_writing.specs.Files.{by_name, with_entries, with_entry}
+use Rattle.record_writing.proofs.Entries.{by_name, with_entries, with_entry}
 use Rattle.record_writing.specs.Maps.{listings_data, table_data}
 use Rattle.record_writing.specs.Members.{put_all, texts_data}
 use Rattle.record_writing.proofs.Found.{each_text_of}

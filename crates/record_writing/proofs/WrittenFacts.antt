@@ -3,6 +3,7 @@ use Rattle.std.proofs.Common.{◌≡◌, ◌∙◌, ◌≤◌, Some, IfOk, Resul
 use Rattle.std.proofs.lemmas.Str.{IsUtf8-string_bytes}
 use Rattle.serde_json.specs.Data.{Data, depth}
 use Rattle.serde_json.specs.Read.{max_depth, read}
+use Rattle.workspace_record.specs.Records.{Text}
 use Rattle.record_files.specs.Faults.{Fault}
 use Rattle.record_files.specs.Files.{Reads}
 
@@ -17,3 +18,11 @@ reads_as format d value said (Ok s) shape shallow same back = record {
   shape = shape;
 }
 reads_as format d value said (Err e) shape shallow same back = back
+
+-- so where the value is read as something of which this holds
+pub reads_so : {Y E : Type 0} (format : Data → Result Y Fault) (d value : Data) (y : Y) (r : Result (String Global) E) (Q : Text → Type 0)
+    → format d ≡ Ok y → depth d ≤ max_depth → value ≡ d → IfOk r (λ s. depth value ≤ max_depth → read (string_bytes s) ≡ Some value)
+    → ((text : Text) → Reads format text (Ok y) → Q text)
+    → IfOk r (λ s. Q (string_bytes s))
+reads_so {E = E} format d value y (Ok s) Q shape shallow same back so = so (string_bytes s) (reads_as {E = E} format d value (Ok y) (Ok s) shape shallow same back)
+reads_so format d value y (Err e) Q shape shallow same back so = back

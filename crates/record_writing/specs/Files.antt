@@ -1,15 +1,17 @@
 -- What the files that are written are read as.
-use Rattle.std.specs.Prelude.{List, [], ◌∷◌, Option, None, bytes_eq, map}
+use Rattle.std.specs.Prelude.{◌≡◌, List, Option, None, Ok, bytes_eq, map, reverse}
+use Rattle.std.specs.List.Sorted.{IsStrictlySortedBy}
 use Rattle.std.specs.Map.{lookup}
-use Rattle.std.specs.Ordering.{match_ordering}
 use Rattle.list_facts.specs.Ascending.{text_cmp}
-use Rattle.workspace_record.specs.Tables.{answered}
+use Rattle.workspace_record.specs.Tables.{answer}
 use Rattle.workspace_record.specs.declared.choice.PlatformTable.{PlatformTable}
 use Rattle.workspace_record.specs.Choices.{Choice}
 use Rattle.workspace_record.specs.Features.{FeatureValue}
 use Rattle.workspace_record.specs.Records.{Package, Workspace, Text, WorkspaceDetails}
 use Rattle.record_files.specs.Choices.{label_of}
-use Rattle.record_files.specs.Tables.{Table}
+use Rattle.record_files.specs.Files.{Reads}
+use Rattle.record_files.specs.Listings.{listings_file}
+use Rattle.record_files.specs.Tables.{Table, table_file}
 use Rattle.record_writing.specs.Choices.{label_text}
 
 -- the package without its metadata
@@ -32,25 +34,29 @@ feature_as_named f = record { package_id = f.package_id; label = label_of (label
 abbrev pub as_named : Choice → Choice
 as_named c = record { standard = c.standard; extras = map feature_as_named c.extras }
 
--- the entries, which ascend by their names, with one more in its place, or in place of that of its name
-abbrev pub with_entry : {A : Type 0} → Text → A → List (Text × A) → List (Text × A)
-with_entry name x [] = (name, x) ∷ []
-with_entry name x (e ∷ es) =
-    match_ordering (text_cmp name e.0) ((name, x) ∷ e ∷ es) ((e.0, x) ∷ es) (e ∷ with_entry name x es)
-
--- those entries with more of them, one after another
-abbrev pub with_entries : {A : Type 0} → List (Text × A) → List (Text × A) → List (Text × A)
-with_entries [] found = found
-with_entries (e ∷ es) found = with_entries es (with_entry e.0 e.1 found)
-
--- the entries, ascending by their names, of those of one name the last
-abbrev pub by_name : {A : Type 0} → List (Text × A) → List (Text × A)
-by_name es = with_entries es []
-
--- what stands under a name among entries
+-- what stands under a name among entries, of those of one name the first
 abbrev pub found : {A : Type 0} → Text → List (Text × A) → Option A
 found name es = lookup (bytes_eq name) es
 
--- the table with its answers in the order of their specs
-abbrev pub table_by_name : PlatformTable → Table
-table_by_name t = record { answers = by_name (answered t); unknown_counts = t.unknown_counts }
+-- what stands under a name among entries, of those of one name the last
+abbrev pub found_last : {A : Type 0} → Text → List (Text × A) → Option A
+found_last name es = found name (reverse es)
+
+-- the names of the entries ascend by their bytes, and so each stands once
+abbrev pub AscendByName : {A : Type 0} → List (Text × A) → Type 0
+AscendByName es = IsStrictlySortedBy text_cmp (map (λ e. e.0) es)
+
+-- the text reads as a table that answers each spec as this one does
+pub record ReadsAsTable (given : PlatformTable) (text : Text) : Type 0 where
+  pub table : Table
+  pub reads : Reads table_file text (Ok table)
+  pub ascend : AscendByName table.answers
+  pub answers : (spec : Text) → found spec table.answers ≡ answer given spec
+  pub unknown_counts : table.unknown_counts ≡ given.unknown_counts
+
+-- the text reads as the tests of just these binaries, of listings of one binary the last
+pub record ReadAsListings (given : List (Text × List Text)) (text : Text) : Type 0 where
+  pub listings : List (Text × List Text)
+  pub reads : Reads listings_file text (Ok listings)
+  pub ascend : AscendByName listings
+  pub tests : (id : Text) → found id listings ≡ found_last id given

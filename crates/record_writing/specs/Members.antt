@@ -17,16 +17,16 @@ or_null written None = null
 or_null written (Some x) = written x
 
 -- the value of a member
-abbrev pub member_data : Member → Data
-member_data (member.Text text) = string text.now
-member_data (member.OptionalText text) = or_null string (option_map string_bytes text.now)
-member_data (member.Texts texts) = texts_data (map string_bytes texts.now)
-member_data (member.OptionalTexts texts) = or_null texts_data (option_map (λ v. map string_bytes v.items) texts.now)
-member_data (member.Flag flag) = boolean flag
+abbrev pub value_of : Member → Data
+value_of (member.Text text) = string text.now
+value_of (member.OptionalText text) = or_null string (option_map string_bytes text.now)
+value_of (member.Texts texts) = texts_data (map string_bytes texts.now)
+value_of (member.OptionalTexts texts) = or_null texts_data (option_map (λ v. map string_bytes v.items) texts.now)
+value_of (member.Flag flag) = boolean flag
 
 -- members, each with its name
 abbrev pub members_data : List (Bor Text × Member) → List (Text × Data)
-members_data ms = map (λ m. (m.0.now, member_data m.1)) ms
+members_data ms = map (λ m. (m.0.now, value_of m.1)) ms
 
 -- the members, with these put among them one after another
 abbrev pub put_all : List (Text × Data) → Members → Members

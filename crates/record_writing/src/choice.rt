@@ -6,7 +6,7 @@ ghost use Rattle.record_files.specs.Files.{Reads};
 ghost use Rattle.record_writing.specs.Files.{as_named};
 ghost use Rattle.record_writing.specs.Choices.{choice_data, extra_data, label_text, pair_data, standard_name};
 
-use crate::object::{Member, object_of, with_member};
+use crate::object::{Member, Written, object_of, values_of, with_member};
 use serde_json::Value;
 use std::alloc::{AllocError, Global};
 use workspace_record::{Feature, FeatureChoice, Label, Standard};
@@ -24,26 +24,20 @@ fn choice_value(alloc: Global, choice: &FeatureChoice) -> Result<Value, AllocErr
     ensures { IfOk result (λ v. view v ≡ choice_data choice.now) }
 {
     let members = [("standard", Member::Text(standard_name(choice.standard)))];
-    let extras = Value::Array(extra_values(alloc, &choice.extras)?);
+    let extras = Value::Array(values_of(alloc, &choice.extras)?);
     let own = object_of(alloc, &members)?;
     Ok(Value::Object(with_member(alloc, own, "extras", extras)?))
 }
 
-fn extra_values(alloc: Global, extras: &[Feature]) -> Result<Vec<Value>, AllocError>
-    ensures { IfOk result (λ v. map view v.items ≡ map extra_data extras.now) }
-{
-    let mut values = Vec::with_capacity(alloc, extras.len())?;
-    for extra in extras {
-        values.push(extra_value(alloc, extra)?)?;
-    }
-    Ok(values)
-}
+impl Written for Feature {
+    ghost use Rattle.record_writing.specs.Choices.{extra_data};
 
-fn extra_value(alloc: Global, extra: &Feature) -> Result<Value, AllocError>
-    ensures { IfOk result (λ v. view v ≡ extra_data extra.now) }
-{
-    let feature = label_text(alloc, &extra.label)?;
-    pair_value(alloc, extra.package.as_str(), feature.as_str())
+    ghost object = { extra_data };
+
+    fn written(&self, alloc: Global) -> Result<Value, AllocError> {
+        let feature = label_text(alloc, &self.label)?;
+        pair_value(alloc, self.package.as_str(), feature.as_str())
+    }
 }
 
 fn pair_value<'a>(alloc: Global, package: &'a str, feature: &'a str) -> Result<Value, AllocError>

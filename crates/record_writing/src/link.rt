@@ -2,58 +2,46 @@ ghost use Rattle.std.specs.Prelude.{◌≡◌, IfOk, map};
 ghost use Rattle.serde_json.specs.View.{view};
 ghost use Rattle.record_writing.specs.Rows.{line_data, line_kind_name, link_data};
 
-use crate::object::{Member, object_of, with_member};
+use crate::object::{Member, Written, object_of, values_of, with_member};
 use serde_json::Value;
 use std::alloc::{AllocError, Global};
 use workspace_record::{LineKind, LineRecord, LinkRecord};
 
-pub(crate) fn link_values(alloc: Global, links: &[LinkRecord]) -> Result<Vec<Value>, AllocError>
-    ensures { IfOk result (λ v. map view v.items ≡ map link_data links.now) }
-{
-    let mut values = Vec::with_capacity(alloc, links.len())?;
-    for link in links {
-        values.push(link_value(alloc, link)?)?;
+impl Written for LinkRecord {
+    ghost use Rattle.record_writing.specs.Rows.{link_data};
+
+    ghost object = { link_data };
+
+    fn written(&self, alloc: Global) -> Result<Value, AllocError> {
+        let members = [
+            ("from", Member::Text(self.from.as_str())),
+            ("to", Member::Text(self.to.as_str())),
+            ("name", Member::Text(self.name.as_str())),
+            ("requirement", Member::Text(self.requirement.as_str())),
+            ("registry", Member::OptionalText(&self.registry)),
+            ("path", Member::OptionalText(&self.path)),
+        ];
+        let lines = Value::Array(values_of(alloc, &self.lines)?);
+        let own = object_of(alloc, &members)?;
+        Ok(Value::Object(with_member(alloc, own, "lines", lines)?))
     }
-    Ok(values)
 }
 
-fn link_value(alloc: Global, link: &LinkRecord) -> Result<Value, AllocError>
-    ensures { IfOk result (λ v. view v ≡ link_data link.now) }
-{
-    let members = [
-        ("from", Member::Text(link.from.as_str())),
-        ("to", Member::Text(link.to.as_str())),
-        ("name", Member::Text(link.name.as_str())),
-        ("requirement", Member::Text(link.requirement.as_str())),
-        ("registry", Member::OptionalText(&link.registry)),
-        ("path", Member::OptionalText(&link.path)),
-    ];
-    let lines = Value::Array(line_values(alloc, &link.lines)?);
-    let own = object_of(alloc, &members)?;
-    Ok(Value::Object(with_member(alloc, own, "lines", lines)?))
-}
+impl Written for LineRecord {
+    ghost use Rattle.record_writing.specs.Rows.{line_data};
 
-fn line_values(alloc: Global, lines: &[LineRecord]) -> Result<Vec<Value>, AllocError>
-    ensures { IfOk result (λ v. map view v.items ≡ map line_data lines.now) }
-{
-    let mut values = Vec::with_capacity(alloc, lines.len())?;
-    for line in lines {
-        values.push(line_value(alloc, line)?)?;
+    ghost object = { line_data };
+
+    fn written(&self, alloc: Global) -> Result<Value, AllocError> {
+        let members = [
+            ("kind", Member::Text(line_kind_name(self.kind))),
+            ("optional", Member::Flag(self.optional)),
+            ("default_features", Member::Flag(self.default_features)),
+            ("features", Member::Texts(&self.features)),
+            ("spec", Member::OptionalText(&self.spec)),
+        ];
+        Ok(Value::Object(object_of(alloc, &members)?))
     }
-    Ok(values)
-}
-
-fn line_value(alloc: Global, line: &LineRecord) -> Result<Value, AllocError>
-    ensures { IfOk result (λ v. view v ≡ line_data line.now) }
-{
-    let members = [
-        ("kind", Member::Text(line_kind_name(line.kind))),
-        ("optional", Member::Flag(line.optional)),
-        ("default_features", Member::Flag(line.default_features)),
-        ("features", Member::Texts(&line.features)),
-        ("spec", Member::OptionalText(&line.spec)),
-    ];
-    Ok(Value::Object(object_of(alloc, &members)?))
 }
 
 fn line_kind_name(kind: LineKind) -> &'static str

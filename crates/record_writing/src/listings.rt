@@ -1,9 +1,8 @@
-ghost use Rattle.std.specs.Prelude.{◌≡◌, IfOk, Ok, map, string_bytes};
+ghost use Rattle.std.specs.Prelude.{◌≡◌, IfOk, map, string_bytes};
 ghost use Rattle.serde_json.specs.Data.{no_members};
 ghost use Rattle.serde_json.specs.View.{members_view};
-ghost use Rattle.record_files.specs.Files.{Reads};
-ghost use Rattle.record_files.specs.Listings.{listing, listings_file};
-ghost use Rattle.record_writing.specs.Files.{by_name};
+ghost use Rattle.record_files.specs.Listings.{listing};
+ghost use Rattle.record_writing.specs.Files.{ReadAsListings};
 ghost use Rattle.record_writing.specs.Maps.{listing_member};
 ghost use Rattle.record_writing.specs.Members.{put_all};
 
@@ -17,7 +16,7 @@ pub fn listings_text(
     alloc: Global,
     listings: &[(String, Vec<String>)],
 ) -> Result<String, AllocError>
-    ensures reads { IfOk result (λ text. Reads listings_file (string_bytes text) (Ok (by_name (map listing listings.now)))) }
+    ensures reads { IfOk result (λ text. ReadAsListings (map listing listings.now) (string_bytes text)) }
 {
     let value = Value::Object(listings_object(alloc, listings)?);
     value.to_string_pretty(alloc)

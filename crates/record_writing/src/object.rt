@@ -1,9 +1,9 @@
 //! The members of objects.
 
 ghost use Rattle.std.specs.Prelude.{◌≡◌, IfOk, OnOk, map, string_bytes};
-ghost use Rattle.serde_json.specs.Data.{no_members, put, string};
+ghost use Rattle.serde_json.specs.Data.{Data, no_members, put, string};
 ghost use Rattle.serde_json.specs.View.{members_view, view};
-ghost use Rattle.record_writing.specs.Members.{member_data, members_data, put_all, texts_data};
+ghost use Rattle.record_writing.specs.Members.{value_of, members_data, put_all, texts_data};
 
 use serde_json::{Map, Value, put};
 use std::alloc::{AllocError, Global};
@@ -16,6 +16,26 @@ pub(crate) enum Member<'a> {
     Texts(&'a [String]),
     OptionalTexts(&'a Option<Vec<String>>),
     Flag(bool),
+}
+
+/// A row that is written as an object.
+pub(crate) trait Written {
+    ghost object: { Self → Data };
+
+    /// The row's value.
+    fn written(&self, alloc: Global) -> Result<Value, AllocError>
+        ensures { IfOk result (λ v. view v ≡ object self.now) };
+}
+
+/// The values of rows, in their order.
+pub(crate) fn values_of<T: Written>(alloc: Global, rows: &[T]) -> Result<Vec<Value>, AllocError>
+    ensures { IfOk result (λ v. map view v.items ≡ map T.object rows.now) }
+{
+    let mut values = Vec::with_capacity(alloc, rows.len())?;
+    for row in rows {
+        values.push(row.written(alloc)?)?;
+    }
+    Ok(values)
 }
 
 /// An object with these members.
@@ -56,7 +76,7 @@ pub(crate) fn with_member(
 }
 
 fn value_of(alloc: Global, member: Member<'_>) -> Result<Value, AllocError>
-    ensures { IfOk result (λ v. view v ≡ member_data member.entry) }
+    ensures { IfOk result (λ v. view v ≡ value_of member.entry) }
 {
     match member {
         Member::Text(text) => Value::try_from_str(alloc, text),

@@ -4,40 +4,30 @@ ghost use Rattle.serde_json.specs.View.{members_view, view};
 ghost use Rattle.record_writing.specs.Members.{put_all};
 ghost use Rattle.record_writing.specs.Rows.{details_members, feature_data, package_data};
 
-use crate::object::{Member, object_of, with_member, with_members};
-use crate::target::target_values;
+use crate::object::{Member, Written, object_of, values_of, with_member, with_members};
 use serde_json::{Map, Value};
 use std::alloc::{AllocError, Global};
 use workspace_record::{FeatureRecord, PackageInfo, PackageRecord};
 
-pub(crate) fn package_values(
-    alloc: Global,
-    packages: &[PackageRecord],
-) -> Result<Vec<Value>, AllocError>
-    ensures { IfOk result (λ v. map view v.items ≡ map package_data packages.now) }
-{
-    let mut values = Vec::with_capacity(alloc, packages.len())?;
-    for row in packages {
-        values.push(package_value(alloc, row)?)?;
-    }
-    Ok(values)
-}
+impl Written for PackageRecord {
+    ghost use Rattle.record_writing.specs.Rows.{package_data};
 
-fn package_value(alloc: Global, row: &PackageRecord) -> Result<Value, AllocError>
-    ensures { IfOk result (λ v. view v ≡ package_data row.now) }
-{
-    let members = [
-        ("id", Member::Text(row.id.as_str())),
-        ("name", Member::Text(row.name.as_str())),
-        ("version", Member::Text(row.version.as_str())),
-        ("optional", Member::Texts(&row.optional)),
-    ];
-    let features = Value::Array(feature_values(alloc, &row.features)?);
-    let targets = Value::Array(target_values(alloc, &row.targets)?);
-    let details = details_of(alloc, &row.info)?;
-    let own = with_members(alloc, details, &members)?;
-    let own = with_member(alloc, own, "features", features)?;
-    Ok(Value::Object(with_member(alloc, own, "targets", targets)?))
+    ghost object = { package_data };
+
+    fn written(&self, alloc: Global) -> Result<Value, AllocError> {
+        let members = [
+            ("id", Member::Text(self.id.as_str())),
+            ("name", Member::Text(self.name.as_str())),
+            ("version", Member::Text(self.version.as_str())),
+            ("optional", Member::Texts(&self.optional)),
+        ];
+        let features = Value::Array(values_of(alloc, &self.features)?);
+        let targets = Value::Array(values_of(alloc, &self.targets)?);
+        let details = details_of(alloc, &self.info)?;
+        let own = with_members(alloc, details, &members)?;
+        let own = with_member(alloc, own, "features", features)?;
+        Ok(Value::Object(with_member(alloc, own, "targets", targets)?))
+    }
 }
 
 /// An object with the details of a package; none of its metadata is written.
@@ -67,22 +57,16 @@ fn details_of(alloc: Global, info: &PackageInfo) -> Result<Map<String, Value>, A
     object_of(alloc, &members)
 }
 
-fn feature_values(alloc: Global, features: &[FeatureRecord]) -> Result<Vec<Value>, AllocError>
-    ensures { IfOk result (λ v. map view v.items ≡ map feature_data features.now) }
-{
-    let mut values = Vec::with_capacity(alloc, features.len())?;
-    for feature in features {
-        values.push(feature_value(alloc, feature)?)?;
-    }
-    Ok(values)
-}
+impl Written for FeatureRecord {
+    ghost use Rattle.record_writing.specs.Rows.{feature_data};
 
-fn feature_value(alloc: Global, feature: &FeatureRecord) -> Result<Value, AllocError>
-    ensures { IfOk result (λ v. view v ≡ feature_data feature.now) }
-{
-    let members = [
-        ("name", Member::Text(feature.name.as_str())),
-        ("enables", Member::Texts(&feature.enables)),
-    ];
-    Ok(Value::Object(object_of(alloc, &members)?))
+    ghost object = { feature_data };
+
+    fn written(&self, alloc: Global) -> Result<Value, AllocError> {
+        let members = [
+            ("name", Member::Text(self.name.as_str())),
+            ("enables", Member::Texts(&self.enables)),
+        ];
+        Ok(Value::Object(object_of(alloc, &members)?))
+    }
 }

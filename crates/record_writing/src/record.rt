@@ -5,10 +5,8 @@ ghost use Rattle.record_files.specs.Records.{record_file};
 ghost use Rattle.record_writing.specs.Files.{without_metadata};
 ghost use Rattle.record_writing.specs.Rows.{record_data};
 
-use crate::link::link_values;
-use crate::object::{Member, object_of, with_member};
-use crate::package::package_values;
-use crate::workspace::{group_values, workspace_value};
+use crate::object::{Member, object_of, values_of, with_member};
+use crate::workspace::workspace_value;
 use serde_json::Value;
 use std::alloc::{AllocError, Global};
 use workspace_record::WorkspaceRecord;
@@ -30,12 +28,12 @@ fn record_value(alloc: Global, record: &WorkspaceRecord) -> Result<Value, AllocE
         Member::OptionalText(&record.default_filter),
     )];
     let own = object_of(alloc, &members)?;
-    let packages = Value::Array(package_values(alloc, &record.packages)?);
+    let packages = Value::Array(values_of(alloc, &record.packages)?);
     let own = with_member(alloc, own, "packages", packages)?;
-    let links = Value::Array(link_values(alloc, &record.links)?);
+    let links = Value::Array(values_of(alloc, &record.links)?);
     let own = with_member(alloc, own, "links", links)?;
     let workspace = workspace_value(alloc, &record.workspace)?;
     let own = with_member(alloc, own, "workspace", workspace)?;
-    let groups = Value::Array(group_values(alloc, &record.groups)?);
+    let groups = Value::Array(values_of(alloc, &record.groups)?);
     Ok(Value::Object(with_member(alloc, own, "groups", groups)?))
 }

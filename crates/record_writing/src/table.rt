@@ -1,13 +1,10 @@
-ghost use Rattle.std.specs.Prelude.{◌≡◌, IfOk, Ok, map, string_bytes};
+ghost use Rattle.std.specs.Prelude.{◌≡◌, IfOk, map, string_bytes};
 ghost use Rattle.std.specs.String.{string_eq};
 ghost use Rattle.indexmap.specs.IndexMap.{IsUnique};
 ghost use Rattle.serde_json.specs.Data.{no_members};
 ghost use Rattle.serde_json.specs.View.{members_view, view};
-ghost use Rattle.record_files.specs.Files.{Reads};
-ghost use Rattle.record_files.specs.Tables.{table_file};
-ghost use Rattle.workspace_record.specs.Records.{Text};
-ghost use Rattle.workspace_record.specs.Tables.{answer, answered, entry_of};
-ghost use Rattle.record_writing.specs.Files.{by_name, found, table_by_name};
+ghost use Rattle.workspace_record.specs.Tables.{answered, entry_of};
+ghost use Rattle.record_writing.specs.Files.{ReadsAsTable};
 ghost use Rattle.record_writing.specs.Maps.{answer_member, table_data};
 ghost use Rattle.record_writing.specs.Members.{put_all};
 
@@ -19,8 +16,7 @@ use workspace_record::PlatformTable;
 
 /// The file of a table, with a line for each answer, in the order of the specs' bytes.
 pub fn table_text(alloc: Global, table: &PlatformTable) -> Result<String, AllocError>
-    ensures reads { IfOk result (λ text. Reads table_file (string_bytes text) (Ok (table_by_name table.now))) }
-    ensures answers { IfOk result (λ _. (spec : Text) → found spec (by_name (answered table.now)) ≡ answer table.now spec) }
+    ensures reads { IfOk result (λ text. ReadsAsTable table.now (string_bytes text)) }
 {
     let value = table_value(alloc, table)?;
     value.to_string_pretty(alloc)

@@ -1,7 +1,0 @@
-use Rattle.std.proofs.Common.{◌≡◌, map, take}
-use Rattle.serde_json.specs.View.{view}
-use Rattle.record_writing.specs.Rows.{group_data}
-use Rattle.record_writing.proofs.workspace.group_values.Given as goal
-
-abbrev pub invariant-loop-row : goal.invariant-loop-row
-invariant-loop-row l = map view l.values.items ≡ map group_data (take l.row-index l.groups)
