@@ -1,4 +1,4 @@
-use crate::made::{tell_made, tell_refused, tell_whole};
+use crate::files::made::{tell_made, tell_refused, tell_whole};
 use cargo_cfg::spec_holds;
 use cargo_choice::FeatureWords;
 use cargo_files::{

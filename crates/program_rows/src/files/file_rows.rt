@@ -1,4 +1,4 @@
-use crate::copies::Copied;
+use crate::files::copies::Copied;
 use record_files::{ReadError, read_account, read_choice, read_listings, read_record, read_table};
 use row_program::{Answers, Row, RowFault, RowRunner, file_text};
 use std::alloc::{AllocError, Global};
