@@ -39,9 +39,9 @@ impl<'a> FeatureLinkContext<'a> {
         ensures initial { IsTrue result ↔ Contains (query_of self.now).initials (near_node (query_of self.now).direction (link_view link.now)) }
     {
         let near = match self.direction() {
-            DependencyDirection::Forward => link.from(),
-            DependencyDirection::Reverse => link.to(),
+            DependencyDirection::Forward => link.from().node(),
+            DependencyDirection::Reverse => link.to().node(),
         };
-        self.query.starts_from(near.node())
+        self.query.starts_from(near)
     }
 }

@@ -1,4 +1,4 @@
-ghost use Rattle.std.specs.Prelude.{◌≡◌, ◌↔◌, ◌<◌, ℕ, All, Contains, IfOk, IsTrue, length};
+ghost use Rattle.std.specs.Prelude.{◌≡◌, ◌↔◌, ◌<◌, ℕ, All, Contains, IfOk, IsTrue, Ok, length};
 ghost use Rattle.numbered_graph.specs.Sets.{has};
 ghost use Rattle.guppy_feature_graph.specs.Queries.{AreInitials, AreStarts, IsQueryOf};
 ghost use Rattle.guppy_feature_graph.specs.Views.{feature_graph_of};
@@ -39,27 +39,23 @@ impl<'g> FeatureQuery<'g> {
         ensures { IfOk result (IsQueryOf initials.entry.graph direction (λ v. IsTrue (has initials.entry.included v))) }
     {
         let starts = initials.included().members(alloc)?;
+        FeatureQuery::found(initials, direction, starts)
+    }
+
+    /// A query from the features of a set, which are told by their numbers too, as an answer.
+    pub(crate) fn found(
+        initials: FeatureSet<'g>,
+        direction: DependencyDirection,
+        starts: Vec<usize>,
+    ) -> Result<FeatureQuery<'g>, AllocError>
+        requires { AreStarts (length initials.graph.nodes) initials.included starts.items }
+        ensures { result ≡ Ok record { graph = initials.entry.graph; direction = direction; initials = starts.items } }
+    {
         Ok(FeatureQuery {
             initials,
             direction,
             starts,
         })
-    }
-
-    /// A query from the features of a set, which are told by their numbers too.
-    pub(crate) fn with_starts(
-        initials: FeatureSet<'g>,
-        direction: DependencyDirection,
-        starts: Vec<usize>,
-    ) -> FeatureQuery<'g>
-        requires { AreStarts (length initials.graph.nodes) initials.included starts.items }
-        ensures { result ≡ record { graph = initials.entry.graph; direction = direction; initials = starts.items } }
-    {
-        FeatureQuery {
-            initials,
-            direction,
-            starts,
-        }
     }
 
     /// An equal query in memory of its own.
@@ -68,7 +64,7 @@ impl<'g> FeatureQuery<'g> {
     {
         let initials = self.initials.copy(alloc)?;
         let starts = Vec::from_slice(alloc, &self.starts)?;
-        Ok(FeatureQuery::with_starts(initials, self.direction, starts))
+        FeatureQuery::found(initials, self.direction, starts)
     }
 
     /// The graph that is asked.

@@ -1,4 +1,4 @@
-ghost use Rattle.std.specs.Prelude.{◌≡◌, ◌↔◌, ◌&&◌, ◌||◌, ◌<◌, ℕ, not, All, IfOk, IsTrue, count_by, length, map};
+ghost use Rattle.std.specs.Prelude.{◌≡◌, ◌↔◌, ◌&&◌, ◌||◌, ◌<◌, ℕ, not, All, IfOk, Ok, IsTrue, count_by, length, map};
 ghost use Rattle.numbered_graph.specs.ListedViews.{in_direction, listed_left};
 ghost use Rattle.numbered_graph.specs.Sets.{differs, has};
 ghost use Rattle.guppy_package_graph.specs.Directions.{direction_of};
@@ -45,6 +45,18 @@ impl<'g> FeatureSet<'g> {
         FeatureSet { graph, included }
     }
 
+    /// The set of these features, as an answer. What lends a graph is dear to prove wherever it is put
+    /// into an answer: so it is done here alone.
+    pub(crate) fn found(
+        graph: &FeatureGraph<'g>,
+        included: NodeSet,
+    ) -> Result<FeatureSet<'g>, AllocError>
+        requires { length included ≡ length (feature_graph_of graph.now).nodes }
+        ensures { result ≡ Ok record { graph = feature_graph_of graph.now; included = included } }
+    {
+        Ok(FeatureSet::of(*graph, included))
+    }
+
     /// The graph of the features.
     pub fn graph(&self) -> &FeatureGraph<'g>
         ensures graph { feature_graph_of result.now ≡ self.now.graph }
@@ -64,7 +76,7 @@ impl<'g> FeatureSet<'g> {
         ensures same { IfOk result (λ s. s ≡ self.now) }
     {
         let included = same_nodes(alloc, &self.included)?;
-        Ok(FeatureSet::of(self.graph, included))
+        FeatureSet::found(&self.graph, included)
     }
 
     /// How many features are in the set.
@@ -106,7 +118,7 @@ impl<'g> FeatureSet<'g> {
         ensures members { IfOk result (λ s. (v : ℕ) → has s.included v ≡ (has self.now.included v || has other.now.included v)) }
     {
         let included = self.included.union(alloc, &other.included)?;
-        Ok(FeatureSet::of(self.graph, included))
+        FeatureSet::found(&self.graph, included)
     }
 
     /// The features that are in both sets.
@@ -120,7 +132,7 @@ impl<'g> FeatureSet<'g> {
         ensures members { IfOk result (λ s. (v : ℕ) → has s.included v ≡ (has self.now.included v && has other.now.included v)) }
     {
         let included = self.included.intersection(alloc, &other.included)?;
-        Ok(FeatureSet::of(self.graph, included))
+        FeatureSet::found(&self.graph, included)
     }
 
     /// The features that are in this set and not in the other.
@@ -134,7 +146,7 @@ impl<'g> FeatureSet<'g> {
         ensures members { IfOk result (λ s. (v : ℕ) → has s.included v ≡ (has self.now.included v && not (has other.now.included v))) }
     {
         let included = self.included.difference(alloc, &other.included)?;
-        Ok(FeatureSet::of(self.graph, included))
+        FeatureSet::found(&self.graph, included)
     }
 
     /// The features that are in exactly one of the two sets.
@@ -148,7 +160,7 @@ impl<'g> FeatureSet<'g> {
         ensures members { IfOk result (λ s. (v : ℕ) → has s.included v ≡ differs (has self.now.included v) (has other.now.included v)) }
     {
         let included = self.included.symmetric_difference(alloc, &other.included)?;
-        Ok(FeatureSet::of(self.graph, included))
+        FeatureSet::found(&self.graph, included)
     }
 
     /// The ids of the features of the set: components together, edges between components forward, and

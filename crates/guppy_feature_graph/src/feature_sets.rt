@@ -20,7 +20,7 @@ impl<'g> FeatureGraph<'g> {
         ensures all { IfOk result (λ s. s ≡ record { graph = feature_graph_of self.now; included = replicate (length (feature_graph_of self.now).nodes) true }) }
     {
         let all = NodeSet::all(alloc, self.feature_count())?;
-        Ok(FeatureSet::of(*self, all))
+        FeatureSet::found(self, all)
     }
 
     /// The set of no feature.
@@ -28,7 +28,7 @@ impl<'g> FeatureGraph<'g> {
         ensures none { IfOk result (λ s. s ≡ record { graph = feature_graph_of self.now; included = replicate (length (feature_graph_of self.now).nodes) false }) }
     {
         let none = NodeSet::none(alloc, self.feature_count())?;
-        Ok(FeatureSet::of(*self, none))
+        FeatureSet::found(self, none)
     }
 
     /// The set of these features.
@@ -41,7 +41,7 @@ impl<'g> FeatureGraph<'g> {
         ensures known { IfOk result (λ _. AreKnown (feature_graph_of self.now) (map id_view feature_ids.now)) }
         ensures refused { IfErr result (IsMissing (feature_graph_of self.now) (map id_view feature_ids.now)) }
     {
-        let set = set_of_features(alloc, *self, feature_ids)?;
+        let set = set_of_features(alloc, self, feature_ids)?;
         Ok(FeatureSet::of(*self, set))
     }
 }

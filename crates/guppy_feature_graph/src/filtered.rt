@@ -38,33 +38,33 @@ impl<'g> FeatureGraph<'g> {
         ensures err { OnErr result (filter.new ≡ filter.old) }
     {
         let members = self.package_graph().resolve_workspace(alloc)?;
-        query_by_filter(alloc, *self, &members, DependencyDirection::Forward, filter)
+        query_by_filter(alloc, self, &members, DependencyDirection::Forward, filter)
     }
 }
 
 /// A query from the features of a set's packages that the filter takes.
 pub(crate) fn query_by_filter<'g, F: FeatureFilter>(
     alloc: Global,
-    graph: FeatureGraph<'g>,
+    graph: &FeatureGraph<'g>,
     packages: &PackageSet<'_>,
     direction: DependencyDirection,
     filter: &mut F,
 ) -> Result<FeatureQuery<'g>, AllocError>
-    requires packages { ids_of packages.now.graph.packages ≡ ids_of (feature_graph_of graph).rows.packages }
+    requires packages { ids_of packages.now.graph.packages ≡ ids_of (feature_graph_of graph.now).rows.packages }
     requires can { F.can_accept filter.old }
-    ensures ok { IfOk result (λ q. (judged : Judged) × AreJudged (IsOfSet (feature_graph_of graph.entry) packages.now.included) judged
+    ensures ok { IfOk result (λ q. (judged : Judged) × AreJudged (IsOfSet (feature_graph_of graph.now) packages.now.included) judged
         × Chain (F.steps filter.old) (F.state filter.old)
-        (shown_features (feature_graph_of graph.entry) judged) (F.state filter.new)
-        × IsQueryOf (feature_graph_of graph.entry) direction (λ v. Contains judged (v, true)) q) }
+        (shown_features (feature_graph_of graph.now) judged) (F.state filter.new)
+        × IsQueryOf (feature_graph_of graph.now) direction (λ v. Contains judged (v, true)) q) }
     ensures same { SameSteps (F.steps filter.old) (F.steps filter.new) }
     ensures can { F.can_accept filter.new }
     ensures err { OnErr result (filter.new ≡ filter.old) }
 {
-    let wanted = features_of_packages(alloc, &graph, packages)?;
-    match take_by_filter(alloc, &graph, &wanted, filter) {
+    let wanted = features_of_packages(alloc, graph, packages)?;
+    match take_by_filter(alloc, graph, &wanted, filter) {
         Ok(taken) => {
-            let initials = FeatureSet::of(graph, taken.included);
-            Ok(FeatureQuery::with_starts(initials, direction, taken.starts))
+            let initials = FeatureSet::of(*graph, taken.included);
+            FeatureQuery::found(initials, direction, taken.starts)
         }
         Err(refused) => Err(refused),
     }
@@ -73,23 +73,23 @@ pub(crate) fn query_by_filter<'g, F: FeatureFilter>(
 /// The features of a set's packages that the filter takes.
 pub(crate) fn set_by_filter<'g, F: FeatureFilter>(
     alloc: Global,
-    graph: FeatureGraph<'g>,
+    graph: &FeatureGraph<'g>,
     packages: &PackageSet<'_>,
     filter: &mut F,
 ) -> Result<FeatureSet<'g>, AllocError>
-    requires packages { ids_of packages.now.graph.packages ≡ ids_of (feature_graph_of graph).rows.packages }
+    requires packages { ids_of packages.now.graph.packages ≡ ids_of (feature_graph_of graph.now).rows.packages }
     requires can { F.can_accept filter.old }
-    ensures ok { IfOk result (λ s. (judged : Judged) × AreJudged (IsOfSet (feature_graph_of graph.entry) packages.now.included) judged
+    ensures ok { IfOk result (λ s. (judged : Judged) × AreJudged (IsOfSet (feature_graph_of graph.now) packages.now.included) judged
         × Chain (F.steps filter.old) (F.state filter.old)
-        (shown_features (feature_graph_of graph.entry) judged) (F.state filter.new)
-        × IsSetOf (feature_graph_of graph.entry) (λ v. Contains judged (v, true)) s) }
+        (shown_features (feature_graph_of graph.now) judged) (F.state filter.new)
+        × IsSetOf (feature_graph_of graph.now) (λ v. Contains judged (v, true)) s) }
     ensures same { SameSteps (F.steps filter.old) (F.steps filter.new) }
     ensures can { F.can_accept filter.new }
     ensures err { OnErr result (filter.new ≡ filter.old) }
 {
-    let wanted = features_of_packages(alloc, &graph, packages)?;
-    match take_by_filter(alloc, &graph, &wanted, filter) {
-        Ok(taken) => Ok(FeatureSet::of(graph, taken.included)),
+    let wanted = features_of_packages(alloc, graph, packages)?;
+    match take_by_filter(alloc, graph, &wanted, filter) {
+        Ok(taken) => FeatureSet::found(graph, taken.included),
         Err(refused) => Err(refused),
     }
 }

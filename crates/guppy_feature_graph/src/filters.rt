@@ -1,14 +1,17 @@
 //! Parts of a set that a callback chooses. A callback that is lent is seen again after the call; one that is handed
 //! over is not, so the calls that take it say only that it was asked so.
 
-ghost use Rattle.std.specs.Prelude.{◌≡◌, ℕ, Bool, List, Option, Some, true, false, Contains, IfOk, OnErr};
+ghost use Rattle.std.specs.Prelude.{◌≡◌, ℕ, Bool, List, Option, Some, true, false, Contains, IfOk, Ok, OnErr, length};
 ghost use Rattle.guppy_feature_graph.specs.Filters.{AreAsked};
 ghost use Rattle.guppy_feature_graph.specs.Sets.{IsSetOf};
+ghost use Rattle.guppy_feature_graph.specs.Views.{feature_graph_of};
 
 use crate::choosing::{choose, choose_some};
+use crate::feature_graph::FeatureGraph;
 use crate::feature_set::FeatureSet;
 use guppy_feature_views::FeatureMetadata;
 use guppy_package_graph::DependencyDirection;
+use numbered_graph::NodeSet;
 use std::alloc::{AllocError, Global};
 
 impl<'g> FeatureSet<'g> {
@@ -41,8 +44,8 @@ impl<'g> FeatureSet<'g> {
             × IsSetOf self.now.graph (λ v. Contains asked (v, true)) s) }
         ensures err { OnErr result (callback.new ≡ callback.old) }
     {
-        let (accepted, _) = self.partition_lent(alloc, direction, callback)?;
-        Ok(accepted)
+        let (accepted, _) = choose(alloc, self, direction, callback)?;
+        FeatureSet::found(self.graph(), accepted)
     }
 
     /// The features of the set that the callback accepts, and those that it refuses. It is asked about
@@ -77,11 +80,7 @@ impl<'g> FeatureSet<'g> {
         ensures err { OnErr result (callback.new ≡ callback.old) }
     {
         let (accepted, refused) = choose(alloc, self, direction, callback)?;
-        let graph = *self.graph();
-        Ok((
-            FeatureSet::of(graph, accepted),
-            FeatureSet::of(graph, refused),
-        ))
+        both_found(self.graph(), accepted, refused)
     }
 
     /// The features for which the callback answers `Some(true)`, and those for which it answers
@@ -116,7 +115,22 @@ impl<'g> FeatureSet<'g> {
         ensures err { OnErr result (callback.new ≡ callback.old) }
     {
         let (first, second) = choose_some(alloc, self, direction, callback)?;
-        let graph = *self.graph();
-        Ok((FeatureSet::of(graph, first), FeatureSet::of(graph, second)))
+        both_found(self.graph(), first, second)
     }
+}
+
+// Two sets of these features, as an answer.
+fn both_found<'g>(
+    graph: &FeatureGraph<'g>,
+    first: NodeSet,
+    second: NodeSet,
+) -> Result<(FeatureSet<'g>, FeatureSet<'g>), AllocError>
+    requires first { length first ≡ length (feature_graph_of graph.now).nodes }
+    requires second { length second ≡ length (feature_graph_of graph.now).nodes }
+    ensures { result ≡ Ok (record { graph = feature_graph_of graph.now; included = first }, record { graph = feature_graph_of graph.now; included = second }) }
+{
+    Ok((
+        FeatureSet::of(*graph, first),
+        FeatureSet::of(*graph, second),
+    ))
 }

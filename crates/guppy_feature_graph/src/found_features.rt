@@ -16,13 +16,13 @@ use std::alloc::Global;
 /// The nodes that are these features.
 pub(crate) fn set_of_features(
     alloc: Global,
-    graph: FeatureGraph<'_>,
+    graph: &FeatureGraph<'_>,
     feature_ids: &[FeatureId<'_>],
 ) -> Result<NodeSet, Error>
-    ensures sized { IfOk result (λ set. length set ≡ length (feature_graph_of graph.entry).nodes) }
-    ensures named { IfOk result (λ set. (v : ℕ) → IsTrue (has set v) ↔ IsNamed (feature_graph_of graph.entry) (map id_view feature_ids.now) v) }
-    ensures known { IfOk result (λ _. AreKnown (feature_graph_of graph.entry) (map id_view feature_ids.now)) }
-    ensures refused { IfErr result (IsMissing (feature_graph_of graph.entry) (map id_view feature_ids.now)) }
+    ensures sized { IfOk result (λ set. length set ≡ length (feature_graph_of graph.now).nodes) }
+    ensures named { IfOk result (λ set. (v : ℕ) → IsTrue (has set v) ↔ IsNamed (feature_graph_of graph.now) (map id_view feature_ids.now) v) }
+    ensures known { IfOk result (λ _. AreKnown (feature_graph_of graph.now) (map id_view feature_ids.now)) }
+    ensures refused { IfErr result (IsMissing (feature_graph_of graph.now) (map id_view feature_ids.now)) }
 {
     let numbers = numbers_of(alloc, graph, feature_ids)?;
     let set = NodeSet::of(alloc, graph.feature_count(), &numbers)?;
@@ -31,12 +31,12 @@ pub(crate) fn set_of_features(
 
 fn numbers_of(
     alloc: Global,
-    graph: FeatureGraph<'_>,
+    graph: &FeatureGraph<'_>,
     feature_ids: &[FeatureId<'_>],
 ) -> Result<Vec<usize>, Error>
-    ensures found { IfOk result (λ v. v.items ≡ map (number_of (feature_graph_of graph.entry).nodes) (map id_view feature_ids.now)) }
-    ensures within { IfOk result (λ v. All (λ n. n < length (feature_graph_of graph.entry).nodes) v.items) }
-    ensures refused { IfErr result (IsMissing (feature_graph_of graph.entry) (map id_view feature_ids.now)) }
+    ensures found { IfOk result (λ v. v.items ≡ map (number_of (feature_graph_of graph.now).nodes) (map id_view feature_ids.now)) }
+    ensures within { IfOk result (λ v. All (λ n. n < length (feature_graph_of graph.now).nodes) v.items) }
+    ensures refused { IfErr result (IsMissing (feature_graph_of graph.now) (map id_view feature_ids.now)) }
 {
     let mut numbers = Vec::new(alloc);
     for feature_id in feature_ids {

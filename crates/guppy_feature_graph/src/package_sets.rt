@@ -34,7 +34,7 @@ pub fn package_to_feature_set<'g>(
 {
     let packages = package.to_package_set(alloc)?;
     let features = features_of_packages(alloc, graph, &packages)?;
-    Ok(FeatureSet::of(*graph, features))
+    FeatureSet::found(graph, features)
 }
 
 /// The features of a set's packages that the filter takes. It is asked about each of these features
@@ -55,7 +55,7 @@ pub fn set_to_feature_set<'g, F: FeatureFilter>(
     ensures can { F.can_accept filter.new }
     ensures err { OnErr result (filter.new ≡ filter.old) }
 {
-    set_by_filter(alloc, *graph, set, filter)
+    set_by_filter(alloc, graph, set, filter)
 }
 
 /// A query from the features of the query's initials that the filter takes, in its direction. The
@@ -77,7 +77,7 @@ pub fn query_to_feature_query<'g, F: FeatureFilter>(
     ensures err { OnErr result (filter.new ≡ filter.old) }
 {
     let packages = initials_of(alloc, query)?;
-    query_by_filter(alloc, *graph, &packages, query.direction(), filter)
+    query_by_filter(alloc, graph, &packages, query.direction(), filter)
 }
 
 // The initials of a query, as a set.

@@ -27,7 +27,7 @@ impl<'g> FeatureGraph<'g> {
         ensures known { IfOk result (λ _. AreKnown (feature_graph_of self.now) (map id_view feature_ids.now)) }
         ensures refused { IfErr result (IsMissing (feature_graph_of self.now) (map id_view feature_ids.now)) }
     {
-        let set = set_of_features(alloc, *self, feature_ids)?;
+        let set = set_of_features(alloc, self, feature_ids)?;
         let query = FeatureQuery::of(alloc, FeatureSet::of(*self, set), direction)?;
         Ok(query)
     }

@@ -118,7 +118,7 @@ fn reached_from<'g>(alloc: Global, query: &FeatureQuery<'g>) -> Result<FeatureSe
     let edges = query.graph().built().edge_graph();
     let direction = direction_of(query.direction());
     let reached = reach(alloc, edges, query.starts(), direction)?;
-    Ok(FeatureSet::of(*query.graph(), reached))
+    FeatureSet::found(query.graph(), reached)
 }
 
 // What is resolved of a query that is lent: letting a query go is dear where there are two ways out.
@@ -135,7 +135,7 @@ fn set_by_visitor<'g, L: Ledger>(
     ensures looks { looks.new ≤ looks.old + length query.now.graph.nodes }
 {
     match resolve_by_visitor(alloc, query, visitor, looks) {
-        Ok(included) => Ok(FeatureSet::of(*query.graph(), included)),
+        Ok(included) => FeatureSet::found(query.graph(), included),
         Err(refused) => Err(refused),
     }
 }
@@ -153,7 +153,7 @@ fn set_by_closure<'g, L: Ledger, F: FnMut(&FeatureLinkContext<'_>, ConditionalLi
     ensures looks { looks.new ≤ looks.old + length query.now.graph.nodes }
 {
     match resolve_by_closure(alloc, query, accepts, looks) {
-        Ok(included) => Ok(FeatureSet::of(*query.graph(), included)),
+        Ok(included) => FeatureSet::found(query.graph(), included),
         Err(refused) => Err(refused),
     }
 }
