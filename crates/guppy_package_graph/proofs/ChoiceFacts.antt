@@ -1,8 +1,8 @@
 -- A callback is asked about one package more.
-use Rattle.std.proofs.Common.{◌≡◌, ◌↔◌, ◌⊎◌, ⊎_elim, inl, inr, ℕ, zero, suc, ◌<◌, Bool, true, false, not, true≢false, replicate, List, [], ◌∷◌, ◌++◌, refl, sym, subst, ap, ◌∙◌, length, map, All, Contains, IsTrue, append_assoc}
+use Rattle.std.proofs.Common.{◌≡◌, ◌↔◌, ◌⊎◌, ⊎_elim, inl, inr, ℕ, zero, suc, ◌<◌, Bool, true, false, not, true≢false, replicate, List, [], ◌∷◌, ◌++◌, refl, sym, subst, ap, ◌∙◌, length, map, All, Contains, IsTrue, arith, append_assoc}
 use Rattle.std.specs.Fn.{Mut}
 use Rattle.std.proofs.lemmas.List.{map-append}
-use Rattle.std.proofs.lemmas.List.Elements.{All-tail, Contains-append_left, Contains-push, Contains-push_cases}
+use Rattle.std.proofs.lemmas.List.Elements.{All-head, All-tail, Contains-append_left, Contains-push, Contains-push_cases}
 use Rattle.list_facts.proofs.Membership.{Contains-none}
 use Rattle.numbered_graph.specs.ListedViews.{in_direction}
 use Rattle.numbered_graph.specs.Sets.{has}
@@ -46,6 +46,14 @@ put {A} asked v answer a wanted before after same members had w = (
   λ h. ⊎_elim (λ was. Contains-append_left asked ((v, answer) ∷ []) (w, a) ((had w).0 was)) (λ now. subst (λ (o : ℕ × A). Contains (asked ++ (v, answer) ∷ []) o) (ap (λ x. (v, x)) (same.0 now.0) ∙ ap (λ x. (x, a)) (sym now.1)) (Contains-push asked (v, answer))) ((members w).0 h),
   λ h. (members w).1 (⊎_elim (λ was. inl ((had w).1 was)) (λ is. inr (same.1 (ap (λ (o : ℕ × A). o.1) is), sym (ap (λ (o : ℕ × A). o.0) is))) (Contains-push_cases asked (v, answer) (w, a) h)),
 )
+
+-- the first of what is left, and how many are left without it
+module _ (v : ℕ) (before after : List ℕ) (is : before ≡ v ∷ after) where
+  pub next_within : (n : ℕ) → All (λ w. w < n) before → v < n
+  next_within n within = All-head (λ w. w < n) v after (subst (All (λ w. w < n)) is within)
+
+  pub fewer_left : length after < length before
+  fewer_left = let sizes = ap length is in omega (arith, sizes)
 
 module _ {F A : Type 0} {call : Mut F (PackageMetadata × Unit {0}) A} {s : SetValue} {d : DependencyDirection} {first : F} where
   -- nothing was asked yet

@@ -1,3 +1,6 @@
+pub mod LastFacts
+pub mod FoundFacts
+pub mod ReachFacts
 pub mod ResolveFacts
 pub mod ChoiceFacts
 pub mod DirectFacts

@@ -1,5 +1,6 @@
 ghost use Rattle.std.specs.Prelude.{◌<◌, All, length};
 
+use crate::entries::write_entries;
 use crate::package_graph::PackageGraph;
 use crate::package_ids::PackageIdsAt;
 use std::fmt;
@@ -68,6 +69,6 @@ impl ExactSizeIterator for AllCycles<'_, '_> {
 /// Lists what is still to come.
 impl fmt::Debug for AllCycles<'_, '_> {
     fn fmt<W: fmt::Write>(&self, f: &mut fmt::Formatter<W>) -> fmt::Result {
-        f.debug_list().entries(*self).finish()
+        write_entries(f, *self)
     }
 }

@@ -1,3 +1,4 @@
+use crate::entries::write_entries;
 use crate::package_graph::PackageGraph;
 use crate::package_metadata::PackageMetadata;
 use std::fmt;
@@ -62,6 +63,6 @@ impl ExactSizeIterator for AllPackages<'_> {
 /// Lists what is still to come.
 impl fmt::Debug for AllPackages<'_> {
     fn fmt<W: fmt::Write>(&self, f: &mut fmt::Formatter<W>) -> fmt::Result {
-        f.debug_list().entries(*self).finish()
+        write_entries(f, *self)
     }
 }

@@ -3,6 +3,7 @@ ghost use Rattle.std.proofs.Props.{props};
 ghost use Rattle.numbered_graph.specs.Links.{near_at};
 ghost use Rattle.guppy_package_table.specs.Tables.{numbered_links};
 
+use crate::entries::write_entries;
 use crate::package_graph::PackageGraph;
 use crate::package_link::PackageLink;
 use numbered_graph::Direction;
@@ -57,6 +58,6 @@ impl<'g> Iterator for DirectLinks<'g> {
 /// Lists what is still to come.
 impl fmt::Debug for DirectLinks<'_> {
     fn fmt<W: fmt::Write>(&self, f: &mut fmt::Formatter<W>) -> fmt::Result {
-        f.debug_list().entries(*self).finish()
+        write_entries(f, *self)
     }
 }

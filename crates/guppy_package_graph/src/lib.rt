@@ -11,6 +11,7 @@ mod dependency_direction;
 mod depending;
 mod depends_cache;
 mod direct_links;
+mod entries;
 mod filters;
 mod found_members;
 mod found_packages;

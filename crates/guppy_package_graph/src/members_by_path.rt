@@ -1,5 +1,6 @@
 ghost use Rattle.std.specs.Prelude.{◌<◌, All, length};
 
+use crate::entries::write_entries;
 use crate::package_graph::PackageGraph;
 use crate::package_metadata::PackageMetadata;
 use crate::places::Places;
@@ -57,6 +58,6 @@ impl ExactSizeIterator for MembersByPath<'_> {
 /// Lists what is still to come.
 impl fmt::Debug for MembersByPath<'_> {
     fn fmt<W: fmt::Write>(&self, f: &mut fmt::Formatter<W>) -> fmt::Result {
-        f.debug_list().entries(*self).finish()
+        write_entries(f, *self)
     }
 }

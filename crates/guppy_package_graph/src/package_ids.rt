@@ -1,6 +1,7 @@
 ghost use Rattle.std.specs.Prelude.{◌<◌, All, length};
 ghost use Rattle.numbered_graph.specs.ListedViews.{listed_left};
 
+use crate::entries::write_entries;
 use crate::package_graph::PackageGraph;
 use crate::places::Places;
 use guppy_package_parts::PackageId;
@@ -116,13 +117,13 @@ impl ExactSizeIterator for PackageIds<'_, '_> {
 /// Lists what is still to come.
 impl fmt::Debug for PackageIdsAt<'_, '_> {
     fn fmt<W: fmt::Write>(&self, f: &mut fmt::Formatter<W>) -> fmt::Result {
-        f.debug_list().entries(*self).finish()
+        write_entries(f, *self)
     }
 }
 
 /// Lists what is still to come.
 impl fmt::Debug for PackageIds<'_, '_> {
     fn fmt<W: fmt::Write>(&self, f: &mut fmt::Formatter<W>) -> fmt::Result {
-        f.debug_list().entries(*self).finish()
+        write_entries(f, *self)
     }
 }

@@ -1,6 +1,7 @@
 ghost use Rattle.std.specs.Prelude.{◌<◌, All, length};
 ghost use Rattle.numbered_graph.specs.ListedViews.{listed_left};
 
+use crate::entries::write_entries;
 use crate::package_graph::PackageGraph;
 use crate::package_metadata::PackageMetadata;
 use numbered_graph::Listed;
@@ -70,6 +71,6 @@ impl ExactSizeIterator for Packages<'_, '_> {
 /// Lists what is still to come.
 impl fmt::Debug for Packages<'_, '_> {
     fn fmt<W: fmt::Write>(&self, f: &mut fmt::Formatter<W>) -> fmt::Result {
-        f.debug_list().entries(*self).finish()
+        write_entries(f, *self)
     }
 }

@@ -1,5 +1,6 @@
 ghost use Rattle.std.specs.Prelude.{◌<◌, All, length};
 
+use crate::entries::write_entries;
 use crate::package_graph::PackageGraph;
 use crate::package_metadata::PackageMetadata;
 use crate::places::Places;
@@ -67,6 +68,6 @@ impl ExactSizeIterator for PackagesAt<'_, '_> {
 /// Lists what is still to come.
 impl fmt::Debug for PackagesAt<'_, '_> {
     fn fmt<W: fmt::Write>(&self, f: &mut fmt::Formatter<W>) -> fmt::Result {
-        f.debug_list().entries(*self).finish()
+        write_entries(f, *self)
     }
 }

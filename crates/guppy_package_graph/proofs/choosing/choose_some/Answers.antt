@@ -1,10 +1,10 @@
-use Rattle.std.proofs.Common.{◌≡◌, ◌++◌, ◌∙◌, ap, append-nil, map, sym, length, subst, Some, true, false}
+use Rattle.std.proofs.Common.{◌≡◌, ◌<◌, ◌++◌, ◌∙◌, ap, append-nil, map, sym, length, subst, Some, true, false}
 use Rattle.std.proofs.lemmas.List.{length-replicate}
 use Rattle.numbered_graph.specs.ListedViews.{listed_left}
 use Rattle.numbered_graph.specs.Sets.{has}
 use Rattle.guppy_package_table.specs.Tables.{TableValue}
 use Rattle.guppy_package_graph.specs.Filters.{AsksPackage}
-use Rattle.guppy_package_graph.proofs.ChoiceFacts.{choosing_none, choosing_more, none_has}
+use Rattle.guppy_package_graph.proofs.ChoiceFacts.{choosing_none, choosing_more, fewer_left, next_within, none_has}
 use Rattle.guppy_package_graph.proofs.choosing.choose_some.Goals as goal
 
 pub loop-place-init : goal.loop-place-init
@@ -33,3 +33,27 @@ returns-clause-ok g c =
     let was = c.loop-place.invariant.choosing in
     let each = sym (append-nil (map (λ o. o.0) was.asked)) ∙ ap (λ xs. map (λ o. o.0) was.asked ++ xs) (sym c.in_default.ensures.steps.0) ∙ was.each in
     (was.asked, record { each = each; chain = was.chain }, was.has_one, was.has_two)
+
+pub ask_about-answer-requires-clause-within : goal.ask_about-answer-requires-clause-within
+ask_about-answer-requires-clause-within g c =
+    let was = c.loop-place.invariant.choosing in
+    let here = next_within c.in-Some.place (listed_left c.loop-place.places) (listed_left c.next.new.self) c.in-Some.ensures.steps in
+    subst (λ (t : TableValue). c.in-Some.place < length t.packages) (sym c.graph-graph.ensures.graph) (here (length c.args.set.now.graph.packages) was.within)
+
+pub put_if-requires : goal.put_if-requires
+put_if-requires g c =
+    let was = c.loop-place.invariant.choosing in
+    let here = next_within c.in-Some.place (listed_left c.loop-place.places) (listed_left c.next.new.self) c.in-Some.ensures.steps in
+    subst (λ n. c.in-Some.place < n) (sym was.one_sized) (here (length c.args.set.now.graph.packages) was.within)
+
+pub put_if-requires-in-Some : goal.put_if-requires-in-Some
+put_if-requires-in-Some g c =
+    let was = c.loop-place.invariant.choosing in
+    let here = next_within c.in-Some.place (listed_left c.loop-place.places) (listed_left c.next.new.self) c.in-Some.ensures.steps in
+    subst (λ n. c.in-Some.place < n) (sym was.two_sized) (here (length c.args.set.now.graph.packages) was.within)
+
+pub loop-place-smaller : goal.loop-place-smaller
+loop-place-smaller g c = fewer_left c.in-Some.place (listed_left c.loop-place.places) (listed_left c.next.new.self) c.in-Some.ensures.steps
+
+pub returns-clause-sized : goal.returns-clause-sized
+returns-clause-sized g c = (c.loop-place.invariant.choosing.one_sized, c.loop-place.invariant.choosing.two_sized)
