@@ -194,13 +194,10 @@ impl PackageGraph {
 
     /// The place of the package with an id in the order of the record; the number of packages where
     /// there is none.
-    pub fn number_of(&self, package_id: &PackageId) -> usize
+    pub fn number_of(&self, package_id: &str) -> usize
         ensures number { result ≡ place_among (ids_of self.now.packages) package_id.now }
     {
-        match self.table.find(package_id) {
-            Some(place) => place,
-            None => self.package_ids().len(),
-        }
+        self.table.place_of(package_id)
     }
 
     /// What the graph says of the package at a place.

@@ -18,7 +18,7 @@ use crate::indices::{LinkIndices, SharedRows, link_indices, package_indices};
 use crate::link_details::LinkDetails;
 use crate::members::{member_among, member_at};
 use crate::package_details::PackageDetails;
-use crate::package_ids::find_id;
+use crate::package_ids::{find_id, place_of_id};
 use crate::table_links::TableLinks;
 use guppy_package_parts::{LinkRow, MemberRow, PackageId, PackageRow, WorkspaceRow};
 use numbered_graph::{Direction, Graph};
@@ -220,6 +220,13 @@ impl PackageTable {
         ensures { result ≡ position (bytes_eq id.now) (ids_of self.now.packages) }
     {
         find_id(&self.shared.as_ref().indices.ids, id.repr())
+    }
+
+    /// The place of the package with an id; the number of packages where there is none.
+    pub fn place_of(&self, id: &str) -> usize
+        ensures { result ≡ place_among (ids_of self.now.packages) id.now }
+    {
+        place_of_id(&self.shared.as_ref().indices.ids, id)
     }
 
     /// The member whose package has an id.

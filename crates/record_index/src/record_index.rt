@@ -50,9 +50,9 @@ impl<'a> RecordIndex<'a> {
     pub fn of(alloc: Global, record: &'a WorkspaceRecord) -> Result<RecordIndex<'a>, AllocError>
         ensures made { IfOk result (λ r. r ≡ «record».entry.now) }
     {
-        let packages = packages_by_id(alloc, &record.packages)?;
         let members = member_ids(alloc, &record.workspace.members)?;
         let links = link_names(alloc, &record.links)?;
+        let packages = packages_by_id(alloc, &record.packages)?;
         Ok(RecordIndex {
             record,
             packages,
