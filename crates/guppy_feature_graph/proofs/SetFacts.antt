@@ -1,13 +1,10 @@
--- Sets of features: two lists compared by what is seen of their elements; an answer that is known.
-use Rattle.std.proofs.Common.{◌≡◌, ◌&&◌, Bool, List, [], ◌∷◌, Result, Ok, IfOk, map, refl, sym, subst, ap}
-use Rattle.std.specs.Ordering.{on}
-use Rattle.std.specs.Cmp.Lexicographic.{pointwise}
+-- Sets of features: two lists compared place by place; an answer that is known.
+use Rattle.std.proofs.Common.{◌≡◌, ℕ, ◌+◌, ◌<◌, List, [], ◌∷◌, ◌++◌, Result, Ok, IfOk, get_or, length, take, sym, subst, ◌∙◌}
+use Rattle.std.proofs.lemmas.List.{take_more}
 
-pub pointwise-on : {X Y : Type 0} (f : X → Y) (same : Y → Y → Bool) (xs ys : List X) → pointwise (on f same) xs ys ≡ pointwise same (map f xs) (map f ys)
-pointwise-on f same [] [] = refl
-pointwise-on f same [] (y ∷ ys) = refl
-pointwise-on f same (x ∷ xs) [] = refl
-pointwise-on f same (x ∷ xs) (y ∷ ys) = ap (λ b. same (f x) (f y) && b) (pointwise-on f same xs ys)
+-- two lists of one length that are the same up to a place, and at it, are the same up to the next
+pub same_more : {X : Type 0} (xs ys : List X) → length xs ≡ length ys → (i : ℕ) (d : X) → i < length xs → take i xs ≡ take i ys → get_or xs i d ≡ get_or ys i d → take (i + 1) xs ≡ take (i + 1) ys
+same_more xs ys sized i d lt before here = take_more xs i d lt ∙ (λ k. before k ++ here k ∷ []) ∙ sym (take_more ys i d (subst (λ n. i < n) sized lt))
 
 -- an answer passes where the value in it does
 pub ok_is : {T E : Type 0} (P : T → Type 0) (x : T) (r : Result T E) → r ≡ Ok x → P x → IfOk r P

@@ -10,7 +10,7 @@ ghost use Rattle.guppy_feature_views.specs.FeatureViews.{features_graph_of, feat
 
 use crate::direction::direction_of;
 use crate::feature_graph::FeatureGraph;
-use guppy_feature_nodes::FeatureId;
+use guppy_feature_nodes::{FeatureGraphData, FeatureId};
 use guppy_feature_views::{FeatureIds, Features};
 use guppy_package_graph::{DependencyDirection, Error};
 use numbered_graph::{Listed, NodeSet};
@@ -105,10 +105,7 @@ impl<'g> FeatureSet<'g> {
     pub fn same_features(&self, other: &FeatureSet<'_>) -> bool
         ensures same { IsTrue result ↔ (self.now.graph.nodes ≡ other.now.graph.nodes) }
     {
-        same_ids(
-            self.graph.built().feature_ids(),
-            other.graph.built().feature_ids(),
-        )
+        same_features(self.graph.built(), other.graph.built())
     }
 
     /// The features that are in one of the two sets.
@@ -210,8 +207,17 @@ fn same_nodes(alloc: Global, nodes: &NodeSet) -> Result<NodeSet, AllocError>
     Ok(same)
 }
 
-fn same_ids(a: &[FeatureId<'_>], b: &[FeatureId<'_>]) -> bool
-    ensures { IsTrue result ↔ (map id_view a.now ≡ map id_view b.now) }
+// Whether two graphs have the same list of features.
+fn same_features<'g, 'h>(a: &'g FeatureGraphData<'g>, b: &'h FeatureGraphData<'h>) -> bool
+    ensures { IsTrue result ↔ (a.entry.now.nodes ≡ b.entry.now.nodes) }
 {
-    a == b
+    if a.feature_count() != b.feature_count() {
+        return false;
+    }
+    for node in 0..a.feature_count() {
+        if a.feature_at(node) != b.feature_at(node) {
+            return false;
+        }
+    }
+    true
 }

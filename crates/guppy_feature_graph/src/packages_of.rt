@@ -1,13 +1,12 @@
 //! The packages of features.
 
-ghost use Rattle.std.specs.Prelude.{◌≡◌, ◌<◌, [], All, IfOk, length, map, slice_index_or};
-ghost use Rattle.guppy_feature_demands.specs.Nodes.{base_of, nodes_of};
-ghost use Rattle.guppy_feature_ids.specs.IdViews.{id_view};
-ghost use Rattle.guppy_feature_nodes.specs.Graphs.{AreListed};
+ghost use Rattle.std.specs.Prelude.{◌≡◌, ◌<◌, All, IfOk, length, map};
+ghost use Rattle.guppy_feature_demands.specs.Nodes.{nodes_of};
+ghost use Rattle.guppy_feature_nodes.specs.Graphs.{AreListed, feature_at};
 ghost use Rattle.guppy_feature_graph.specs.PackageFeatures.{IsOfFeature, IsPackageSetOf};
 
 use crate::feature_set::FeatureSet;
-use guppy_feature_nodes::FeatureId;
+use guppy_feature_nodes::FeatureGraphData;
 use guppy_package_graph::{PackageId, PackageSet};
 use std::alloc::{AllocError, Global};
 
@@ -32,21 +31,21 @@ pub(crate) fn packages_of<'g>(
 {
     let built = set.graph().built();
     let nodes = set.included().members(alloc)?;
-    let ids = package_ids(alloc, built.feature_ids(), &nodes)?;
+    let ids = package_ids(alloc, built, &nodes)?;
     built.package_graph().resolve_known(alloc, &ids)
 }
 
 fn package_ids<'g>(
     alloc: Global,
-    features: &[FeatureId<'g>],
+    built: &'g FeatureGraphData<'g>,
     nodes: &[usize],
 ) -> Result<Vec<&'g PackageId>, AllocError>
-    requires { All (λ v. v < length features.now) nodes.now }
-    ensures { IfOk result (λ ids. map (λ id. id.now) ids.items ≡ map (λ v. (slice_index_or (map id_view features.now) v (base_of [])).package_id) nodes.now) }
+    requires { All (λ v. v < length built.now.nodes) nodes.now }
+    ensures { IfOk result (λ ids. map (λ id. id.now) ids.items ≡ map (λ v. (feature_at built.entry.now v).package_id) nodes.now) }
 {
     let mut ids: Vec<&'g PackageId> = Vec::with_capacity(alloc, nodes.len())?;
     for node in nodes {
-        ids.push(features[*node].package_id())?;
+        ids.push(built.feature_at(*node).package_id())?;
     }
     Ok(ids)
 }

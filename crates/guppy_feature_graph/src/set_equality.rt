@@ -1,6 +1,6 @@
 //! Sets of features are equal where they have the same features.
 
-ghost use Rattle.std.specs.Prelude.{◌≡◌, ◌&&◌, map, nat_lt};
+ghost use Rattle.std.specs.Prelude.{◌≡◌, ◌&&◌, nat_lt};
 ghost use Rattle.std.specs.List.{list_all};
 ghost use Rattle.numbered_graph.specs.Sets.{has};
 ghost use Rattle.guppy_feature_ids.specs.IdViews.{id_view};
@@ -8,7 +8,7 @@ ghost use Rattle.guppy_feature_graph.specs.SetEquality.{agree_on, has_feature};
 
 use crate::feature_graph::name_of;
 use crate::feature_set::FeatureSet;
-use guppy_feature_nodes::FeatureId;
+use guppy_feature_nodes::{FeatureGraphData, FeatureId};
 use numbered_graph::NodeSet;
 
 impl FeatureSet<'_> {
@@ -28,19 +28,23 @@ fn is_in(included: &NodeSet, count: usize, number: usize) -> bool
     number < count && included.contains(number)
 }
 
-/// Whether each of the features is in both sets or in neither.
-fn agree_on(a: &FeatureSet<'_>, b: &FeatureSet<'_>, ids: &[FeatureId<'_>]) -> bool
-    ensures { result ≡ list_all (λ f. agree_on a.now b.now (id_view f)) ids.now }
+/// Whether a feature is in both sets or in neither.
+fn agree_on(a: &FeatureSet<'_>, b: &FeatureSet<'_>, feature_id: FeatureId<'_>) -> bool
+    ensures { result ≡ agree_on a.now b.now (id_view feature_id.entry) }
 {
-    ids.iter()
-        .all(|id| a.has_feature(*id) == b.has_feature(*id))
+    a.has_feature(feature_id) == b.has_feature(feature_id)
 }
 
-/// Whether each feature of the first set's graph is.
-fn agree_on_own(a: &FeatureSet<'_>, b: &FeatureSet<'_>, ids: &[FeatureId<'_>]) -> bool
-    ensures { result ≡ list_all (agree_on a.now b.now) (map id_view ids.now) }
+/// Whether each feature of a graph is.
+fn agree_on_all<'g>(a: &FeatureSet<'_>, b: &FeatureSet<'_>, built: &'g FeatureGraphData<'g>) -> bool
+    ensures { result ≡ list_all (agree_on a.now b.now) built.entry.now.nodes }
 {
-    agree_on(a, b, ids)
+    for node in 0..built.feature_count() {
+        if !agree_on(a, b, built.feature_at(node)) {
+            return false;
+        }
+    }
+    true
 }
 
 /// Sets are equal that have the same features, be they of one graph or of two. Takes time in
@@ -54,8 +58,8 @@ impl PartialEq for FeatureSet<'_> {
     ghost laws = { partial_equiv_from_equiv sets_equivalence };
 
     fn eq(&self, other: &Self) -> bool {
-        agree_on_own(self, other, self.graph().built().feature_ids())
-            && agree_on_own(self, other, other.graph().built().feature_ids())
+        agree_on_all(self, other, self.graph().built())
+            && agree_on_all(self, other, other.graph().built())
     }
 }
 

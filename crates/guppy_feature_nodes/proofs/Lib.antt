@@ -9,3 +9,4 @@ pub mod GraphFacts
 pub mod OrderFacts
 pub mod DistinctFacts
 pub mod DefaultFacts
+pub mod NameFacts

@@ -6,4 +6,5 @@ pub mod Orders
 pub mod Graphs
 pub mod OrderViews
 pub mod Offering
+pub mod NodeNames
 pub mod Keeping

@@ -10,13 +10,16 @@ ghost use Rattle.guppy_feature_nodes.specs.GraphEdges.{AreEdges, IsEdgeWithin, e
 ghost use Rattle.guppy_feature_nodes.specs.Graphs.{AreListed, IsDefault, IsEdgeListing, IsFeatureGraph, feature_at};
 ghost use Rattle.guppy_feature_nodes.specs.EdgeLinkViews.{AreEdgeLinks};
 ghost use Rattle.guppy_feature_nodes.specs.Lines.{declares_kind_at, links_shown};
+ghost use Rattle.guppy_feature_nodes.specs.NodeNames.{lent_view, node_of};
 ghost use Rattle.guppy_feature_nodes.specs.Offering.{offered};
 ghost use Rattle.numbered_graph.specs.declared.direction.Direction.TheVariants.{Forward, Reverse};
 ghost use Rattle.guppy_package_graph.specs.Finding.{IsAt};
 ghost use Rattle.guppy_package_graph.specs.Views.{graph_of, place_of};
+ghost use Rattle.guppy_package_table.specs.Tables.{ids_of};
 
 use crate::edge_lines::has_line;
 use crate::node_edge::{NodeEdge, node_edges};
+use crate::node_names::{LentNode, NodeName, lent_label, node_names};
 use crate::offers::offer_graph;
 use crate::orders::{Orders, orders_of};
 use crate::package_rows::package_rows;
@@ -24,6 +27,7 @@ use guppy_feature_demands::{FeatureName, FeatureParts, NodeTable, feature_parts}
 use guppy_feature_edges::joined_edges;
 use guppy_feature_ids::{FeatureId, LinkDeclarations};
 use guppy_package_graph::{FeatureGraphWarning, PackageGraph, PackageMetadata};
+use indexmap::IndexSet;
 use numbered_graph::{Direction, Graph};
 use numbered_offers::OfferGraph;
 use std::alloc::{AllocError, Global};
@@ -34,7 +38,7 @@ use workspace_record::LineKind;
 /// The features of a package graph's packages, numbered from 0, and the edges between them.
 pub struct FeatureGraphData<'g> {
     graph: &'g PackageGraph,
-    nodes: NodeTable<'g>,
+    names: IndexSet<NodeName>,
     edges: Vec<NodeEdge>,
     warnings: Vec<FeatureGraphWarning>,
     orders: Orders,
@@ -46,7 +50,7 @@ impl Drop for FeatureGraphData<'_> {
     fn drop(self) {
         let FeatureGraphData {
             graph: _,
-            nodes: _,
+            names: _,
             edges: _,
             warnings: _,
             orders: _,
@@ -108,12 +112,13 @@ impl<'g> FeatureGraphData<'g> {
             edges,
             warnings,
         } = graph_parts(alloc, graph)?;
+        let names = node_names(alloc, graph, nodes.ids())?;
         let (count, links) = (nodes.len(), graph.link_rows());
         let orders = orders_of(alloc, &nodes, links, &edges)?;
         let forward = offer_graph(alloc, count, links, &edges, Direction::Forward)?;
         Ok(FeatureGraphData {
             graph,
-            nodes,
+            names,
             edges,
             warnings,
             orders,
@@ -121,41 +126,47 @@ impl<'g> FeatureGraphData<'g> {
         })
     }
 
-    /// The packages' graph.
+    /// The packages' graph. What its packages list are the features.
     pub fn package_graph(&self) -> &'g PackageGraph
         ensures rows { result.now ≡ self.now.rows }
+        ensures features { self.now.nodes ≡ nodes_of self.now.rows.packages }
+        ensures listed { AreListed self.now }
     {
         self.graph
     }
 
-    /// The features: each package, the features that it names, and its optional dependencies.
-    pub fn feature_ids(&self) -> &[FeatureId<'g>]
-        ensures nodes { map id_view result.now ≡ self.now.nodes }
-        ensures features { self.now.nodes ≡ nodes_of self.now.rows.packages }
-        ensures listed { AreListed self.now }
-    {
-        self.nodes.ids()
-    }
-
-    /// How many features there are.
+    /// How many features there are: each package, the features that it names, and its optional
+    /// dependencies.
     pub fn feature_count(&self) -> usize
         ensures count { result ≡ length self.now.nodes }
     {
-        self.nodes.len()
+        self.names.len()
     }
 
     /// Whether there is such a feature.
     pub fn contains(&self, feature: FeatureName<'_>) -> bool
         ensures answer { result ≡ is_node self.now.nodes (name_view feature.entry) }
     {
-        self.nodes.contains(feature)
+        self.names.contains(self.lent_node(feature))
     }
 
     /// The number of a feature; the number of features where there is none.
     pub fn number_of(&self, feature: FeatureName<'_>) -> usize
         ensures number { result ≡ number_of self.now.nodes (name_view feature.entry) }
     {
-        self.nodes.number_of(feature)
+        match self.names.get_index_of(self.lent_node(feature)) {
+            Some(number) => number,
+            None => self.names.len(),
+        }
+    }
+
+    // The feature as it is kept, whether there is one or not.
+    fn lent_node<'a>(&self, feature: FeatureName<'a>) -> LentNode<'a>
+        ensures { lent_view result ≡ node_of (ids_of self.now.rows.packages) (name_view feature.entry) }
+    {
+        let place = self.graph.number_of(feature.package_id);
+        let label = feature.label;
+        LentNode { place, label }
     }
 
     /// The edges: what the rows demand between two different features, joined where it is crossed in
@@ -205,7 +216,7 @@ impl<'g> FeatureGraphData<'g> {
     pub fn reverse_offers(&self, alloc: Global) -> Result<OfferGraph, AllocError>
         ensures offers { IfOk result (λ g. g ≡ offered Reverse self.now) }
     {
-        let (count, links) = (self.nodes.len(), self.graph.link_rows());
+        let (count, links) = (self.names.len(), self.graph.link_rows());
         offer_graph(alloc, count, links, &self.edges, Direction::Reverse)
     }
 
@@ -234,11 +245,24 @@ impl<'g> FeatureGraphData<'g> {
     }
 
     /// The feature with a number.
-    pub fn feature_at(&self, node: usize) -> FeatureId<'g>
+    pub fn feature_at(&'g self, node: usize) -> FeatureId<'g>
         requires { node < length self.now.nodes }
         ensures feature { id_view result ≡ feature_at self.now node }
     {
-        self.nodes.ids()[node]
+        let name = &self.names.as_slice()[node];
+        let id = &self.graph.package_ids()[self.place_at(node)];
+        FeatureId::new(id, lent_label(&name.label))
+    }
+
+    /// The place of its package in the order of the record.
+    pub fn place_at(&self, node: usize) -> usize
+        requires { node < length self.now.nodes }
+        ensures features { self.now.nodes ≡ nodes_of self.now.rows.packages }
+        ensures at { IsAt self.now.rows (feature_at self.now node).package_id result }
+        ensures within { result < length self.now.rows.packages }
+    {
+        let name = &self.names.as_slice()[node];
+        name.place
     }
 
     /// The package of a feature.
@@ -247,9 +271,7 @@ impl<'g> FeatureGraphData<'g> {
         ensures graph { graph_of result ≡ self.now.rows }
         ensures package { IsAt self.now.rows (feature_at self.now node).package_id (place_of result) }
     {
-        let graph = self.graph;
-        let place = graph.number_of(self.feature_at(node).package_id());
-        graph.metadata_at(place)
+        self.graph.metadata_at(self.place_at(node))
     }
 
     /// How many edges there are.
@@ -271,7 +293,7 @@ impl<'g> FeatureGraphData<'g> {
 impl fmt::Debug for FeatureGraphData<'_> {
     fn fmt<W: fmt::Write>(&self, f: &mut fmt::Formatter<W>) -> fmt::Result {
         f.debug_struct("FeatureGraphData")
-            .field("features", &self.feature_ids())
+            .field("features", &self.feature_count())
             .finish_non_exhaustive()
     }
 }

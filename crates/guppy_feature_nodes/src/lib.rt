@@ -8,6 +8,7 @@ mod edge_links;
 mod feature_edge;
 mod feature_graph_data;
 mod node_edge;
+mod node_names;
 mod offers;
 mod orders;
 mod package_rows;

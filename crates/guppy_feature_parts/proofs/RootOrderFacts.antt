@@ -1,25 +1,24 @@
--- The order of roots, as it is sorted by: bases of packages have numbers in the order in which the packages stand.
-use Rattle.std.proofs.Common.{◌≡◌, ◌≢◌, ℕ, ◌+◌, ◌<◌, Bool, true, false, cond, not, ◌&&◌, List, [], ◌∷◌, ◌++◌, Contains, length, get_or, take, map, filter, nat_eq, refl, sym, subst, ap, ◌∙◌, append_assoc, true≢false, arith, All, AllPairs, IsPermutation, IsSorted, Ordering, Less, Equal, Greater}
-use Rattle.std.specs.Cmp.{IsEquivalence, IsTotalOrder, both_tied, nat_cmp_total, on_total, then_total, unsigned_Decides, unsigned_ties}
+-- The order of roots, as it is sorted by: the places of packages, then labels.
+use Rattle.std.proofs.Common.{◌≡◌, ◌≢◌, ℕ, ◌+◌, ◌<◌, Bool, true, false, not, List, [], ◌∷◌, ◌++◌, Contains, length, get_or, take, map, nat_eq, refl, sym, subst, ap, ◌∙◌, true≢false, arith, All, AllPairs, IsPermutation, IsSorted, Ordering, Less, Equal, Greater}
+use Rattle.std.specs.Cmp.{IsTotalOrder, both_tied, nat_cmp_total, on_total, then_total, unsigned_Decides, unsigned_ties}
 use Rattle.std.specs.Cmp.Lexicographic.{texts_ties}
-use Rattle.std.specs.List.{flat_map, position_or_len}
 use Rattle.std.specs.Ordering.{is_eq, is_lt, nat_cmp, on, ordering_reverse, ordering_then, then_cmp}
 use Rattle.std.specs.Str.{bytes_eq}
 use Rattle.std.proofs.lemmas.Bool.Decides.{nat_tests}
 use Rattle.std.proofs.lemmas.List.{get_or-map, length-map, map-append}
 use Rattle.std.proofs.lemmas.List.Elements.{Contains-get_or}
-use Rattle.std.proofs.lemmas.List.Sorted.{All-permutation, IsPermutation-map, ranks_by, sorted_far}
+use Rattle.std.proofs.lemmas.List.Sorted.{All-permutation, IsPermutation-map, length_permutation, ranks_by, sorted_far}
 use Rattle.std.proofs.lemmas.List.Sums.{prefix_len_stops}
 use Rattle.std.proofs.lemmas.Map.Keys.{IsDistinct-IsPermutation}
 use Rattle.std.proofs.lemmas.Map.Made.{AllPairs-from_IsDistinct, IsDistinct-from_AllPairs}
 use Rattle.std.proofs.lemmas.Slice.Eq.{bytes_eq-Decides}
 use Rattle.list_facts.proofs.Lists.{map-take_more}
-use Rattle.workspace_record.specs.Equality.{equivalence, text_eq}
-use Rattle.workspace_record.specs.Features.{FeatureValue, LabelValue, feature_eq, features_decide, label_cmp, label_cmp_total, label_kind, label_name, labels_decide}
-use Rattle.workspace_record.specs.Records.{FeatureEntry, Package, Text}
+use Rattle.workspace_record.specs.Equality.{equivalence}
+use Rattle.workspace_record.specs.Features.{LabelValue, label_cmp, label_cmp_total, label_kind, label_name, labels_decide}
+use Rattle.workspace_record.specs.Records.{Text}
 use Rattle.guppy_package_table.specs.Tables.{ids_of, place_among}
 use Rattle.guppy_package_table.proofs.Places.{ends_before}
-use Rattle.guppy_feature_demands.specs.Nodes.{base_of, dep_of, features_of, first_of_each, named_of, nodes_of, number_of}
+use Rattle.guppy_feature_demands.specs.Nodes.{base_of, nodes_of}
 use Rattle.guppy_feature_nodes.proofs.DistinctFacts.{nodes_differ}
 use Rattle.guppy_feature_nodes.proofs.NodeFacts.{node_package}
 use Rattle.guppy_feature_nodes.specs.Graphs.{FeatureGraphValue, feature_at}
@@ -33,100 +32,6 @@ use Rattle.guppy_feature_parts.specs.declared.root_order.RootPlace.{RootPlace}
 pub values_more : {X Y A : Type 0} (view : X → Y) (f : A → Y) (xs : List A) (i : ℕ) (d : A) → i < length xs → (old new : List X) (x : X) → map view old ≡ map f (take i xs) → view x ≡ f (get_or xs i d) → new ≡ old ++ x ∷ [] → map view new ≡ map f (take (i + 1) xs)
 values_more view f xs i d lt old new x before seen pushed =
     ap (map view) pushed ∙ map-append view old (x ∷ []) ∙ (λ j. before j ++ seen j ∷ []) ∙ sym (map-take_more f xs i d lt)
-
--- which of two tests passes first
-abbrev firsts : {X : Type 0} → (X → Bool) → (X → Bool) → List X → Ordering
-firsts p q xs = nat_cmp (position_or_len p xs) (position_or_len q xs)
-
--- the place with one element in front, which passes or not
-abbrev behind : Bool → ℕ → ℕ
-behind s n = cond (not s) (1 + n) 0
-
-later : (a b : ℕ) → nat_cmp (1 + a) (1 + b) ≡ nat_cmp a b
-later a b = by (nat_cmp a b) refl
-  where
-    by : (o : Ordering) → nat_cmp a b ≡ o → nat_cmp (1 + a) (1 + b) ≡ o
-    by Less e = grind (arith, nat_tests, e)
-    by Equal e = grind (arith, nat_tests, e)
-    by Greater e = grind (arith, nat_tests, e)
-
-after_none : (a : ℕ) → nat_cmp (1 + a) 0 ≡ Greater
-after_none a = grind (arith, nat_tests)
-
-before_all : (b : ℕ) → nat_cmp 0 (1 + b) ≡ Less
-before_all b = grind (arith, nat_tests)
-
-same_behind : (s t : Bool) (a b c d : ℕ) → (s ≡ false → t ≡ false → nat_cmp a b ≡ nat_cmp c d) → nat_cmp (behind s a) (behind t b) ≡ nat_cmp (behind s c) (behind t d)
-same_behind true true a b c d e = refl
-same_behind true false a b c d e = before_all b ∙ sym (before_all d)
-same_behind false true a b c d e = after_none a ∙ sym (after_none c)
-same_behind false false a b c d e = later a b ∙ e refl refl ∙ sym (later c d)
-
-module _ {X : Type 0} (p q : X → Bool) where
-  passed : (s t : Bool) (xs : List X) → s ≡ false → t ≡ false → nat_cmp (behind s (position_or_len p xs)) (behind t (position_or_len q xs)) ≡ firsts p q xs
-  passed s t xs e f =
-      (λ i. nat_cmp (behind (e i) (position_or_len p xs)) (behind (f i) (position_or_len q xs))) ∙ later (position_or_len p xs) (position_or_len q xs)
-
-  -- what a filter leaves out passes neither
-  kept : (f : X → Bool) (xs : List X) → ((x : X) → f x ≡ false → (p x ≡ false) × (q x ≡ false)) → firsts p q (filter f xs) ≡ firsts p q xs
-  kept f [] fails = refl
-  kept f (x ∷ xs) fails = by (f x) refl (kept f xs fails)
-    where
-      by : (b : Bool) → f x ≡ b → firsts p q (filter f xs) ≡ firsts p q xs → firsts p q (cond b (x ∷ filter f xs) (filter f xs)) ≡ firsts p q (x ∷ xs)
-      by true e more = same_behind (p x) (q x) (position_or_len p (filter f xs)) (position_or_len q (filter f xs)) (position_or_len p xs) (position_or_len q xs) (λ _ _. more)
-      by false e more = more ∙ sym (passed (p x) (q x) xs (fails x e).0 (fails x e).1)
-
-  -- what stands in front passes neither
-  skipped : {Y : Type 0} (f : Y → X) (ys : List Y) (xs : List X) → ((y : Y) → (p (f y) ≡ false) × (q (f y) ≡ false)) → firsts p q (map f ys ++ xs) ≡ firsts p q xs
-  skipped f [] xs fails = refl
-  skipped f (y ∷ ys) xs fails = passed (p (f y)) (q (f y)) (map f ys ++ xs) (fails y).0 (fails y).1 ∙ skipped f ys xs fails
-
-module _ {T : Type 0} {E : T → T → Bool} (laws : IsEquivalence E) where
-  -- what is the same as k is not the same as one that is not
-  apart : (k x z : T) → E x k ≡ false → not (E k z) ≡ false → E x z ≡ false
-  apart k x z other left = by (E k z) refl left
-    where
-      by : (b : Bool) → E k z ≡ b → not b ≡ false → E x z ≡ false
-      by true e n = laws.symm x z ∙ sym (laws.congr k z x e) ∙ laws.symm k x ∙ other
-      by false e n = absurd (true≢false n)
-
-  -- of elements that are the same the first: which of two comes first stays
-  firsts_kept : (x y : T) (xs : List T) → firsts (E x) (E y) (first_of_each E xs) ≡ firsts (E x) (E y) xs
-  firsts_kept x y [] = refl
-  firsts_kept x y (k ∷ ks) =
-      let left = filter (λ z. not (E k z)) (first_of_each E ks) in
-      same_behind (E x k) (E y k) (position_or_len (E x) left) (position_or_len (E y) left) (position_or_len (E x) ks) (position_or_len (E y) ks) (λ e f. kept (E x) (E y) (λ z. not (E k z)) (first_of_each E ks) (λ z left. (apart k x z e left, apart k y z f left)) ∙ firsts_kept x y ks)
-
-and_true : (s : Bool) → (s && true) ≡ s
-and_true true = refl
-and_true false = refl
-
-and_false : (s : Bool) → (s && false) ≡ false
-and_false true = refl
-and_false false = refl
-
-module _ (a b : Text) where
-  abbrev base_a : FeatureValue → Bool
-  base_a = feature_eq (base_of a)
-
-  abbrev base_b : FeatureValue → Bool
-  base_b = feature_eq (base_of b)
-
-  -- the bases of packages stand in the order of the packages
-  bases_in_order : (packages : List Package) → firsts base_a base_b (flat_map features_of packages) ≡ firsts (bytes_eq a) (bytes_eq b) (ids_of packages)
-  bases_in_order [] = refl
-  bases_in_order (p ∷ ps) =
-      let more = flat_map features_of ps in
-      let named = λ (f : FeatureEntry). named_of p.id f.name in
-      let own = map named p.features in
-      let deps = map (dep_of p.id) p.optional in
-      let rest : firsts base_a base_b ((own ++ deps) ++ more) ≡ firsts (bytes_eq a) (bytes_eq b) (ids_of ps) =
-      ap (firsts base_a base_b) (append_assoc own deps more) ∙ skipped base_a base_b named p.features (deps ++ more) (λ f. (and_false (text_eq a p.id), and_false (text_eq b p.id))) ∙ skipped base_a base_b (dep_of p.id) p.optional more (λ n. (and_false (text_eq a p.id), and_false (text_eq b p.id))) ∙ bases_in_order ps in
-      (λ i. nat_cmp (behind (and_true (text_eq a p.id) i) (position_or_len base_a ((own ++ deps) ++ more))) (behind (and_true (text_eq b p.id) i) (position_or_len base_b ((own ++ deps) ++ more)))) ∙ same_behind (bytes_eq a p.id) (bytes_eq b p.id) (position_or_len base_a ((own ++ deps) ++ more)) (position_or_len base_b ((own ++ deps) ++ more)) (position_or_len (bytes_eq a) (ids_of ps)) (position_or_len (bytes_eq b) (ids_of ps)) (λ _ _. rest)
-
-  -- their numbers too
-  pub numbers_in_order : (packages : List Package) → nat_cmp (number_of (nodes_of packages) (base_of a)) (number_of (nodes_of packages) (base_of b)) ≡ nat_cmp (place_among (ids_of packages) a) (place_among (ids_of packages) b)
-  numbers_in_order packages = firsts_kept (equivalence features_decide) (base_of a) (base_of b) (flat_map features_of packages) ∙ bases_in_order packages
 
 tied : (a b : ℕ) → nat_cmp a b ≡ Equal → a ≡ b
 tied a b h = grind (arith, nat_tests, h)
@@ -149,7 +54,7 @@ at_place ids id (k, lt, is) =
     (bytes_eq-Decides id (get_or ids (place_among ids id) [])).0 (not_not _ (prefix_len_stops (λ x. not (bytes_eq id x)) ids [] before))
 
 abbrev no_place : RootPlace
-no_place = record { base = 0; label = code.Base; node = 0 }
+no_place = record { place = 0; label = code.Base; node = 0 }
 
 abbrev pub node_of : RootPlace → ℕ
 node_of p = p.node
@@ -162,13 +67,13 @@ by_views (p ∷ ps) = ap (λ ns. p.node ∷ ns) (by_views ps)
 abbrev code_order : RootPlace → RootPlace → Ordering
 code_order = (order.ghosts).cmp
 
--- by base, then by label, then by number
+-- by place, then by label, then by number
 abbrev by_place : PlaceValue → PlaceValue → Ordering
-by_place = then_cmp (on (λ p. p.base) nat_cmp) (then_cmp (on (λ p. p.label) label_cmp) (on (λ p. p.node) nat_cmp))
+by_place = then_cmp (on (λ p. p.place) nat_cmp) (then_cmp (on (λ p. p.label) label_cmp) (on (λ p. p.node) nat_cmp))
 
 place_total : IsTotalOrder by_place
 place_total =
-    then_total (on_total (λ p. p.base) nat_cmp_total) (then_total (on_total (λ p. p.label) label_cmp_total) (on_total (λ p. p.node) nat_cmp_total))
+    then_total (on_total (λ p. p.place) nat_cmp_total) (then_total (on_total (λ p. p.label) label_cmp_total) (on_total (λ p. p.node) nat_cmp_total))
 
 order_seen : (p q : RootPlace) → code_order p q ≡ by_place (place_view p) (place_view q)
 order_seen p q = refl
@@ -195,6 +100,28 @@ last_tied Equal Equal n h = h
 last_tied Equal Greater n h = absurd cc
 last_tied Greater l n h = absurd cc
 
+module _ (g : FeatureGraphValue) where
+  by_numbers : (ns : List ℕ) → map (λ (p : PlaceValue). p.node) (map (place_at g) ns) ≡ ns
+  by_numbers [] = refl
+  by_numbers (n ∷ ns) = ap (λ ms. n ∷ ms) (by_numbers ns)
+
+  module _ (nodes : List ℕ) (places sorted : List RootPlace) (made : map place_view places ≡ map (place_at g) nodes) where
+    sized : length places ≡ length nodes
+    sized = sym (length-map places place_view) ∙ ap length made ∙ length-map nodes (place_at g)
+
+    made_nodes : map node_of places ≡ nodes
+    made_nodes = by_views places ∙ ap (map (λ (p : PlaceValue). p.node)) made ∙ by_numbers nodes
+
+    -- the same nodes in another order
+    pub moved_nodes : IsPermutation places sorted → IsPermutation nodes (map node_of sorted)
+    moved_nodes moved = subst (λ ns. IsPermutation ns (map node_of sorted)) made_nodes (IsPermutation-map node_of places sorted moved)
+
+  -- of none there is none in another order
+  pub none_ascend : (places sorted : List RootPlace) → places ≡ [] → IsPermutation places sorted → Ascend g (map node_of sorted)
+  none_ascend places sorted none moved i j d before lt =
+      let all : length sorted ≡ length places = length_permutation places sorted moved in
+      absurd (omega (arith, lt, length-map sorted node_of, all, ap length none))
+
 module _ (g : FeatureGraphValue) (are : g.nodes ≡ nodes_of g.rows.packages) where
   abbrev ids : List Text
   ids = ids_of g.rows.packages
@@ -214,29 +141,15 @@ module _ (g : FeatureGraphValue) (are : g.nodes ≡ nodes_of g.rows.packages) wh
   differ : (u v : ℕ) → u < v → v < length g.nodes → feature_at g u ≢ feature_at g v
   differ u v before lt = subst (AllPairs (λ x y. x ≢ y)) (sym are) (nodes_differ g.rows.packages) u v (base_of []) before lt
 
-  bases : (u v : ℕ) → nat_cmp (package_place g u) (package_place g v) ≡ nat_cmp (place_at g u).base (place_at g v).base
-  bases u v =
-      sym (ap (λ ns. nat_cmp (number_of ns (base_of (id_of u))) (number_of ns (base_of (id_of v)))) are ∙ numbers_in_order (id_of u) (id_of v) g.rows.packages)
-
   below : (u v : ℕ) → u < length g.nodes → v < length g.nodes → by_place (place_at g u) (place_at g v) ≡ Less → root_cmp g u v ≡ Less
   below u v ult vlt h =
       let labels = label_cmp (feature_at g u).label (feature_at g v).label in
-      told (nat_cmp (package_place g u) (package_place g v)) labels (nat_cmp u v) (ap (λ o. ordering_then o (ordering_then labels (nat_cmp u v))) (bases u v) ∙ h) (λ place label node. differ u v (less u v node) vlt (same_feature u v ult vlt (tied _ _ place) (same_label _ _ label)))
-
-  by_numbers : (ns : List ℕ) → map (λ (p : PlaceValue). p.node) (map (place_at g) ns) ≡ ns
-  by_numbers [] = refl
-  by_numbers (n ∷ ns) = ap (λ ms. n ∷ ms) (by_numbers ns)
+      told (nat_cmp (package_place g u) (package_place g v)) labels (nat_cmp u v) h (λ place label node. differ u v (less u v node) vlt (same_feature u v ult vlt (tied _ _ place) (same_label _ _ label)))
 
   module _ (nodes : List ℕ) (places sorted : List RootPlace) (made : map place_view places ≡ map (place_at g) nodes) (within : All (λ v. v < length g.nodes) nodes) (rising : AllPairs (λ u v. u < v) nodes) where
-    sized : length places ≡ length nodes
-    sized = sym (length-map places place_view) ∙ ap length made ∙ length-map nodes (place_at g)
-
-    made_nodes : map node_of places ≡ nodes
-    made_nodes = by_views places ∙ ap (map (λ (p : PlaceValue). p.node)) made ∙ by_numbers nodes
-
     seen_at : (i : ℕ) (d : RootPlace) → i < length places → place_view (get_or places i d) ≡ place_at g (get_or nodes i 0)
     seen_at i d lt =
-        sym (get_or-map place_view places i d (place_view d) lt) ∙ ap (λ ps. get_or ps i (place_view d)) made ∙ get_or-map (place_at g) nodes i 0 (place_view d) (subst (λ n. i < n) sized lt)
+        sym (get_or-map place_view places i d (place_view d) lt) ∙ ap (λ ps. get_or ps i (place_view d)) made ∙ get_or-map (place_at g) nodes i 0 (place_view d) (subst (λ n. i < n) (sized g nodes places sorted made) lt)
 
     abbrev IsPlaced : RootPlace → Type 0
     IsPlaced p = (place_view p ≡ place_at g p.node) × (p.node < length g.nodes)
@@ -245,15 +158,11 @@ module _ (g : FeatureGraphValue) (are : g.nodes ≡ nodes_of g.rows.packages) wh
     placed i d lt =
         let seen = seen_at i d lt in
         let node = ap (λ (p : PlaceValue). p.node) seen in
-        (seen ∙ ap (place_at g) (sym node), subst (λ v. v < length g.nodes) (sym node) (within i 0 (subst (λ n. i < n) sized lt)))
-
-    -- the same nodes in another order
-    pub moved_nodes : IsPermutation places sorted → IsPermutation nodes (map node_of sorted)
-    moved_nodes moved = subst (λ ns. IsPermutation ns (map node_of sorted)) made_nodes (IsPermutation-map node_of places sorted moved)
+        (seen ∙ ap (place_at g) (sym node), subst (λ v. v < length g.nodes) (sym node) (within i 0 (subst (λ n. i < n) (sized g nodes places sorted made) lt)))
 
     nodes_apart : IsPermutation places sorted → AllPairs (λ u v. u ≢ v) (map node_of sorted)
     nodes_apart moved =
-        AllPairs-from_IsDistinct unsigned_Decides (map node_of sorted) (IsDistinct-IsPermutation nat_eq (equivalence unsigned_Decides).symm nodes (map node_of sorted) (moved_nodes moved) (IsDistinct-from_AllPairs unsigned_Decides nodes (λ i j d before lt same. let up = rising i j d before lt in omega (arith, up, same))))
+        AllPairs-from_IsDistinct unsigned_Decides (map node_of sorted) (IsDistinct-IsPermutation nat_eq (equivalence unsigned_Decides).symm nodes (map node_of sorted) (moved_nodes g nodes places sorted made moved) (IsDistinct-from_AllPairs unsigned_Decides nodes (λ i j d before lt same. let up = rising i j d before lt in omega (arith, up, same))))
 
     pub nodes_ascend : IsPermutation places sorted → IsSorted code_order sorted → Ascend g (map node_of sorted)
     nodes_ascend moved order i j d before lt =

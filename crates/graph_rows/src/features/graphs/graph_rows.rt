@@ -3,11 +3,11 @@ use crate::features::graphs::lists::tell_lists;
 use crate::features::graphs::resolves::tell_resolves;
 use crate::features::graphs::sets::tell_sets;
 use crate::features::records::graph_under;
-use guppy_feature_graph::{FeatureGraph, FeatureGraphData, FeatureMetadata};
+use guppy_feature_graph::{FeatureGraph, FeatureGraphData, FeatureId, FeatureMetadata};
 use guppy_package_graph::PackageGraph;
 use row_program::{Answers, Row, RowFault, RowRunner};
 use serde_json::Value;
-use std::alloc::Global;
+use std::alloc::{AllocError, Global};
 
 /// Rows of feature graphs. A row has a `record`, a feature to `find`, and features to start from
 /// (`starts`), a `direction`, what a visitor `accepts` (a word of `Rule`), two sets of features
@@ -61,9 +61,26 @@ fn tell_data(
     data: &FeatureGraphData<'_>,
     answers: &mut Answers,
 ) -> Result<(), RowFault> {
-    let (graph, features) = (FeatureGraph::of(data), data.feature_ids());
+    let graph = FeatureGraph::of(data);
+    let features = features_of(alloc, data)?;
     tell_counts(alloc, graph, answers);
-    tell_asked(alloc, row, Asked { graph, features }, answers)
+    let asked = Asked {
+        graph,
+        features: &features,
+    };
+    tell_asked(alloc, row, asked, answers)
+}
+
+/// The features of a graph, in the order of their numbers.
+fn features_of<'g>(
+    alloc: Global,
+    data: &'g FeatureGraphData<'g>,
+) -> Result<Vec<FeatureId<'g>>, AllocError> {
+    let mut features = Vec::with_capacity(alloc, data.feature_count())?;
+    for node in 0..data.feature_count() {
+        features.push(data.feature_at(node))?;
+    }
+    Ok(features)
 }
 
 fn tell_counts(alloc: Global, graph: FeatureGraph<'_>, answers: &mut Answers) {

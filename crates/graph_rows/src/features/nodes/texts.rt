@@ -1,25 +1,24 @@
 //! What a feature graph holds, as texts.
 
-use guppy_feature_nodes::{FeatureEdge, FeatureGraphData, FeatureId, SlashForm};
+use guppy_feature_nodes::{FeatureEdge, FeatureGraphData, SlashForm};
 use guppy_package_graph::{FeatureBuildStage, FeatureGraphWarning};
 use row_program::Answers;
 
 /// Tells the features, in the order of their numbers.
 pub(crate) fn tell_nodes(data: &FeatureGraphData<'_>, answers: &mut Answers) {
     answers.begin("nodes");
-    for id in data.feature_ids() {
-        answers.part("; ", id);
+    for node in 0..data.feature_count() {
+        answers.part("; ", &data.feature_at(node));
     }
 }
 
 /// Tells the edges: both ends, why, and the lines behind.
 pub(crate) fn tell_edges(data: &FeatureGraphData<'_>, answers: &mut Answers) {
-    let ids = data.feature_ids();
     answers.begin("edges");
     for edge in data.edges() {
-        add_end("; ", ids, edge.from, answers);
-        add_end(" > ", ids, edge.to, answers);
-        add_form(ids, &edge.edge, answers);
+        add_end("; ", data, edge.from, answers);
+        add_end(" > ", data, edge.to, answers);
+        add_form(data, &edge.edge, answers);
         for (link, line) in edge.edge.lines() {
             answers.part(" ", link);
             answers.part(".", line);
@@ -27,14 +26,15 @@ pub(crate) fn tell_edges(data: &FeatureGraphData<'_>, answers: &mut Answers) {
     }
 }
 
-fn add_end(between: &str, ids: &[FeatureId<'_>], number: usize, answers: &mut Answers) {
-    match ids.get(number) {
-        Some(id) => answers.part(between, id),
-        None => answers.part(between, &"nothing"),
+fn add_end(between: &str, data: &FeatureGraphData<'_>, number: usize, answers: &mut Answers) {
+    if number < data.feature_count() {
+        answers.part(between, &data.feature_at(number));
+    } else {
+        answers.part(between, &"nothing");
     }
 }
 
-fn add_form(ids: &[FeatureId<'_>], edge: &FeatureEdge, answers: &mut Answers) {
+fn add_form(data: &FeatureGraphData<'_>, edge: &FeatureEdge, answers: &mut Answers) {
     match edge {
         FeatureEdge::FeatureToBase => answers.add(&" to base"),
         FeatureEdge::DependenciesSection(_) => answers.add(&" dependency"),
@@ -42,7 +42,7 @@ fn add_form(ids: &[FeatureId<'_>], edge: &FeatureEdge, answers: &mut Answers) {
         FeatureEdge::NamedFeatureDepColon => answers.add(&" dep"),
         FeatureEdge::NamedFeatureWithSlash(SlashForm::Strong(_)) => answers.add(&" strong"),
         FeatureEdge::NamedFeatureWithSlash(SlashForm::Weak(weak)) => {
-            add_end(" weak (", ids, weak.index().node(), answers);
+            add_end(" weak (", data, weak.index().node(), answers);
             answers.add(&")");
         }
     }

@@ -1,8 +1,7 @@
-use Rattle.std.proofs.Common.{length, sym, [], get_or, ◌≡◌, ◌∙◌, ◌↔◌, ℕ, List, Bor, Contains, IsTrue, ap, map, subst}
+use Rattle.std.proofs.Common.{length, sym, ◌≡◌, ◌∙◌, ◌↔◌, ℕ, List, Bor, Contains, IsTrue, ap, map, subst}
 use Rattle.numbered_graph.specs.Sets.{has}
-use Rattle.workspace_record.specs.Features.{FeatureValue}
 use Rattle.guppy_package_table.specs.Tables.{TableValue}
-use Rattle.guppy_feature_demands.specs.Nodes.{base_of, nodes_of}
+use Rattle.guppy_feature_demands.specs.Nodes.{nodes_of}
 use Rattle.guppy_feature_nodes.specs.Graphs.{AreListed, FeatureGraphValue, feature_at}
 use Rattle.guppy_package_graph.specs.Finding.{IsNamed}
 use Rattle.guppy_package_graph.proofs.PlaceFacts.{ok_more}
@@ -18,11 +17,11 @@ returns c =
     let rows : c.package_graph.result.now ≡ s.graph.rows = c.package_graph.ensures.rows ∙ ap (λ (x : FeatureGraphValue). x.rows) of_graph in
     let listed : (v : ℕ) → Contains nodes v ↔ IsTrue (has s.included v) = subst (λ xs. (v : ℕ) → Contains nodes v ↔ IsTrue (has xs v)) c.included.ensures.value c.in_ok-nodes.ensures.each in
     let ids : map text c.deref-2.result.now ≡ map (λ v. (feature_at s.graph v).package_id) nodes =
-    ap (map text) c.deref-2.ensures.value ∙ c.in_ok-ids.ensures ∙ ap (λ (fs : List FeatureValue). map (λ v. (get_or fs v (base_of [])).package_id) c.deref.result.now) (c.feature_ids.ensures.nodes ∙ ap (λ (x : FeatureGraphValue). x.nodes) of_graph) ∙ ap (map (λ v. (feature_at s.graph v).package_id)) c.deref.ensures.value in
+    ap (map text) c.deref-2.ensures.value ∙ c.in_ok-ids.ensures ∙ ap (λ (x : FeatureGraphValue). map (λ v. (feature_at x v).package_id) c.deref.result.now) of_graph ∙ ap (map (λ v. (feature_at s.graph v).package_id)) c.deref.ensures.value in
     record {
       sized = ap length (sym c.included.ensures.value) ∙ c.included.ensures.sized;
-      features = ok_more c.resolve_known.result (λ packages h. subst (λ (x : FeatureGraphValue). x.nodes ≡ nodes_of x.rows.packages) of_graph c.feature_ids.ensures.features) c.resolve_known.ensures.named;
-      listed = ok_more c.resolve_known.result (λ packages h. subst AreListed of_graph c.feature_ids.ensures.listed) c.resolve_known.ensures.named;
+      features = ok_more c.resolve_known.result (λ packages h. subst (λ (x : FeatureGraphValue). x.nodes ≡ nodes_of x.rows.packages) of_graph c.package_graph.ensures.features) c.resolve_known.ensures.named;
+      listed = ok_more c.resolve_known.result (λ packages h. subst AreListed of_graph c.package_graph.ensures.listed) c.resolve_known.ensures.named;
       packages = ok_more c.resolve_known.result (λ packages h.
           let named = subst (λ (t : TableValue). (place : ℕ) → IsTrue (has packages.included place) ↔ IsNamed t (map text c.deref-2.result.now) place) rows h.members in
           record {
