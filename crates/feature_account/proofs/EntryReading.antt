@@ -101,7 +101,7 @@ value_unprefixed entry none =
     cond-false (starts_with nat_eq entry (codes "dep:")) _ _ (false_from_ne_true _ (λ h. none (drop 4 entry) (front_of entry (codes "dep:") h)))
 
 -- an entry with no prefix and a slash is read as the two texts around the slash
-value_slash : (entry name feature : Text) → HasNoPrefix entry → entry ≡ name ++ 47 ∷ feature → HasNoSlash name → entry_value entry ≡ slash_entry name feature
+pub value_slash : (entry name feature : Text) → HasNoPrefix entry → entry ≡ name ++ 47 ∷ feature → HasNoSlash name → entry_value entry ≡ slash_entry name feature
 value_slash entry name feature none e no_slash =
     let held : list_any is_slash entry ≡ true = list_any-from_Contains is_slash entry 47 (subst (λ t. Contains t 47) (sym e) (Contains-append_right name (47 ∷ feature) 47 (Contains-first 47 feature))) refl in
     value_unprefixed entry none ∙ cond-true _ _ _ held ∙ ap (λ t. slash_entry (before_first is_slash t) (after_first is_slash t)) e ∙ (λ i. slash_entry (before-slash name feature no_slash i) (after-slash name feature no_slash i))

@@ -9,4 +9,5 @@ pub mod FoundFacts
 pub mod Irreducible
 pub mod KeptLinks
 pub mod LineFacts
+pub mod PushFacts
 pub mod RuleFacts
