@@ -8,7 +8,7 @@ use row_program::Answers;
 pub(crate) fn tell_nodes(data: &FeatureGraphData<'_>, answers: &mut Answers) {
     answers.begin("nodes");
     for node in 0..data.feature_count() {
-        answers.part("; ", &data.feature_at(node));
+        add_end("; ", data, node, answers);
     }
 }
 
