@@ -1,5 +1,0 @@
-//! Globs and matchers of `matchers.json`, compared with what each has to be.
-
-mod matcher_rows;
-
-pub(crate) use crate::matchers::matcher_rows::MatcherRows;

@@ -1,0 +1,163 @@
+ghost use Rattle.std.specs.Prelude.{IfOk};
+ghost use Rattle.nextest_filter_queries.specs.Groups.{AreKnown};
+
+use crate::filters::compiled::contexts::{context_in, graph_in};
+use crate::filters::compiled::queries::tell_answers;
+use crate::filters::compiled::row_groups::known_groups;
+use crate::filters::compiled::surface::{tell_filter_calls, tell_groups};
+use crate::filters::spans::add_span;
+use guppy_package_graph::PackageGraph;
+use nextest_filtering::errors::{FiltersetError, ParseSingleError};
+use nextest_filtering::{
+    CompiledExpr, EvalContext, Filterset, FiltersetKind, KnownGroups, ParseContext,
+};
+use row_program::{Answers, Row, RowFault, RowRunner};
+use serde_json::Value;
+use std::alloc::Global;
+
+/// Rows of one filter each: its `text` and its `kind` (test, archive, override or default), over the
+/// `record`, and over the packages under `context`, with the features under `on`; `groups` are known, and `default` is the filter
+/// that stands for `default()`, all tests where there is none. Asked are the `owners`, `binary_names`, `binary_kinds`, `platforms` or
+/// `test_names` that are listed, with `owner`, `binary_name`, `binary_kind`, `built_for` and
+/// `test_name` for the rest, of tests in the group `member_of`. Told is besides whether a group is
+/// called `group_name`, and whether the reference of filters names what stands under `word`.
+#[derive(Drop)]
+pub(crate) struct CompiledRows;
+
+impl RowRunner for CompiledRows {
+    fn inputs(&self) -> &'static [&'static str] {
+        &[
+            "record",
+            "text",
+            "kind",
+            "context",
+            "on",
+            "groups",
+            "default",
+            "owners",
+            "binary_names",
+            "binary_kinds",
+            "platforms",
+            "test_names",
+            "owner",
+            "binary_name",
+            "binary_kind",
+            "built_for",
+            "test_name",
+            "member_of",
+            "group_name",
+            "word",
+        ]
+    }
+
+    fn run_row(
+        &mut self,
+        alloc: Global,
+        row: Row<'_>,
+        answers: &mut Answers,
+    ) -> Result<(), RowFault> {
+        let graph = graph_in(alloc, row)?;
+        tell_graph(alloc, row, &graph, answers)
+    }
+}
+
+fn tell_graph(
+    alloc: Global,
+    row: Row<'_>,
+    graph: &PackageGraph,
+    answers: &mut Answers,
+) -> Result<(), RowFault> {
+    let cx = context_in(alloc, row, graph)?;
+    let groups = groups_in(alloc, row)?;
+    tell_groups(alloc, row, &groups, answers);
+    match row.get("default").and_then(Value::as_str) {
+        Some(text) => tell_with_default(alloc, row, &cx, &groups, text, answers),
+        None => tell_filter(alloc, row, &cx, &groups, &CompiledExpr::ALL, answers),
+    }
+}
+
+/// The groups under `groups`.
+fn groups_in(alloc: Global, row: Row<'_>) -> Result<KnownGroups, RowFault>
+    ensures known { IfOk result AreKnown }
+{
+    let names = row.texts(alloc, "groups")?;
+    Ok(known_groups(alloc, &names)?)
+}
+
+/// Tells of the row's filter where the one of this text stands for `default()`.
+fn tell_with_default(
+    alloc: Global,
+    row: Row<'_>,
+    cx: &ParseContext<'_>,
+    groups: &KnownGroups,
+    text: &str,
+    answers: &mut Answers,
+) -> Result<(), RowFault>
+    requires known { AreKnown groups.now }
+{
+    let input = String::from_str(alloc, text)?;
+    match Filterset::parse(alloc, input, cx, FiltersetKind::DefaultFilter, groups) {
+        Ok(default) => tell_filter(alloc, row, cx, groups, &default.compiled, answers),
+        Err(FiltersetError::Parse(_)) => Err(RowFault::Key("default")),
+        Err(FiltersetError::Memory) => Err(RowFault::Memory),
+    }
+}
+
+fn tell_filter(
+    alloc: Global,
+    row: Row<'_>,
+    cx: &ParseContext<'_>,
+    groups: &KnownGroups,
+    default: &CompiledExpr,
+    answers: &mut Answers,
+) -> Result<(), RowFault>
+    requires known { AreKnown groups.now }
+{
+    let Some(eval) = EvalContext::new(default) else {
+        return Err(RowFault::Key("default"));
+    };
+    let input = String::from_str(alloc, row.text("text")?)?;
+    match Filterset::parse(alloc, input, cx, kind_in(row), groups) {
+        Ok(filter) => tell_parsed(alloc, row, &filter, &eval, answers),
+        Err(FiltersetError::Parse(refused)) => {
+            tell_faults(&refused.errors, answers);
+            Ok(())
+        }
+        Err(FiltersetError::Memory) => Err(RowFault::Memory),
+    }
+}
+
+/// Tells what a copy of the filter says.
+fn tell_parsed(
+    alloc: Global,
+    row: Row<'_>,
+    filter: &Filterset,
+    eval: &EvalContext<'_>,
+    answers: &mut Answers,
+) -> Result<(), RowFault> {
+    let filter = filter.copy(alloc)?;
+    answers.begin("faults");
+    tell_filter_calls(row, &filter, answers);
+    tell_answers(alloc, row, &filter, eval, answers)
+}
+
+fn kind_in(row: Row<'_>) -> FiltersetKind {
+    match row.get("kind").and_then(Value::as_str) {
+        Some("archive") => FiltersetKind::TestArchive,
+        Some("override") => FiltersetKind::OverrideFilter,
+        Some("default") => FiltersetKind::DefaultFilter,
+        _ => FiltersetKind::Test,
+    }
+}
+
+fn tell_faults(faults: &[ParseSingleError], answers: &mut Answers) {
+    answers.begin("faults");
+    for fault in faults {
+        answers.part("; ", fault);
+        if let ParseSingleError::BannedPredicate { reason, .. } = fault {
+            answers.part(": ", reason);
+        }
+        answers.add(&" ");
+        add_span(fault.span(), answers);
+    }
+}

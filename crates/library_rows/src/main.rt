@@ -1,0 +1,87 @@
+//! Rows of graphs over numbers, of packages, of features and of filters, compared with what each has to be.
+#![tactic(auto)]
+
+mod features;
+mod filters;
+mod ids;
+mod numbers;
+mod packages;
+mod records;
+
+use row_program::run_file;
+use std::io::{self, Write};
+use std::process::ExitCode;
+
+fn main(rt: HostRuntime) -> io::Result<ExitCode> {
+    let mut out = rt.stdout();
+    let numbers = run_numbers(&rt, &mut out)?;
+    let packages = run_packages(&rt, &mut out)?;
+    let features = run_features(&rt, &mut out)?;
+    let filters = run_filters(&rt, &mut out)?;
+    let same = numbers && packages && features && filters;
+    Ok(ExitCode::from(if same { 0 } else { 1 }))
+}
+
+fn run_numbers<W: Write>(rt: &HostRuntime, out: &mut W) -> io::Result<bool> {
+    let graphs = run_file(
+        rt,
+        "number graphs",
+        "number_graphs.json",
+        &mut numbers::GraphRows,
+        out,
+    )?;
+    let offers = run_file(rt, "offers", "offers.json", &mut numbers::OfferRows, out)?;
+    Ok(graphs && offers)
+}
+
+fn run_packages<W: Write>(rt: &HostRuntime, out: &mut W) -> io::Result<bool> {
+    let parts = run_file(rt, "parts", "parts.json", &mut packages::PartRows, out)?;
+    let rules = run_file(rt, "rules", "rules.json", &mut packages::RuleRows, out)?;
+    let graphs = run_file(
+        rt,
+        "package graphs",
+        "package_graphs.json",
+        &mut packages::GraphRows,
+        out,
+    )?;
+    Ok(parts && rules && graphs)
+}
+
+fn run_features<W: Write>(rt: &HostRuntime, out: &mut W) -> io::Result<bool> {
+    let nodes = run_file(rt, "nodes", "nodes.json", &mut features::NodeRows, out)?;
+    let graphs = run_file(
+        rt,
+        "feature graphs",
+        "feature_graphs.json",
+        &mut features::GraphRows,
+        out,
+    )?;
+    let accounts = run_file(
+        rt,
+        "accounts",
+        "accounts.json",
+        &mut features::AccountRows,
+        out,
+    )?;
+    Ok(nodes && graphs && accounts)
+}
+
+fn run_filters<W: Write>(rt: &HostRuntime, out: &mut W) -> io::Result<bool> {
+    let matchers = run_file(
+        rt,
+        "matchers",
+        "matchers.json",
+        &mut filters::MatcherRows,
+        out,
+    )?;
+    let texts = run_file(rt, "texts", "texts.json", &mut filters::PlaceRows, out)?;
+    let syntax = run_file(rt, "syntax", "syntax.json", &mut filters::FilterRows, out)?;
+    let compiled = run_file(
+        rt,
+        "compiled",
+        "compiled.json",
+        &mut filters::CompiledRows,
+        out,
+    )?;
+    Ok(matchers && texts && syntax && compiled)
+}
