@@ -23,10 +23,30 @@ pub(crate) fn not_of<'f>(alloc: Global, x: ReadyExpr<'f>) -> Result<ReadyExpr<'f
     ensures { IfOk result (λ r. SayAlike (ready_of r) (negation (ready_of x.entry))) }
 {
     match x.known() {
-        Some(value) => Ok(ReadyExpr::Known(!value)),
+        Some(value) => {
+            drop(x);
+            Ok(ReadyExpr::Known(!value))
+        }
         None => {
             let x = Box::new(alloc, x)?;
             Ok(ReadyExpr::Not(x))
+        }
+    }
+}
+
+// Two filters, each in memory of its own.
+fn both_boxed<'f>(
+    alloc: Global,
+    x: ReadyExpr<'f>,
+    y: ReadyExpr<'f>,
+) -> Result<(Box<ReadyExpr<'f>>, Box<ReadyExpr<'f>>), AllocError>
+    ensures { IfOk result (λ r. (r.0.value ≡ x.entry) × (r.1.value ≡ y.entry)) }
+{
+    match Box::new(alloc, x) {
+        Ok(x) => Ok((x, Box::new(alloc, y)?)),
+        Err(refused) => {
+            drop(y);
+            Err(AllocError::from(refused))
         }
     }
 }
@@ -39,11 +59,20 @@ pub(crate) fn either_of<'f>(
     ensures { IfOk result (λ r. SayAlike (ready_of r) (either (ready_of x.entry) (ready_of y.entry))) }
 {
     match (x.known(), y.known()) {
-        (Some(true), _) | (_, Some(true)) => Ok(ReadyExpr::Known(true)),
-        (Some(false), _) => Ok(y),
-        (_, Some(false)) => Ok(x),
+        (Some(true), _) | (_, Some(true)) => {
+            drop((x, y));
+            Ok(ReadyExpr::Known(true))
+        }
+        (Some(false), _) => {
+            drop(x);
+            Ok(y)
+        }
+        (_, Some(false)) => {
+            drop(y);
+            Ok(x)
+        }
         (None, None) => {
-            let (x, y) = (Box::new(alloc, x)?, Box::new(alloc, y)?);
+            let (x, y) = both_boxed(alloc, x, y)?;
             Ok(ReadyExpr::Union(x, y))
         }
     }
@@ -57,11 +86,20 @@ pub(crate) fn both_of<'f>(
     ensures { IfOk result (λ r. SayAlike (ready_of r) (both (ready_of x.entry) (ready_of y.entry))) }
 {
     match (x.known(), y.known()) {
-        (Some(false), _) | (_, Some(false)) => Ok(ReadyExpr::Known(false)),
-        (Some(true), _) => Ok(y),
-        (_, Some(true)) => Ok(x),
+        (Some(false), _) | (_, Some(false)) => {
+            drop((x, y));
+            Ok(ReadyExpr::Known(false))
+        }
+        (Some(true), _) => {
+            drop(x);
+            Ok(y)
+        }
+        (_, Some(true)) => {
+            drop(y);
+            Ok(x)
+        }
         (None, None) => {
-            let (x, y) = (Box::new(alloc, x)?, Box::new(alloc, y)?);
+            let (x, y) = both_boxed(alloc, x, y)?;
             Ok(ReadyExpr::Intersection(x, y))
         }
     }

@@ -146,13 +146,26 @@ pub(crate) fn tree_from(
     }
     let (mut tree, mut end) = tree_from(alloc, text, room, level - 1, at, faults)?;
     loop {
-        let found = operator_after(text, level - 1, end, faults)?;
+        let found = match operator_after(text, level - 1, end, faults) {
+            Ok(found) => found,
+            Err(refused) => {
+                drop(tree);
+                return Err(refused);
+            }
+        };
         let Some(next) = place_after(found) else {
             return Ok((tree, end));
         };
-        let (right, after) = tree_from(alloc, text, room, level - 1, next, faults)?;
-        tree = joined(alloc, found, tree, right)?;
-        end = after;
+        match tree_from(alloc, text, room, level - 1, next, faults) {
+            Ok((right, after)) => {
+                tree = joined(alloc, found, tree, right)?;
+                end = after;
+            }
+            Err(refused) => {
+                drop(tree);
+                return Err(refused);
+            }
+        }
     }
 }
 

@@ -97,12 +97,17 @@ impl Filterset {
     {
         let input = String::from_str(alloc, self.input.as_str())?;
         let parsed = self.parsed.copy(alloc)?;
-        let compiled = self.compiled.copy(alloc)?;
-        Ok(Filterset {
-            input,
-            parsed,
-            compiled,
-        })
+        match self.compiled.copy(alloc) {
+            Ok(compiled) => Ok(Filterset {
+                input,
+                parsed,
+                compiled,
+            }),
+            Err(refused) => {
+                drop((input, parsed));
+                Err(refused)
+            }
+        }
     }
 
     /// What the filter says of all tests of the binary; see `CompiledExpr::matches_binary`.

@@ -25,7 +25,16 @@ pub fn compiled_text(
 {
     let input = String::from_str(alloc, text)?;
     match Filterset::parse(alloc, input, cx, kind, groups) {
-        Ok(filterset) => Ok(filterset.compiled),
+        Ok(
+            Filterset {
+                input,
+                parsed,
+                compiled,
+            },
+        ) => {
+            drop((input, parsed));
+            Ok(compiled)
+        }
         Err(refused) => Err(refused),
     }
 }

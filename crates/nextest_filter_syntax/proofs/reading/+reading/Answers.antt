@@ -48,8 +48,8 @@ operand_from-returns-in_ok-tree-in-Opens-2-clause-only n c clean t j r =
     let tree = c.in_ok-tree-in-Opens.ensures.only clean from.0 from.1 from.2 (close_ends text from.1 2 from.3.0) in
     c.in_ok-tree-in-Opens-2.ensures.only tree.1 j (subst (λ k. Stands text k 41 j) (sym tree.0) from.3)
 
-pub tree_from-loop-tree-init : goal.tree_from-loop-tree-init
-tree_from-loop-tree-init n c =
+pub tree_from-loop-found-init : goal.tree_from-loop-found-init
+tree_from-loop-found-init n c =
     let text = c.args.text.now in
     let lower = c.args.level - 1 in
     let is : suc lower ≡ c.args.level = omega (arith, c.if-level-eq0.false) in
@@ -67,42 +67,42 @@ tree_from-loop-tree-init n c =
 
 pub tree_from-returns-in_default-clause-read : goal.tree_from-returns-in_default-clause-read
 tree_from-returns-in_default-clause-read n c clean =
-    let before : IsClean c.loop-tree.faults = omega (arith, clean, c.in_ok-found.ensures.grows.1) in
-    last_read c.args.text.now c.args.room c.args.level (c.args.level - 1) c.args.at c.loop-tree.end c.loop-tree.tree (c.loop-tree.invariant.read before)
+    let before : IsClean c.loop-found.faults = omega (arith, clean, c.in-Ok.ensures.grows.1) in
+    last_read c.args.text.now c.args.room c.args.level (c.args.level - 1) c.args.at c.loop-found.end c.loop-found.tree (c.loop-found.invariant.read before)
 
 pub tree_from-returns-in_default-clause-only : goal.tree_from-returns-in_default-clause-only
 tree_from-returns-in_default-clause-only n c clean t j r ends =
     let text = c.args.text.now in
     let lower = c.args.level - 1 in
     let is : suc lower ≡ c.args.level = omega (arith, c.if-level-eq0.false) in
-    let from = c.loop-tree.invariant.only clean t j r ends in
-    let nothing = nothing_of text c.in_ok-found.found (sym c.place_after.ensures ∙ c.in_default.is) in
-    let same = c.in_ok-found.ensures.same (ap is_wrong nothing) in
-    (last_only text c.args.room c.args.level lower c.loop-tree.end j from.1.0 t c.in_ok-found.found is c.in_ok-found.ensures.value nothing from.1.1 ends, same ∙ from.0)
+    let from = c.loop-found.invariant.only clean t j r ends in
+    let nothing = nothing_of text c.in-Ok.found (sym c.place_after.ensures ∙ c.in_default.is) in
+    let same = c.in-Ok.ensures.same (ap is_wrong nothing) in
+    (last_only text c.args.room c.args.level lower c.loop-found.end j from.1.0 t c.in-Ok.found is c.in-Ok.ensures.value nothing from.1.1 ends, same ∙ from.0)
 
-pub tree_from-loop-tree-preserved : goal.tree_from-loop-tree-preserved
-tree_from-loop-tree-preserved n c =
+pub tree_from-loop-found-preserved : goal.tree_from-loop-found-preserved
+tree_from-loop-found-preserved n c =
     let text = c.args.text.now in
     let room = c.args.room in
     let level = c.args.level in
     let lower = level - 1 in
     let is : suc lower ≡ level = omega (arith, c.if-level-eq0.false) in
-    let found = c.in_ok-found.ensures in
-    let right = c.in_ok-right.ensures in
+    let found = c.in-Ok.ensures in
+    let right = c.in-Ok-tree_from.ensures in
     let on = right.goes_on in
-    let before = c.loop-tree.invariant in
+    let before = c.loop-found.invariant in
     let place = sym c.place_after.ensures ∙ c.in-Some.is in
     let goes = rw place at found.end in
     record {
       goes_on = (omega (arith, before.goes_on.0, goes.0, on.0), on.1, (omega (arith, before.goes_on.2.0, found.grows.0, on.2.0), omega (arith, before.goes_on.2.1, found.grows.1, on.2.1), on.2.2));
-      spoils = (step_patterns text c.in_ok-found.found c.in-Some.next _ _ _ _ c.loop-tree.tree c.in_ok-right.right c.in_ok-tree-3.tree place c.in_ok-tree-3.ensures.value before.spoils.0 found.keeps right.spoils.0, step_spoiled text c.in_ok-found.found c.in-Some.next _ _ _ c.loop-tree.tree c.in_ok-right.right c.in_ok-tree-3.tree place c.in_ok-tree-3.ensures.value before.spoils.1 (λ wrong. (found.wrong wrong).0) right.spoils.1 (omega (arith, found.grows.0, on.2.0)) on.2.0);
+      spoils = (step_patterns text c.in-Ok.found c.in-Some.next _ _ _ _ c.loop-found.tree c.in-Ok-tree_from.right c.in_ok-tree-in-Ok-tree_from.tree place c.in_ok-tree-in-Ok-tree_from.ensures.value before.spoils.0 found.keeps right.spoils.0, step_spoiled text c.in-Ok.found c.in-Some.next _ _ _ c.loop-found.tree c.in-Ok-tree_from.right c.in_ok-tree-in-Ok-tree_from.tree place c.in_ok-tree-in-Ok-tree_from.ensures.value before.spoils.1 (λ wrong. (found.wrong wrong).0) right.spoils.1 (omega (arith, found.grows.0, on.2.0)) on.2.0);
       read = λ clean.
-          let first : IsClean c.loop-tree.faults = omega (arith, clean, on.2.1, found.grows.1) in
-          step_read text room level lower c.args.at c.loop-tree.end c.in-Some.next c.in_ok-right.after c.in_ok-found.found c.loop-tree.tree c.in_ok-right.right c.in_ok-tree-3.tree found.value place (λ wrong. omega (arith, clean, on.2.1, (found.wrong wrong).1)) c.in_ok-tree-3.ensures.value (before.read first) (right.read clean);
-      as_written = c.in_ok-tree-3.ensures.as_written before.as_written right.as_written;
+          let first : IsClean c.loop-found.faults = omega (arith, clean, on.2.1, found.grows.1) in
+          step_read text room level lower c.args.at c.loop-found.end c.in-Some.next c.in-Ok-tree_from.after c.in-Ok.found c.loop-found.tree c.in-Ok-tree_from.right c.in_ok-tree-in-Ok-tree_from.tree found.value place (λ wrong. omega (arith, clean, on.2.1, (found.wrong wrong).1)) c.in_ok-tree-in-Ok-tree_from.ensures.value (before.read first) (right.read clean);
+      as_written = c.in_ok-tree-in-Ok-tree_from.ensures.as_written before.as_written right.as_written;
       only = λ clean t j r ends.
           let from = before.only clean t j r ends in
-          let step = step_only text room level lower c.loop-tree.end c.in-Some.next j from.1.0 t c.in_ok-found.found is found.value place from.1.1 ends in
+          let step = step_only text room level lower c.loop-found.end c.in-Some.next j from.1.0 t c.in-Ok.found is found.value place from.1.1 ends in
           let operand = right.only (found.same step.right ∙ from.0) step.operand step.after step.reads step.ends in
           (operand.1, (joined_of step.op from.1.0 step.operand, subst (λ k. MoreOf text room lower k (joined_of step.op from.1.0 step.operand) t j) (sym operand.0) step.more));
     }

@@ -14,8 +14,8 @@ decreases-tree_from l = 4 * l.room + l.level + 1
 abbrev pub decreases-operand_from : goal.decreases-operand_from
 decreases-operand_from l = 4 * l.room
 
-abbrev pub invariant-tree_from-loop-tree : goal.invariant-tree_from-loop-tree
-invariant-tree_from-loop-tree l = record {
+abbrev pub invariant-tree_from-loop-found : goal.invariant-tree_from-loop-found
+invariant-tree_from-loop-found l = record {
   goes_on : GoesOn l.text l.at l.end l.fn.faults l.faults;
   spoils : Spoils l.tree l.fn.faults l.faults;
   read : IsClean l.faults → IsBegun l.text l.room l.level (l.level - 1) l.at l.tree l.end;
@@ -23,5 +23,5 @@ invariant-tree_from-loop-tree l = record {
   only : IsClean l.fn.faults → (t : Tree SourceSpan) (j : ℕ) → Reads l.text l.room l.level l.at t j → Ends l.text l.level j → IsClean l.faults × ((a : Tree SourceSpan) × MoreOf l.text l.room (l.level - 1) l.end a t j);
 }
 
-abbrev pub decreases-tree_from-loop-tree : goal.decreases-tree_from-loop-tree
-decreases-tree_from-loop-tree l = length l.text - l.end
+abbrev pub decreases-tree_from-loop-found : goal.decreases-tree_from-loop-found
+decreases-tree_from-loop-found l = length l.text - l.end
