@@ -19,11 +19,24 @@ use regex::Matcher;
 use std::alloc::{AllocError, Global};
 
 /// The filters of a question made ready for the tests of one binary.
-#[derive(Drop)]
 pub struct ReadyFilters<'f> {
     default: ReadyExpr<'f>,
     groups: Vec<ReadyExpr<'f>>,
     texts: Vec<ReadyExpr<'f>>,
+}
+
+// Written out, so that a function that lets them go takes one step.
+impl Drop for ReadyFilters<'_> {
+    fn drop(self) {
+        let ReadyFilters {
+            default,
+            groups,
+            texts,
+        } = self;
+        drop(default);
+        drop(groups);
+        drop(texts);
+    }
 }
 
 impl<'f> ReadyFilters<'f> {

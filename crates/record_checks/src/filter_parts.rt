@@ -14,7 +14,9 @@ pub struct GroupFilter {
 // Written out, so that a function that lets one go takes one step.
 impl Drop for GroupFilter {
     fn drop(self) {
-        let GroupFilter { name: _, filter: _ } = self;
+        let GroupFilter { name, filter } = self;
+        drop(name);
+        drop(filter);
     }
 }
 
@@ -31,8 +33,10 @@ pub struct RecordFilters {
 impl Drop for RecordFilters {
     fn drop(self) {
         let RecordFilters {
-            groups: _,
-            default_filter: _,
+            groups,
+            default_filter,
         } = self;
+        drop(groups);
+        drop(default_filter);
     }
 }
