@@ -9,6 +9,7 @@ ghost use Rattle.guppy_feature_edges.specs.Groups.{AreKept};
 ghost use Rattle.guppy_feature_edges.specs.JoinedViews.{joined_view};
 ghost use Rattle.guppy_feature_edges.specs.Joining.{AreJoined, JoinedValue, place_cmp, place_eq};
 ghost use Rattle.guppy_feature_edges.specs.KeyViews.{key_view};
+ghost use Rattle.guppy_feature_edges.specs.Weights.{FindsWeights};
 
 use crate::edge_key::EdgeKey;
 use crate::groups::{Group, Groups, groups_of};
@@ -27,7 +28,7 @@ pub struct JoinedEdge<'g> {
 }
 
 /// The edges that are joined from these demands, in the order of their first ones. Takes time in
-/// proportion to the demands, up to sorting. The demands are let go before the edges are made.
+/// proportion to the demands, up to sorting.
 pub fn joined_edges<'g>(
     alloc: Global,
     demands: Vec<NumberedDemand<'g>>,
@@ -35,9 +36,23 @@ pub fn joined_edges<'g>(
     ensures joined { IfOk result (λ v. AreJoined (map numbered_view demands.entry.items) (map joined_view v.items)) }
 {
     let weights = weights_of(alloc, &demands)?;
+    let edges = edges_by(alloc, &weights, demands);
+    drop(weights);
+    edges
+}
+
+// The edges of demands that have these weights. The demands are let go before the edges are made.
+fn edges_by<'g>(
+    alloc: Global,
+    weights: &IndexSet<EdgeKey<'g>>,
+    demands: Vec<NumberedDemand<'g>>,
+) -> Result<Vec<JoinedEdge<'g>>, AllocError>
+    requires { FindsWeights (map numbered_view demands.items) (map key_view weights.now.keys) }
+    ensures { IfOk result (λ v. AreJoined (map numbered_view demands.entry.items) (map joined_view v.items)) }
+{
     let groups = groups_of(alloc, &demands)?;
     drop(demands);
-    edges_of(alloc, &weights, groups)
+    edges_of(alloc, weights, groups)
 }
 
 // The edges of the groups that give way to none of these weights.
@@ -48,8 +63,8 @@ fn edges_of<'g>(
 ) -> Result<Vec<JoinedEdge<'g>>, AllocError>
     ensures { IfOk result (λ v. AreKept (map key_view weights.now.keys) (map group_view (values groups.entry.map)) (map joined_view v.items)) }
 {
+    let mut edges: Vec<JoinedEdge<'g>> = Vec::with_capacity(alloc, groups.map.len())?;
     let map = groups.into_map();
-    let mut edges: Vec<JoinedEdge<'g>> = Vec::with_capacity(alloc, map.len())?;
     for group in map.into_values() {
         push_kept(weights, group, &mut edges)?;
     }

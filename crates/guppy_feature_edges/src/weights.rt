@@ -1,6 +1,6 @@
 //! The demands that give way to others.
 
-ghost use Rattle.std.specs.Prelude.{◌≡◌, ◌||◌, IfOk, OnOk, map, true};
+ghost use Rattle.std.specs.Prelude.{◌≡◌, ◌||◌, [], IfOk, OnOk, map, true};
 ghost use Rattle.std.specs.List.{list_any};
 ghost use Rattle.guppy_feature_demands.specs.DemandViews.{form_view, numbered_view};
 ghost use Rattle.guppy_feature_edges.specs.Joining.{Key, ends_of, gives_way_to, key_eq, weight_key};
@@ -20,10 +20,22 @@ pub(crate) fn weights_of<'g>(
     ensures { IfOk result (λ set. FindsWeights (map numbered_view demands.now) (map key_view set.keys)) }
 {
     let mut set: IndexSet<EdgeKey<'g>> = IndexSet::with_capacity(alloc, weight_count(demands))?;
+    let filled = insert_weights(&mut set, demands);
+    filled.and(Ok(set))
+}
+
+/// Puts the weights of the demands into an empty set.
+fn insert_weights<'g>(
+    set: &mut IndexSet<EdgeKey<'g>>,
+    demands: &[NumberedDemand<'g>],
+) -> Result<(), AllocError>
+    requires { set.old.keys ≡ [] }
+    ensures { OnOk result (FindsWeights (map numbered_view demands.now) (map key_view set.new.keys)) }
+{
     for demand in demands {
-        insert_weight(&mut set, *demand)?;
+        insert_weight(set, *demand)?;
     }
-    Ok(set)
+    Ok(())
 }
 
 /// How many of the demands have such a weight: most do not, as they stand on lines.

@@ -1,3 +1,5 @@
+ghost use Rattle.std.specs.Prelude.{◌≡◌, IfOk};
+
 use nextest_filter_faults::{AndOperator, DifferenceOperator, NotOperator, OrOperator};
 use nextest_filter_leaves::ParsedLeaf;
 use nextest_filter_matchers::SourceSpan;
@@ -30,18 +32,18 @@ impl<S: Copy> ParsedExpr<S> {
                 Ok(ParsedExpr::Not(*op, x))
             }
             ParsedExpr::Union(op, x, y) => {
-                let x = Box::new(alloc, x.copy(alloc)?)?;
-                let y = Box::new(alloc, y.copy(alloc)?)?;
+                let x = x.copy(alloc)?;
+                let (x, y) = boxed_with(alloc, x, y.copy(alloc))?;
                 Ok(ParsedExpr::Union(*op, x, y))
             }
             ParsedExpr::Intersection(op, x, y) => {
-                let x = Box::new(alloc, x.copy(alloc)?)?;
-                let y = Box::new(alloc, y.copy(alloc)?)?;
+                let x = x.copy(alloc)?;
+                let (x, y) = boxed_with(alloc, x, y.copy(alloc))?;
                 Ok(ParsedExpr::Intersection(*op, x, y))
             }
             ParsedExpr::Difference(op, x, y) => {
-                let x = Box::new(alloc, x.copy(alloc)?)?;
-                let y = Box::new(alloc, y.copy(alloc)?)?;
+                let x = x.copy(alloc)?;
+                let (x, y) = boxed_with(alloc, x, y.copy(alloc))?;
                 Ok(ParsedExpr::Difference(*op, x, y))
             }
             ParsedExpr::Parens(x) => {
@@ -60,6 +62,40 @@ impl<S: Copy> ParsedExpr<S> {
     {
         let leaf = leaf.copy(alloc)?;
         Ok(ParsedExpr::Set(leaf))
+    }
+}
+
+/// Two filters, each in memory of its own, where there is a second.
+fn boxed_with<S: Copy>(
+    alloc: Global,
+    left: ParsedExpr<S>,
+    right: Result<ParsedExpr<S>, AllocError>,
+) -> Result<(Box<ParsedExpr<S>>, Box<ParsedExpr<S>>), AllocError>
+    ensures { IfOk result (λ r. (r.0.value ≡ left) × IfOk right (λ x. r.1.value ≡ x)) }
+{
+    match right {
+        Ok(right) => both_boxed(alloc, left, right),
+        Err(refused) => {
+            drop(left);
+            Err(refused)
+        }
+    }
+}
+
+/// Two filters, each in memory of its own.
+pub(crate) fn both_boxed<S: Copy>(
+    alloc: Global,
+    left: ParsedExpr<S>,
+    right: ParsedExpr<S>,
+) -> Result<(Box<ParsedExpr<S>>, Box<ParsedExpr<S>>), AllocError>
+    ensures { IfOk result (λ r. (r.0.value ≡ left) × (r.1.value ≡ right)) }
+{
+    match Box::new(alloc, left) {
+        Ok(left) => Ok((left, Box::new(alloc, right)?)),
+        Err(refused) => {
+            drop(right);
+            Err(AllocError::from(refused))
+        }
     }
 }
 

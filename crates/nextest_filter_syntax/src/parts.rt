@@ -5,7 +5,7 @@ ghost use Rattle.nextest_filter_syntax.specs.Trees.{tree_of};
 ghost use Rattle.nextest_filter_syntax.specs.Grammar.{joined_of};
 ghost use Rattle.nextest_filter_syntax.specs.Reading.{joined_part, leaf_part, negated_part, parens_part, part_of};
 
-use crate::parsed_expr::ParsedExpr;
+use crate::parsed_expr::{ParsedExpr, both_boxed};
 use nextest_filter_faults::{DifferenceOperator, NotOperator};
 use nextest_filter_leaves::ParsedLeaf;
 use nextest_filter_tokens::{Found, Operator};
@@ -54,23 +54,6 @@ pub(crate) fn in_parens(
             Ok(Some(ParsedExpr::Parens(expr)))
         }
         None => Ok(None),
-    }
-}
-
-/// Two expressions, each in memory of its own.
-fn both_boxed(
-    alloc: Global,
-    left: ParsedExpr,
-    right: ParsedExpr,
-) -> Result<(Box<ParsedExpr>, Box<ParsedExpr>), AllocError>
-    ensures { IfOk result (λ r. (r.0.value ≡ left) × (r.1.value ≡ right)) }
-{
-    match Box::new(alloc, left) {
-        Ok(left) => Ok((left, Box::new(alloc, right)?)),
-        Err(refused) => {
-            drop(right);
-            Err(AllocError::from(refused))
-        }
     }
 }
 
