@@ -34,7 +34,7 @@ pub fn explanation_of(
     Ok(Some(entries))
 }
 
-// Goes from the end, and takes each entry whose conclusion is the goal or a premise of one taken.
+// The entries of which each concludes the goal or a premise of a later one, in the order of the account.
 fn needed_entries(
     alloc: Global,
     rules: &[LentRule<'_>],
@@ -47,13 +47,30 @@ fn needed_entries(
     ensures in_order { IfOk result (λ v. IsSublist v.items account.now) }
 {
     let mut needed: IndexSet<&LentFeature<'_>> = IndexSet::new(alloc);
-    insert(&mut needed, goal)?;
+    entries_by(alloc, rules, account, goal, &mut needed)
+}
+
+// Goes from the end, and takes each entry whose conclusion is the goal or a premise of one taken.
+fn entries_by<'r, 'a>(
+    alloc: Global,
+    rules: &'r [LentRule<'a>],
+    account: &[usize],
+    goal: &'r LentFeature<'a>,
+    needed: &mut IndexSet<&'r LentFeature<'a>>,
+) -> Result<Vec<usize>, AllocError>
+    requires sound { IsSound rules.now account.now }
+    requires none_needed { needed.old.keys ≡ [] }
+    ensures none { IfOk result (λ v. v.items ≡ [] → concludes rules.entry.now account.now goal.entry.now ≡ false) }
+    ensures explains { IfOk result (λ v. v.items ≢ [] → IsExplanation rules.entry.now goal.entry.now v.items) }
+    ensures in_order { IfOk result (λ v. IsSublist v.items account.now) }
+{
+    insert(needed, goal)?;
     let mut entries = Vec::new(alloc);
     for place in (0..account.len()).rev() {
         let rule = rule_of(rules, account[place]);
-        if contains(&needed, rule.conclusion()) {
+        if contains(needed, rule.conclusion()) {
             entries.push(account[place])?;
-            insert_premises(&mut needed, rule.premises())?;
+            insert_premises(needed, rule.premises())?;
         }
     }
     entries.reverse();

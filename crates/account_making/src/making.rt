@@ -1,17 +1,18 @@
 //! The account of what is on, by looking at each rule whenever it may have come to stand.
 
-ghost use Rattle.std.specs.Prelude.{◌≡◌, ◌↔◌, IfOk, IsTrue};
+ghost use Rattle.std.specs.Prelude.{◌≡◌, ◌↔◌, [], IfOk, IsTrue, length};
 ghost use Rattle.workspace_record.specs.Features.{FeatureValue};
 ghost use Rattle.feature_account.specs.Accounts.{concludes};
 ghost use Rattle.feature_account.specs.Closed.{IsOn};
 ghost use Rattle.account_making.specs.Lowest.{IsLowestAccount, IsLooksOf};
+ghost use Rattle.account_making.specs.Waiting.{IsEach, IsWaiting};
 
 use crate::account::Account;
 use crate::ready::Ready;
 use crate::waiting::waiting_rules;
 use feature_account::found::{insert, is_open};
 use feature_account::{LentFeature, LentRule, Rule, lend_rules};
-use indexmap::IndexSet;
+use indexmap::{IndexMap, IndexSet};
 use std::alloc::{AllocError, Global};
 
 /// The account that lists at each place the lowest rule that may stand there, until none may.
@@ -34,18 +35,50 @@ pub fn account_of_lent(alloc: Global, rules: &[LentRule<'_>]) -> Result<Account,
     ensures looks { IfOk result (λ a. IsLooksOf rules.now a.rules.items a.looks) }
 {
     let waiting = waiting_rules(alloc, rules)?;
+    account_by(alloc, rules, &waiting)
+}
+
+/// The same, where it is known which rules wait for a feature.
+fn account_by<'r, 'a>(
+    alloc: Global,
+    rules: &'r [LentRule<'a>],
+    waiting: &IndexMap<&'r LentFeature<'a>, Vec<usize>>,
+) -> Result<Account, AllocError>
+    requires waiting { IsWaiting rules.now waiting.now }
+    ensures lowest { IfOk result (λ a. IsLowestAccount rules.entry.now a.rules.items) }
+    ensures on { IfOk result (λ a. (f : FeatureValue) → IsTrue (concludes rules.entry.now a.rules.items f) ↔ IsOn rules.entry.now f) }
+    ensures looks { IfOk result (λ a. IsLooksOf rules.entry.now a.rules.items a.looks) }
+{
     let mut ready = Ready::each(alloc, rules.len());
-    let mut found: IndexSet<&LentFeature<'_>> = IndexSet::new(alloc);
+    let mut found = IndexSet::new(alloc);
+    look_at_each(alloc, rules, waiting, &mut ready, &mut found)
+}
+
+/// Looks at each rule that is ready, and puts those that may stand into the account, until none is ready.
+fn look_at_each<'r, 'a>(
+    alloc: Global,
+    rules: &'r [LentRule<'a>],
+    waiting: &IndexMap<&'r LentFeature<'a>, Vec<usize>>,
+    ready: &mut Ready,
+    found: &mut IndexSet<&'r LentFeature<'a>>,
+) -> Result<Account, AllocError>
+    requires waiting { IsWaiting rules.now waiting.now }
+    requires ready { IsEach (length rules.now) ready.old }
+    requires found { found.old.keys ≡ [] }
+    ensures lowest { IfOk result (λ a. IsLowestAccount rules.entry.now a.rules.items) }
+    ensures on { IfOk result (λ a. (f : FeatureValue) → IsTrue (concludes rules.entry.now a.rules.items f) ↔ IsOn rules.entry.now f) }
+    ensures looks { IfOk result (λ a. IsLooksOf rules.entry.now a.rules.items a.looks) }
+{
     let mut account = Vec::new(alloc);
     let mut looks = 0;
     while let Some(number) = ready.take_least() {
         looks += 1;
         let rule = &rules[number];
-        if is_open(&found, rule) {
+        if is_open(found, rule) {
             let conclusion = rule.conclusion();
-            insert(&mut found, conclusion)?;
+            insert(found, conclusion)?;
             account.push(number)?;
-            ready.wake(&waiting, conclusion)?;
+            ready.wake(waiting, conclusion)?;
         }
     }
     Ok(Account {

@@ -49,15 +49,23 @@ pub(crate) fn reduced<'f>(
         }
         CompiledExpr::Union(x, y) => {
             let (x, next) = reduced(alloc, x, cx, at)?;
-            let (y, end) = reduced(alloc, y, cx, next)?;
-            let ready = either_of(alloc, x, y)?;
-            Ok((ready, end))
+            match reduced(alloc, y, cx, next) {
+                Ok((y, end)) => Ok((either_of(alloc, x, y)?, end)),
+                Err(refused) => {
+                    drop(x);
+                    Err(refused)
+                }
+            }
         }
         CompiledExpr::Intersection(x, y) => {
             let (x, next) = reduced(alloc, x, cx, at)?;
-            let (y, end) = reduced(alloc, y, cx, next)?;
-            let ready = both_of(alloc, x, y)?;
-            Ok((ready, end))
+            match reduced(alloc, y, cx, next) {
+                Ok((y, end)) => Ok((both_of(alloc, x, y)?, end)),
+                Err(refused) => {
+                    drop(x);
+                    Err(refused)
+                }
+            }
         }
         CompiledExpr::Set(leaf) => {
             let ready = reduced_leaf(alloc, leaf, cx, at)?;

@@ -1,11 +1,12 @@
 //! Filters with their names of packages looked up.
 
-ghost use Rattle.std.specs.Prelude.{◌≡◌, ◌++◌, ◌∷◌, [], true, IfOk, OnOk, if◌then◌else◌, map};
+ghost use Rattle.std.specs.Prelude.{◌≡◌, ◌++◌, ◌∷◌, [], Bool, true, IfOk, Ok, OnOk, if◌then◌else◌, map};
 ghost use Rattle.nextest_filter_faults.specs.declared.parse_error.ParseSingleError.TheVariants.{NoFeatureMatch, NoPackageMatch};
 ghost use Rattle.nextest_filter_queries.specs.NameTests.{SuitsOneOf, name_test};
 ghost use Rattle.nextest_filter_queries.specs.Groups.{AreKnown};
 ghost use Rattle.nextest_filter_evaluation.specs.Formulas as formula;
-ghost use Rattle.nextest_filter_evaluation.specs.Formulas.{has_leaf};
+ghost use Rattle.nextest_filter_evaluation.specs.Formulas.{has_leaf, negation};
+ghost use Rattle.nextest_filter_evaluation.specs.declared.compiled_expr.CompiledExpr as made;
 ghost use Rattle.nextest_filter_evaluation.specs.Compiled.{compiled_of, leaf_of};
 ghost use Rattle.nextest_filtering.specs.Acceptance.{names_group};
 ghost use Rattle.nextest_filtering.specs.Compiling.{AddsUnmatched, ArePackages, IsCompiled, IsCompiledLeaf, IsPicked};
@@ -35,34 +36,67 @@ pub(crate) fn compile_expr(
 {
     match expr {
         ParsedExpr::Not(_, x) => {
-            let x = Box::new(alloc, compile_expr(alloc, x, cx, groups, errors)?)?;
+            let x = boxed(alloc, compile_expr(alloc, x, cx, groups, errors))?;
             Ok(CompiledExpr::Not(x))
         }
         ParsedExpr::Union(_, x, y) => {
-            let x = Box::new(alloc, compile_expr(alloc, x, cx, groups, errors)?)?;
-            let y = Box::new(alloc, compile_expr(alloc, y, cx, groups, errors)?)?;
+            let x = compile_expr(alloc, x, cx, groups, errors);
+            let y = compile_expr(alloc, y, cx, groups, errors);
+            let (x, y) = both_boxed(alloc, x, y)?;
             Ok(CompiledExpr::Union(x, y))
         }
         ParsedExpr::Intersection(_, x, y) => {
-            let x = Box::new(alloc, compile_expr(alloc, x, cx, groups, errors)?)?;
-            let y = Box::new(alloc, compile_expr(alloc, y, cx, groups, errors)?)?;
+            let x = compile_expr(alloc, x, cx, groups, errors);
+            let y = compile_expr(alloc, y, cx, groups, errors);
+            let (x, y) = both_boxed(alloc, x, y)?;
             Ok(CompiledExpr::Intersection(x, y))
         }
         ParsedExpr::Difference(_, x, y) => {
-            let x = Box::new(alloc, compile_expr(alloc, x, cx, groups, errors)?)?;
-            let y = Box::new(alloc, compile_expr(alloc, y, cx, groups, errors)?)?;
-            let y = Box::new(alloc, CompiledExpr::Not(y))?;
+            let x = compile_expr(alloc, x, cx, groups, errors);
+            let y = compile_expr(alloc, y, cx, groups, errors);
+            let (x, y) = both_boxed(alloc, x, negated(alloc, y))?;
             Ok(CompiledExpr::Intersection(x, y))
         }
-        ParsedExpr::Parens(x) => {
-            let x = compile_expr(alloc, x, cx, groups, errors)?;
-            Ok(x)
-        }
+        ParsedExpr::Parens(x) => compile_expr(alloc, x, cx, groups, errors),
         ParsedExpr::Set(leaf) => {
             let leaf = compile_leaf(alloc, leaf, cx, groups, errors)?;
             Ok(CompiledExpr::Set(leaf))
         }
     }
+}
+
+/// A filter in memory of its own, if it was made.
+fn boxed(
+    alloc: Global,
+    x: Result<CompiledExpr, AllocError>,
+) -> Result<Box<CompiledExpr>, AllocError>
+    ensures { IfOk result (λ b. x ≡ Ok b.value) }
+{
+    let x = Box::new(alloc, x?)?;
+    Ok(x)
+}
+
+/// Two filters, each in memory of its own, if both were made.
+fn both_boxed(
+    alloc: Global,
+    x: Result<CompiledExpr, AllocError>,
+    y: Result<CompiledExpr, AllocError>,
+) -> Result<(Box<CompiledExpr>, Box<CompiledExpr>), AllocError>
+    ensures { IfOk result (λ r. (x ≡ Ok r.0.value) × (y ≡ Ok r.1.value)) }
+{
+    let (x, y) = (boxed(alloc, x).ok(), boxed(alloc, y).ok());
+    x.zip(y).ok_or(AllocError)
+}
+
+/// The negation of a filter, if that was made.
+fn negated(
+    alloc: Global,
+    x: Result<CompiledExpr, AllocError>,
+) -> Result<CompiledExpr, AllocError>
+    ensures { IfOk result (λ r. (c : made.CompiledExpr) × (x ≡ Ok c) × (compiled_of r ≡ negation (compiled_of c))) }
+{
+    let x = boxed(alloc, x)?;
+    Ok(CompiledExpr::Not(x))
 }
 
 #[inline(never)]
@@ -79,33 +113,30 @@ fn compile_leaf(
 {
     match leaf {
         ParsedLeaf::Package(matcher, span) => {
-            let packages = packages_of(alloc, matcher, *span, cx, None, errors)?;
-            Ok(packages)
+            packages_of(alloc, matcher, *span, cx, None, errors)
         }
         ParsedLeaf::Deps(matcher, span) => {
             let direction = Some(DependencyDirection::Forward);
-            let packages = packages_of(alloc, matcher, *span, cx, direction, errors)?;
-            Ok(packages)
+            packages_of(alloc, matcher, *span, cx, direction, errors)
         }
         ParsedLeaf::Rdeps(matcher, span) => {
             let direction = Some(DependencyDirection::Reverse);
-            let packages = packages_of(alloc, matcher, *span, cx, direction, errors)?;
-            Ok(packages)
+            packages_of(alloc, matcher, *span, cx, direction, errors)
         }
         ParsedLeaf::Kind(matcher, span) => {
             let matcher = same_matcher(alloc, matcher)?;
             Ok(FiltersetLeaf::Kind(matcher, *span))
         }
         ParsedLeaf::Binary(matcher, span) => {
-            let is_some = cx.has_binary_name(alloc, matcher)?;
-            expect(is_some, ParseSingleError::NoBinaryNameMatch(*span), errors)?;
-            let matcher = same_matcher(alloc, matcher)?;
+            let is_some = cx.has_binary_name(alloc, matcher);
+            let fault = ParseSingleError::NoBinaryNameMatch(*span);
+            let matcher = expected_matcher(alloc, matcher, is_some, fault, errors)?;
             Ok(FiltersetLeaf::Binary(matcher, *span))
         }
         ParsedLeaf::BinaryId(matcher, span) => {
-            let is_some = cx.has_binary_id(alloc, matcher)?;
-            expect(is_some, ParseSingleError::NoBinaryIdMatch(*span), errors)?;
-            let matcher = same_matcher(alloc, matcher)?;
+            let is_some = cx.has_binary_id(alloc, matcher);
+            let fault = ParseSingleError::NoBinaryIdMatch(*span);
+            let matcher = expected_matcher(alloc, matcher, is_some, fault, errors)?;
             Ok(FiltersetLeaf::BinaryId(matcher, *span))
         }
         ParsedLeaf::Platform(platform, span) => Ok(FiltersetLeaf::Platform(*platform, *span)),
@@ -114,19 +145,31 @@ fn compile_leaf(
             Ok(FiltersetLeaf::Test(matcher, *span))
         }
         ParsedLeaf::Group(matcher, span) => {
-            let is_some = groups.matches(alloc, matcher)?;
-            expect(is_some, ParseSingleError::NoGroupMatch(*span), errors)?;
-            let matcher = same_matcher(alloc, matcher)?;
+            let is_some = groups.matches(alloc, matcher);
+            let fault = ParseSingleError::NoGroupMatch(*span);
+            let matcher = expected_matcher(alloc, matcher, is_some, fault, errors)?;
             Ok(FiltersetLeaf::Group(matcher, *span))
         }
-        ParsedLeaf::Feature(matcher, span) => {
-            let packages = featured_of(alloc, matcher, *span, cx, errors)?;
-            Ok(packages)
-        }
+        ParsedLeaf::Feature(matcher, span) => featured_of(alloc, matcher, *span, cx, errors),
         ParsedLeaf::Default(_) => Ok(FiltersetLeaf::Default),
         ParsedLeaf::All => Ok(FiltersetLeaf::All),
         ParsedLeaf::None => Ok(FiltersetLeaf::None),
     }
+}
+
+/// An equal matcher. Adds the fault, unless something was found.
+fn expected_matcher(
+    alloc: Global,
+    matcher: &NameMatcher,
+    is_some: Result<bool, AllocError>,
+    fault: ParseSingleError,
+    errors: &mut Vec<ParseSingleError>,
+) -> Result<NameMatcher, AllocError>
+    ensures same { IfOk result (λ m. name_test m ≡ name_test matcher.now) }
+    ensures faults { OnOk result ((b : Bool) × (is_some ≡ Ok b) × (errors.new.items ≡ errors.old.items ++ (if b then [] else fault ∷ []))) }
+{
+    expect(is_some?, fault, errors)?;
+    same_matcher(alloc, matcher)
 }
 
 /// Adds the fault, unless something was found.

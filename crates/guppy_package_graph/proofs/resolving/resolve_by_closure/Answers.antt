@@ -2,7 +2,7 @@ use Rattle.std.proofs.Common.{◌≡◌, ◌++◌, ◌∷◌, [], subst, sym}
 use Rattle.numbered_graph.specs.Walks.{Shown}
 use Rattle.guppy_package_graph.specs.Closures.{AsksClosure}
 use Rattle.guppy_package_graph.specs.Visits.{Chain}
-use Rattle.guppy_package_graph.proofs.ResolveFacts.{Chain-push, shown_then, walk_more}
+use Rattle.guppy_package_graph.proofs.ResolveFacts.{Chain-push, resolved, shown_then, walk_more}
 use Rattle.guppy_package_graph.proofs.resolving.resolve_by_closure.Goals as goal
 
 pub loop-number-preserved : goal.loop-number-preserved
@@ -21,3 +21,10 @@ loop-number-preserved g c =
           (Chain-push R w.shown c.args.accepts.now c.loop-number.accepts c.ask_closure-accepted.new.accepts number accepted was.chain c.ask_closure-accepted.ensures.asks);
       callable = c.ask_closure-accepted.ensures.callable;
     }
+
+pub returns-clause-ok : goal.returns-clause-ok
+returns-clause-ok g c =
+    let was = c.loop-number.invariant in
+    let none = c.in_default.ensures in
+    let included = c.into_included.ensures in
+    (c.loop-number.walk.shown, resolved c.args.query.now c.loop-number.walk c.take.new.self c.into_included.result was.walk none.kept none.all included.sized included.included, was.chain)

@@ -2,7 +2,7 @@ use Rattle.std.proofs.Common.{◌≡◌, ◌++◌, ◌∷◌, [], subst, sym}
 use Rattle.numbered_graph.specs.Walks.{Shown}
 use Rattle.guppy_package_graph.specs.Resolves.{shown_to}
 use Rattle.guppy_package_graph.specs.Visits.{Chain}
-use Rattle.guppy_package_graph.proofs.ResolveFacts.{SameSteps-trans, shown_more, shown_then, walk_more}
+use Rattle.guppy_package_graph.proofs.ResolveFacts.{SameSteps-trans, resolved, shown_more, shown_then, walk_more}
 use Rattle.guppy_package_graph.proofs.resolving.resolve_by_visitor.Goals as goal
 
 pub loop-number-preserved : goal.loop-number-preserved
@@ -24,3 +24,10 @@ loop-number-preserved g c =
           (was.same.back _ _ _ _ c.ask-accepted.ensures.step));
       same = SameSteps-trans was.same c.ask-accepted.ensures.same;
     }
+
+pub returns-clause-ok : goal.returns-clause-ok
+returns-clause-ok g c =
+    let was = c.loop-number.invariant in
+    let none = c.in_default.ensures in
+    let included = c.into_included.ensures in
+    (c.loop-number.walk.shown, resolved c.args.query.now c.loop-number.walk c.take.new.self c.into_included.result was.walk none.kept none.all included.sized included.included, was.chain)

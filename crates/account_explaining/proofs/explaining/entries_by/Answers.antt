@@ -4,7 +4,7 @@ use Rattle.feature_account.specs.Closed.{is_premise}
 use Rattle.feature_account.specs.Found.{found_set}
 use Rattle.feature_account.proofs.ExplanationFacts.{number_known}
 use Rattle.account_explaining.proofs.Selecting.{Selects, skip_step, keep_step}
-use Rattle.account_explaining.proofs.explaining.needed_entries.Goals as goal
+use Rattle.account_explaining.proofs.explaining.entries_by.Goals as goal
 
 pub rule_of-rule-requires : goal.rule_of-rule-requires
 rule_of-rule-requires c = record {

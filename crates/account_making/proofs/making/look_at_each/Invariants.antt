@@ -3,7 +3,7 @@ use Rattle.feature_account.specs.Accounts.{conclusions}
 use Rattle.account_making.specs.Waiting.{size}
 use Rattle.account_making.proofs.Concluding.{left_out}
 use Rattle.account_making.proofs.SearchFacts.{Keeps}
-use Rattle.account_making.proofs.making.account_of_lent.Given as goal
+use Rattle.account_making.proofs.making.look_at_each.Given as goal
 
 abbrev pub invariant-loop-number : goal.invariant-loop-number
 invariant-loop-number l = Keeps l.rules l.ready l.found l.account.items l.looks
