@@ -7,6 +7,8 @@ use Rattle.list_facts.proofs.Membership.{Contains-none, Contains-first, Contains
 use Rattle.std.proofs.lemmas.List.{take_more, drop_more}
 use Rattle.std.specs.BTreeSet.{insert_key}
 use Rattle.workspace_record.specs.Records.{Text}
+use Rattle.nextest_filter_queries.specs.NameTests.{NameTest, Suits, SuitsOneOf}
+use Rattle.nextest_filter_queries.proofs.NameFacts.{suits_first, suits_none}
 use Rattle.nextest_filtering.specs.ContextViews.{ArePicked}
 
 -- what one more element adds
@@ -53,3 +55,11 @@ one_less xs i d x lt e = drop_more xs i d lt ∙ ap (λ y. y ∷ drop (i + 1) xs
 
 pub more_of : {X Y : Type 0} (f : X → Y) (xs : List X) (i : ℕ) (d x : X) → i < length xs → x ≡ get_or xs i d → map f (take (i + 1) xs) ≡ map f (take i xs) ++ f x ∷ []
 more_of f xs i d x lt e = ap (map f) (one_more xs i d x lt e) ∙ map-append f (take i xs) (x ∷ [])
+
+-- the first of the names that are left suits, and so one of all
+pub found_first : (t : NameTest) (all left : List Text) (x : Text) (rest : List Text) (b : Bool) → left ≡ x ∷ rest → (IsTrue b ↔ Suits t x) → IsTrue b → SuitsOneOf t all ↔ SuitsOneOf t left → IsTrue true ↔ SuitsOneOf t all
+found_first t all left x rest b e says suited h = (λ here. h.1 (subst (SuitsOneOf t) (sym e) (suits_first t x rest (says.0 suited))), λ s. refl)
+
+-- no name is left, and so none of all suits
+pub found_none : (t : NameTest) (all left : List Text) → left ≡ [] → SuitsOneOf t all ↔ SuitsOneOf t left → IsTrue false ↔ SuitsOneOf t all
+found_none t all left e h = (λ no. absurd (true≢false (sym no)), λ s. absurd (suits_none t left e (h.0 s)))

@@ -46,3 +46,13 @@ returns-clause-accepted c =
     let none = ap (λ xs. xs ++ bans c.args.kind f) c.new-bans.ensures.items in
     let no_bans = sym (c.in_ok-push_bans.ensures ∙ none) ∙ no_items v.items v.len v.ok.0 (none_in _ _ c.is_empty-2.ensures c.if-not-is_empty-2.false) in
     accepted c.args.cx.now c.args.known_groups.now c.args.kind f _ no_bans (added_alone c.args.cx.now c.args.known_groups.now c.in-Some.parsed _ _ c.new-unmatched.ensures.items c.in_ok-compiled.ensures.faults) (no_items w.items w.len w.ok.0 (none_in _ _ c.is_empty-3.ensures c.if-not-is_empty-3.false))
+
+pub returns-clause-reads : goal.returns-clause-reads
+returns-clause-reads c =
+    read_as (string_bytes c.args.input) _ c.in_ok-tree.tree c.in-Some.parsed c.as_str.ensures.value c.in-Some.is (c.in_ok-tree.ensures.exact.0 (none_in _ _ c.is_empty.ensures c.if-not-is_empty.false))
+
+pub returns-clause-as_written : goal.returns-clause-as_written
+returns-clause-as_written c = rw c.in-Some.is at c.in_ok-tree.ensures.as_written
+
+pub returns-clause-compiled : goal.returns-clause-compiled
+returns-clause-compiled c = c.in_ok-compiled.ensures.compiled

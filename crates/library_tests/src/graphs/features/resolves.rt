@@ -1,5 +1,5 @@
-use crate::features::graphs::{Question, answer_to, id_of};
-use crate::features::visitors::{Follows, FollowsOptional};
+use crate::graphs::features::graphs::{Question, answer_to, id_of};
+use crate::graphs::features::visitors::{Follows, FollowsOptional};
 use guppy_feature_graph::{
     ConditionalLink, FeatureGraph, FeatureGraphData, FeatureId, FeatureLinkContext,
     FeatureLinkVisitor, FeatureQuery, LinkDeclarations,

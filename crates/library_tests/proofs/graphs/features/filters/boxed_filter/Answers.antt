@@ -1,8 +1,8 @@
 use Rattle.std.proofs.Common.{subst, sym}
 use base.Stored.{Gv}
 use denote.Param.Object.{Made}
-use Rattle.graph_tests.proofs.features.filters.boxed_filter.OwnLists as own
-use Rattle.graph_tests.proofs.features.filters.boxed_filter.Goals as goal
+use Rattle.library_tests.proofs.graphs.features.filters.boxed_filter.OwnLists as own
+use Rattle.library_tests.proofs.graphs.features.filters.boxed_filter.Goals as goal
 
 -- what holds of each value of the type that was boxed holds of the value in the box
 of_made : {X Y : Type 0} {F : X → Type 0} {code : (i : X) → F i → Gv} {coded : Y → Gv} {at i : X} {y : F i} {x : Y} (P : (i : X) → F i → Type 0) → Made code coded at i y x → ((z : F at) → P at z) → P i y

@@ -1,4 +1,4 @@
-use Rattle.graph_tests.proofs.packages.resolves.counts_looks.Given as goal
+use Rattle.library_tests.proofs.graphs.packages.resolves.counts_looks.Given as goal
 
 -- the ledger of the blank
 abbrev pub ghosts-counted : goal.ghosts-counted

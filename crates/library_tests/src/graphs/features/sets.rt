@@ -1,6 +1,6 @@
 //! Sets that closures divide, and what is said of unknown features.
 
-use crate::features::graphs::{Question, answer_to, id_of};
+use crate::graphs::features::graphs::{Question, answer_to, id_of};
 use guppy_feature_graph::{FeatureGraph, FeatureGraphData, FeatureId, FeatureMetadata, FeatureSet};
 use guppy_package_graph::{DependencyDirection, Error};
 use std::alloc::Global;

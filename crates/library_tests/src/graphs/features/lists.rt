@@ -1,6 +1,6 @@
 //! Lists of features that are given up.
 
-use crate::features::graphs::{Question, answer_to, id_of};
+use crate::graphs::features::graphs::{Question, answer_to, id_of};
 use guppy_feature_graph::{FeatureGraph, FeatureGraphData, FeatureList};
 use std::alloc::Global;
 use std::process::Abort;

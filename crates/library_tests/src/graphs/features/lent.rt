@@ -1,7 +1,7 @@
 //! What sets, lists and cycles lend lives as long as their graph; what is copied, compared and printed of
 //! them.
 
-use crate::features::graphs::{Question, answer_to, id_of};
+use crate::graphs::features::graphs::{Question, answer_to, id_of};
 use guppy_feature_graph::{
     FeatureGraph, FeatureGraphData, FeatureId, FeatureList, FeatureMetadata, FeatureQuery,
     FeatureSet,

@@ -1,4 +1,4 @@
-use crate::packages::graphs::{FEWER, TRIANGLE, TURNED, graph_of};
+use crate::graphs::packages::graphs::{FEWER, TRIANGLE, TURNED, graph_of};
 use std::alloc::Global;
 use std::process::Abort;
 

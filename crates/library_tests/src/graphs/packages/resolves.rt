@@ -1,7 +1,7 @@
 ghost use Rattle.std.specs.Prelude.{◌≡◌, ◌<◌};
 
-use crate::packages::graphs::{FOR_TESTS, TRIANGLE, graph_of, id_of};
-use crate::packages::visitors::{Alternates, Follows, FollowsFirm};
+use crate::graphs::packages::graphs::{FOR_TESTS, TRIANGLE, graph_of, id_of};
+use crate::graphs::packages::visitors::{Alternates, Follows, FollowsFirm};
 use guppy_package_graph::{
     PackageGraph, PackageLink, PackageLinkContext, PackageLinkVisitor, PackageQuery,
 };

@@ -1,6 +1,6 @@
 //! Filters that stand alone, boxed, lent and round a base, and closures.
 
-use crate::features::graphs::{Question, answer_to, id_of};
+use crate::graphs::features::graphs::{Question, answer_to, id_of};
 use guppy_feature_graph::{
     FeatureFilter, FeatureFilterFn, FeatureGraph, FeatureGraphData, FeatureId, StandardFeatures,
     feature_id_filter, named_feature_filter, query_to_feature_query, set_to_feature_set,
