@@ -1,6 +1,6 @@
 //! The rules of a record, a choice and a table, each with what it comes from.
 
-ghost use Rattle.std.specs.Prelude.{◌≡◌, ◌++◌, IfOk, OnOk, flat_map, map, string_bytes};
+ghost use Rattle.std.specs.Prelude.{◌≡◌, ◌++◌, [], IfOk, OnOk, flat_map, map, string_bytes};
 ghost use Rattle.feature_account.specs.RuleList.{given};
 ghost use Rattle.feature_reasons.specs.SourceViews.{source_view, sourced_view};
 ghost use Rattle.feature_reasons.specs.Sources.{Chosen, from_source, sourced_entries, sourced_entry, sourced_feature, sourced_link, sourced_package, sourced_rules};
@@ -28,11 +28,26 @@ pub fn sourced_rules<'r>(
 {
     let index = RecordIndex::of(alloc, record)?;
     let mut sourced = Vec::new(alloc);
-    push_chosen(chosen_features(alloc, record, choice)?, &mut sourced)?;
-    push_packages(alloc, index.packages(), &mut sourced)?;
-    push_packages_entries(alloc, &index, table, index.packages(), &mut sourced)?;
-    push_links(alloc, &index, table, &record.links, &mut sourced)?;
-    Ok(sourced)
+    let pushed = push_rules(alloc, &index, choice, table, &mut sourced);
+    pushed.and(Ok(sourced))
+}
+
+/// Adds all rules to an empty list.
+fn push_rules<'r>(
+    alloc: Global,
+    index: &RecordIndex<'r>,
+    choice: &FeatureChoice,
+    table: &PlatformTable,
+    sourced: &mut Vec<SourcedRule<'r>>,
+) -> Result<(), AllocError>
+    requires { sourced.old.items ≡ [] }
+    ensures { OnOk result (map sourced_view sourced.new.items ≡ sourced_rules index.now choice.now table.now) }
+{
+    let record = index.record();
+    push_chosen(chosen_features(alloc, record, choice)?, sourced)?;
+    push_packages(alloc, index.packages(), sourced)?;
+    push_packages_entries(alloc, index, table, index.packages(), sourced)?;
+    push_links(alloc, index, table, &record.links, sourced)
 }
 
 /// Adds the rules, which come from the source.

@@ -27,7 +27,19 @@ pub fn print_verdict<'a, O: Write>(
 {
     let question = feature_question(alloc, named_files(asked), files)?;
     let account = account_in(alloc, account_file(asked), files)?;
-    let verdict = verdict_on(alloc, &question, &account)?;
+    print_verdict_on(alloc, &question, &account, out)
+}
+
+/// Prints what is to be said of the file, and denies one that is refused.
+fn print_verdict_on<'a, O: Write>(
+    alloc: Global,
+    question: &FeatureQuestion,
+    account: &AccountFile,
+    out: &mut O,
+) -> Result<(), RunFailure<'a>>
+    ensures status { IfErr result (λ f. status_of f ≡ 1) }
+{
+    let verdict = verdict_on(alloc, question, account)?;
     write_verdict(alloc, verdict, out)?;
     match verdict {
         Verdict::Accepted => Ok(()),

@@ -1,6 +1,6 @@
 //! A record that keeps the rules, with what is found in it while it is tested.
 
-ghost use Rattle.std.specs.Prelude.{◌≡◌, Ok, map};
+ghost use Rattle.std.specs.Prelude.{◌≡◌, Err, IfErr, IfOk, Ok, map};
 ghost use Rattle.package_rules.specs.Kept.{AreKept};
 ghost use Rattle.record_rules.specs.Binaries.{binaries};
 ghost use Rattle.record_rules.specs.BinaryView.{binary_view};
@@ -84,9 +84,8 @@ impl<'r> CheckedRecord<'r> {
         ensures { ChecksRecord «record».entry.now result }
     {
         let index = RecordIndex::of(alloc, record)?;
-        let binaries = binaries(alloc, record)?;
-        match check_parts(alloc, &index, &graph, &binaries) {
-            Ok(()) => Ok(CheckedRecord {
+        match checked_binaries(alloc, &index, &graph) {
+            Ok(binaries) => Ok(CheckedRecord {
                 index,
                 graph,
                 binaries,
@@ -146,6 +145,26 @@ impl<'r> CheckedRecord<'r> {
             binaries,
         } = self;
         binaries
+    }
+}
+
+/// The test binaries of a record, once the further rules and that on filters are tested. The rules on
+/// packages, links and members are kept.
+fn checked_binaries<'r>(
+    alloc: Global,
+    index: &RecordIndex<'r>,
+    graph: &PackageGraph,
+) -> Result<Vec<TestBinary<'r>>, RecordError>
+    requires kept { AreKept index.now.packages index.now.links index.now.workspace }
+    requires declared { IsDeclaredGraph index.now graph.now }
+    ensures binaries { IfOk result (λ all. map binary_view all.items ≡ binaries index.now) }
+    ensures checked { IfOk result (λ _. IsChecked index.now (Ok tt)) }
+    ensures refused { IfErr result (λ e. IsChecked index.now (Err e)) }
+{
+    let binaries = binaries(alloc, index.record())?;
+    match check_parts(alloc, index, graph, &binaries) {
+        Ok(()) => Ok(binaries),
+        Err(refused) => Err(refused),
     }
 }
 
