@@ -179,12 +179,12 @@ fn push_resolved(
 {
     match found {
         Resolution::To(to) => Ok(push_line(alloc, links, start, id, to, dependency)?),
-        Resolution::Several => Err(ambiguous(alloc, id, dependency.name())?),
+        Resolution::Several => Err(ambiguous(alloc, id, dependency.name())),
         Resolution::Nothing if !is_optional(dependency) => {
-            Err(no_dependency(alloc, id, dependency.name())?)
+            Err(no_dependency(alloc, id, dependency.name()))
         }
         Resolution::Nothing if index.is_member(id) => {
-            Err(no_optional(alloc, id, dependency.name())?)
+            Err(no_optional(alloc, id, dependency.name()))
         }
         Resolution::Nothing => Ok(()),
     }
@@ -196,22 +196,32 @@ fn is_optional(dependency: &Dependency) -> bool
     dependency.line.optional
 }
 
-fn ambiguous(alloc: Global, id: &str, name: &str) -> Result<RecordFault, AllocError> {
-    let id = String::from_str(alloc, id)?;
-    let name = String::from_str(alloc, name)?;
-    Ok(RecordFault::Ambiguous(id, name))
+fn ambiguous(alloc: Global, id: &str, name: &str) -> RecordFault {
+    match copies(alloc, id, name) {
+        Ok((id, name)) => RecordFault::Ambiguous(id, name),
+        Err(_) => RecordFault::Memory,
+    }
 }
 
-fn no_dependency(alloc: Global, id: &str, name: &str) -> Result<RecordFault, AllocError> {
-    let id = String::from_str(alloc, id)?;
-    let name = String::from_str(alloc, name)?;
-    Ok(RecordFault::NoDependency(id, name))
+fn no_dependency(alloc: Global, id: &str, name: &str) -> RecordFault {
+    match copies(alloc, id, name) {
+        Ok((id, name)) => RecordFault::NoDependency(id, name),
+        Err(_) => RecordFault::Memory,
+    }
 }
 
-fn no_optional(alloc: Global, id: &str, name: &str) -> Result<RecordFault, AllocError> {
+fn no_optional(alloc: Global, id: &str, name: &str) -> RecordFault {
+    match copies(alloc, id, name) {
+        Ok((id, name)) => RecordFault::NoOptional(id, name),
+        Err(_) => RecordFault::Memory,
+    }
+}
+
+/// The id of a package and the name of its dependency, in memory of their own.
+fn copies(alloc: Global, id: &str, name: &str) -> Result<(String, String), AllocError> {
     let id = String::from_str(alloc, id)?;
     let name = String::from_str(alloc, name)?;
-    Ok(RecordFault::NoOptional(id, name))
+    Ok((id, name))
 }
 
 /// Adds a line to the link of its name and package, which is the one from the place on, or a new one.

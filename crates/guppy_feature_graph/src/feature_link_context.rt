@@ -6,9 +6,10 @@ ghost use Rattle.guppy_feature_views.specs.Views.{link_view};
 use crate::feature_query::FeatureQuery;
 use guppy_feature_views::ConditionalLink;
 use guppy_package_graph::DependencyDirection;
+use std::fmt;
 
 /// The query for which a link is shown.
-#[derive(Clone, Copy, Debug)]
+#[derive(Clone, Copy)]
 pub struct FeatureLinkContext<'a> {
     query: &'a FeatureQuery<'a>,
 }
@@ -43,5 +44,13 @@ impl<'a> FeatureLinkContext<'a> {
             DependencyDirection::Reverse => link.to().node(),
         };
         self.query.starts_from(near)
+    }
+}
+
+impl fmt::Debug for FeatureLinkContext<'_> {
+    fn fmt<W: fmt::Write>(&self, f: &mut fmt::Formatter<W>) -> fmt::Result {
+        f.debug_struct("FeatureLinkContext")
+            .field("direction", &self.direction())
+            .finish_non_exhaustive()
     }
 }

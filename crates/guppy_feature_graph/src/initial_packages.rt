@@ -8,7 +8,7 @@ ghost use Rattle.guppy_feature_graph.specs.Queries.{AreInitials};
 use crate::feature_query::FeatureQuery;
 use crate::feature_set::FeatureSet;
 use crate::features_for::has_feature_of;
-use guppy_package_graph::{AllPackages, PackageMetadata};
+use guppy_package_graph::{AllPackages, PackageMetadata, write_entries};
 use std::fmt;
 
 /// The packages that have a feature in a set, each once in the order of the record.
@@ -54,6 +54,6 @@ impl<'g> Iterator for InitialPackages<'g, '_> {
 /// Lists what is still to come.
 impl fmt::Debug for InitialPackages<'_, '_> {
     fn fmt<W: fmt::Write>(&self, f: &mut fmt::Formatter<W>) -> fmt::Result {
-        f.debug_list().entries(*self).finish()
+        write_entries(f, *self)
     }
 }

@@ -2,6 +2,7 @@ ghost use Rattle.std.specs.Prelude.{◌<◌, All, length};
 
 use crate::feature_ids_at::FeatureIdsAt;
 use guppy_feature_nodes::FeatureGraphData;
+use guppy_package_graph::write_entries;
 use std::fmt;
 
 /// The cycles of a graph, each as the ids of its features, from both ends.
@@ -69,6 +70,6 @@ impl ExactSizeIterator for AllCycles<'_, '_> {
 /// Lists what is still to come.
 impl fmt::Debug for AllCycles<'_, '_> {
     fn fmt<W: fmt::Write>(&self, f: &mut fmt::Formatter<W>) -> fmt::Result {
-        f.debug_list().entries(*self).finish()
+        write_entries(f, *self)
     }
 }

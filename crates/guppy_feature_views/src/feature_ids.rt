@@ -2,6 +2,7 @@ ghost use Rattle.std.specs.Prelude.{◌<◌, All, length};
 ghost use Rattle.numbered_graph.specs.ListedViews.{listed_left};
 
 use guppy_feature_nodes::{FeatureGraphData, FeatureId};
+use guppy_package_graph::write_entries;
 use numbered_graph::Listed;
 use std::fmt;
 
@@ -70,6 +71,6 @@ impl ExactSizeIterator for FeatureIds<'_, '_> {
 /// Lists what is still to come.
 impl fmt::Debug for FeatureIds<'_, '_> {
     fn fmt<W: fmt::Write>(&self, f: &mut fmt::Formatter<W>) -> fmt::Result {
-        f.debug_list().entries(*self).finish()
+        write_entries(f, *self)
     }
 }

@@ -1,6 +1,7 @@
 ghost use Rattle.std.specs.Prelude.{◌<◌, All, length};
 
 use guppy_feature_nodes::{FeatureGraphData, FeatureId};
+use guppy_package_graph::write_entries;
 use std::fmt;
 
 /// The ids of features of a graph, one after the other.
@@ -56,6 +57,6 @@ impl ExactSizeIterator for FeatureIdsAt<'_, '_> {
 /// Lists what is still to come.
 impl fmt::Debug for FeatureIdsAt<'_, '_> {
     fn fmt<W: fmt::Write>(&self, f: &mut fmt::Formatter<W>) -> fmt::Result {
-        f.debug_list().entries(*self).finish()
+        write_entries(f, *self)
     }
 }

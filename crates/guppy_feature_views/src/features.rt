@@ -3,6 +3,7 @@ ghost use Rattle.numbered_graph.specs.ListedViews.{listed_left};
 
 use crate::feature_metadata::FeatureMetadata;
 use guppy_feature_nodes::FeatureGraphData;
+use guppy_package_graph::write_entries;
 use numbered_graph::Listed;
 use std::fmt;
 
@@ -71,6 +72,6 @@ impl ExactSizeIterator for Features<'_, '_> {
 /// Lists what is still to come.
 impl fmt::Debug for Features<'_, '_> {
     fn fmt<W: fmt::Write>(&self, f: &mut fmt::Formatter<W>) -> fmt::Result {
-        f.debug_list().entries(*self).finish()
+        write_entries(f, *self)
     }
 }

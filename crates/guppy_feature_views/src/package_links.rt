@@ -1,6 +1,6 @@
 ghost use Rattle.std.specs.Prelude.{◌<◌, All, length};
 
-use guppy_package_graph::{PackageGraph, PackageLink};
+use guppy_package_graph::{PackageGraph, PackageLink, write_entries};
 use std::fmt;
 
 /// Links between packages, one after the other.
@@ -55,6 +55,6 @@ impl ExactSizeIterator for PackageLinks<'_> {
 /// Lists what is still to come.
 impl fmt::Debug for PackageLinks<'_> {
     fn fmt<W: fmt::Write>(&self, f: &mut fmt::Formatter<W>) -> fmt::Result {
-        f.debug_list().entries(*self).finish()
+        write_entries(f, *self)
     }
 }

@@ -2,8 +2,8 @@ ghost use Rattle.std.specs.Iterator.{IsFinite};
 
 use std::fmt;
 
-/// Lists what an iterator yields.
-pub(crate) fn write_entries<T: fmt::Debug + Drop, I: Iterator<Item = T>, W: fmt::Write>(
+/// Lists what an iterator yields, as the `Debug` of a list does.
+pub fn write_entries<T: fmt::Debug + Drop, I: Iterator<Item = T>, W: fmt::Write>(
     f: &mut fmt::Formatter<W>,
     entries: I,
 ) -> fmt::Result

@@ -46,6 +46,7 @@ pub use crate::all_packages::AllPackages;
 pub use crate::cycles::Cycles;
 pub use crate::depends_cache::DependsCache;
 pub use crate::direct_links::DirectLinks;
+pub use crate::entries::write_entries;
 pub use crate::members_by_name::MembersByName;
 pub use crate::members_by_path::MembersByPath;
 pub use crate::package_graph::PackageGraph;
