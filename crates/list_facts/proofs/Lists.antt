@@ -1,5 +1,5 @@
 -- Lists made of other lists in two steps, and one element more.
-use Rattle.std.proofs.Common.{◌≡◌, ℕ, ◌+◌, ◌<◌, Bool, true, false, cond, ◌&&◌, List, [], ◌∷◌, ◌++◌, length, get_or, take, map, refl, sym, ◌∙◌, ap, append-nil, filter, flat_map}
+use Rattle.std.proofs.Common.{◌≡◌, ℕ, ◌+◌, ◌<◌, Bool, true, false, cond, ◌&&◌, List, [], ◌∷◌, ◌++◌, length, get_or, take, map, refl, sym, ◌∙◌, ap, append-nil, append_assoc, filter, flat_map}
 use Rattle.std.proofs.lemmas.List.{map-append, take_more}
 pub use Rattle.std.proofs.lemmas.List.Concat.{flat_map-append, flat_map_single}
 pub use Rattle.std.proofs.lemmas.List.Folds.{flat_map-map}
@@ -49,3 +49,18 @@ module _ {X Y : Type 0} where
 
   pub flat_map-take_more : (f : X → List Y) (xs : List X) (i : ℕ) (d : X) → i < length xs → flat_map f (take (i + 1) xs) ≡ flat_map f (take i xs) ++ f (get_or xs i d)
   flat_map-take_more f xs i d lt = ap (flat_map f) (take_more xs i d lt) ∙ flat_map-append f (take i xs) (get_or xs i d ∷ []) ∙ ap (λ ys. flat_map f (take i xs) ++ ys) (append-nil (f (get_or xs i d)))
+
+-- one element more of both lists
+module _ {X Y Z : Type 0} (g : Y → Z) (h : X → Z) where
+  pub both_more : (ys new : List Y) (y : Y) (xs : List X) (i : ℕ) (d : X) → i < length xs → new ≡ ys ++ y ∷ [] → g y ≡ h (get_or xs i d) → map g ys ≡ map h (take i xs) → map g new ≡ map h (take (i + 1) xs)
+  both_more ys new y xs i d lt is same before = ap (map g) is ∙ map-append g ys (y ∷ []) ∙ ap (λ z. map g ys ++ z ∷ []) same ∙ ap (λ zs. zs ++ h (get_or xs i d) ∷ []) before ∙ sym (map-take_more h xs i d lt)
+
+-- one element more, and what it adds
+module _ {X Z : Type 0} where
+  pub mapped_more : (h : X → Z) (old new : List Z) (y : Z) (xs : List X) (i : ℕ) (d : X) → i < length xs → new ≡ old ++ y ∷ [] → y ≡ h (get_or xs i d) → old ≡ map h (take i xs) → new ≡ map h (take (i + 1) xs)
+  mapped_more h old new y xs i d lt is same before = is ∙ ap (λ z. old ++ z ∷ []) same ∙ ap (λ zs. zs ++ h (get_or xs i d) ∷ []) before ∙ sym (map-take_more h xs i d lt)
+
+  pub flat_more : (h : X → List Z) (base old new : List Z) (x : X) (xs : List X) (i : ℕ) (d : X) → i < length xs → x ≡ get_or xs i d → new ≡ old ++ h x → old ≡ base ++ flat_map h (take i xs) → new ≡ base ++ flat_map h (take (i + 1) xs)
+  flat_more h base old new x xs i d lt at is before =
+      let here = ap (λ y. flat_map h (take i xs) ++ h y) at ∙ sym (flat_map-take_more h xs i d lt) in
+      is ∙ ap (λ zs. zs ++ h x) before ∙ append_assoc base (flat_map h (take i xs)) (h x) ∙ ap (λ zs. base ++ zs) here

@@ -89,10 +89,7 @@ fn both_boxed(
 }
 
 /// The negation of a filter, if that was made.
-fn negated(
-    alloc: Global,
-    x: Result<CompiledExpr, AllocError>,
-) -> Result<CompiledExpr, AllocError>
+fn negated(alloc: Global, x: Result<CompiledExpr, AllocError>) -> Result<CompiledExpr, AllocError>
     ensures { IfOk result (λ r. (c : made.CompiledExpr) × (x ≡ Ok c) × (compiled_of r ≡ negation (compiled_of c))) }
 {
     let x = boxed(alloc, x)?;

@@ -1,0 +1,7 @@
+use Rattle.record_files.specs.Accounts.{rule_of}
+use Rattle.record_files.proofs.Lists.{each_step}
+use Rattle.record_files.proofs.account.each_rule.Goals as goal
+
+pub loop-value-preserved : goal.loop-value-preserved
+loop-value-preserved c =
+    each_step (rule_of c.args.key) c.args.values.now c.loop-value.value-index _ c.value-item.result _ c.loop-value.rules.items c.push.new.self.items c.loop-value-test.true c.value-item.is c.in_ok-rule_of.ensures c.in_ok-push.ensures.items c.loop-value.invariant
