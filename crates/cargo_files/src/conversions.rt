@@ -11,15 +11,24 @@ use cargo_record::{Wanted, record_of};
 use record_files::read_record;
 use record_writing::{choice_text, record_text, table_text};
 use std::alloc::{AllocError, Global};
-use workspace_record::LinkRecord;
+use workspace_record::{LinkRecord, WorkspaceRecord};
 
 /// The record of what `cargo metadata` printed, of which these members are asked about.
 pub fn record_file(alloc: Global, metadata: &[u8], wanted: Wanted<'_>) -> Result<String, Refusal>
     ensures made { IfOk result (λ text. IsRecordFile metadata.now wanted.entry (string_bytes text)) }
 {
     let metadata = read_metadata(alloc, metadata)?;
-    let record = record_of(alloc, &metadata, wanted)?;
-    Ok(record_text(alloc, &record)?)
+    match record_of(alloc, &metadata, wanted) {
+        Ok(record) => {
+            let text = record_text(alloc, &record);
+            drop((record, metadata));
+            Ok(text?)
+        }
+        Err(fault) => {
+            drop(metadata);
+            Err(Refusal::from(fault))
+        }
+    }
 }
 
 /// The settings of a platform that `rustc --print cfg` printed.
@@ -38,8 +47,16 @@ pub fn table_file(
 {
     let record = read_record(alloc, record)?;
     match table_of(alloc, &record, triple, settings) {
-        Ok(table) => Ok(table_text(alloc, &table)?),
-        Err(error) => Err(table_refusal(alloc, &record.links, error)?),
+        Ok(table) => {
+            let text = table_text(alloc, &table);
+            drop((table, record));
+            Ok(text?)
+        }
+        Err(error) => {
+            let refusal = table_refusal(alloc, &record.links, error);
+            drop(record);
+            Err(refusal?)
+        }
     }
 }
 
@@ -81,12 +98,23 @@ pub fn choice_file(
     asked: FeatureWords<'_>,
 ) -> Result<String, Refusal> {
     let record = read_record(alloc, record)?;
+    let text = choice_text_of(alloc, &record, asked);
+    drop(record);
+    text
+}
+
+/// The same for a record that was read.
+fn choice_text_of(
+    alloc: Global,
+    record: &WorkspaceRecord,
+    asked: FeatureWords<'_>,
+) -> Result<String, Refusal> {
     let features = feature_words(alloc, asked.features)?;
     let words = FeatureWords {
         features: &features,
         no_default_features: asked.no_default_features,
         all_features: asked.all_features,
     };
-    let choice = choice_of(alloc, &record, words)?;
+    let choice = choice_of(alloc, record, words)?;
     Ok(choice_text(alloc, &choice)?)
 }

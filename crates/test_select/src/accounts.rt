@@ -26,9 +26,9 @@ pub(crate) fn print_account<'a, O: Write>(
     ensures { IfErr result (λ f. status_of f ≡ 1) }
 {
     let question = feature_question(alloc, named_files(asked), files)?;
-    print_account_of(alloc, &question, is_readable(asked), at_end, out)?;
+    let printed = print_account_of(alloc, &question, is_readable(asked), at_end, out);
     at_end.let_go(question);
-    Ok(())
+    printed
 }
 
 fn print_account_of<'a, O: Write>(
@@ -42,10 +42,10 @@ fn print_account_of<'a, O: Write>(
 {
     let checked = shared_question(alloc, &question.record, &question.choice)?;
     let rules = lent_rules(alloc, checked.index(), &question.choice, &question.table)?;
-    print_account_by(alloc, question, &rules, readable, out)?;
+    let printed = print_account_by(alloc, question, &rules, readable, out);
     at_end.let_go(rules);
     at_end.let_go(checked);
-    Ok(())
+    printed
 }
 
 /// Prints the account that these rules of the question make.

@@ -2,7 +2,7 @@
 
 use std::mem::{drop, forget};
 
-/// What is done with what was read once a command has printed its answer.
+/// What is done with what was read once a command has printed its answer, or has failed.
 #[derive(Clone, Copy)]
 pub(crate) enum AtEnd {
     /// Its memory is given back.

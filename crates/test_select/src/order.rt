@@ -41,9 +41,9 @@ pub(crate) fn print_order<'a, O: Write>(
     ensures { IfErr result (λ f. status_of f ≡ 1) }
 {
     let question = feature_question(alloc, named_files(asked), files)?;
-    print_order_of(alloc, &question, at_end, out)?;
+    let printed = print_order_of(alloc, &question, at_end, out);
     at_end.let_go(question);
-    Ok(())
+    printed
 }
 
 fn print_order_of<'a, O: Write>(

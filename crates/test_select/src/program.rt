@@ -114,6 +114,35 @@ fn try_run<'a, S: AsStr, O: Write>(
     Ok(())
 }
 
+/// What a command line asks for.
+#[derive(Clone, Copy)]
+enum Task {
+    Tests,
+    Why,
+    Account,
+    Check,
+    Explain,
+    Order,
+    Features,
+    Rules,
+    None,
+}
+
+/// What the command with this name asks for; nothing, if there is none.
+fn task_named(name: &str) -> Task {
+    match name {
+        "tests" => Task::Tests,
+        "why" => Task::Why,
+        "account" => Task::Account,
+        "check" => Task::Check,
+        "explain" => Task::Explain,
+        "order" => Task::Order,
+        "features" => Task::Features,
+        "rules" => Task::Rules,
+        _ => Task::None,
+    }
+}
+
 /// Does what the command line asks for. `clap` takes no command line without a command.
 fn carry_out<'a, O: Write>(
     alloc: Global,
@@ -124,15 +153,18 @@ fn carry_out<'a, O: Write>(
 ) -> Result<(), Failure<'a>>
     ensures { IfErr result (λ f. status_of f ≡ 1) }
 {
-    match matches.subcommand() {
-        Some(("tests", asked)) => print_tests(alloc, asked, at_end, files, out),
-        Some(("why", asked)) => print_why(alloc, asked, files, out),
-        Some(("account", asked)) => print_account(alloc, asked, at_end, files, out),
-        Some(("check", asked)) => Ok(print_verdict(alloc, asked, files, out)?),
-        Some(("explain", asked)) => print_explanation(alloc, asked, files, out),
-        Some(("order", asked)) => print_order(alloc, asked, at_end, files, out),
-        Some(("features", asked)) => print_features(alloc, asked, at_end, files, out),
-        Some(("rules", asked)) => print_rules(alloc, asked, at_end, files, out),
-        _ => Ok(()),
+    let Some((name, asked)) = matches.subcommand() else {
+        return Ok(());
+    };
+    match task_named(name) {
+        Task::Tests => print_tests(alloc, asked, at_end, files, out),
+        Task::Why => print_why(alloc, asked, files, out),
+        Task::Account => print_account(alloc, asked, at_end, files, out),
+        Task::Check => Ok(print_verdict(alloc, asked, files, out)?),
+        Task::Explain => print_explanation(alloc, asked, files, out),
+        Task::Order => print_order(alloc, asked, at_end, files, out),
+        Task::Features => print_features(alloc, asked, at_end, files, out),
+        Task::Rules => print_rules(alloc, asked, at_end, files, out),
+        Task::None => Ok(()),
     }
 }

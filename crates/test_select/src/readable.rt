@@ -23,9 +23,9 @@ pub(crate) fn print_features<'a, O: Write>(
     ensures { IfErr result (λ f. status_of f ≡ 1) }
 {
     let question = feature_question(alloc, named_files(asked), files)?;
-    print_features_of(alloc, &question, at_end, out)?;
+    let printed = print_features_of(alloc, &question, at_end, out);
     at_end.let_go(question);
-    Ok(())
+    printed
 }
 
 fn print_features_of<'a, O: Write>(
@@ -55,9 +55,9 @@ pub(crate) fn print_rules<'a, O: Write>(
     ensures { IfErr result (λ f. status_of f ≡ 1) }
 {
     let question = feature_question(alloc, named_files(asked), files)?;
-    print_rules_of(alloc, &question, out)?;
+    let printed = print_rules_of(alloc, &question, out);
     at_end.let_go(question);
-    Ok(())
+    printed
 }
 
 fn print_rules_of<'a, O: Write>(

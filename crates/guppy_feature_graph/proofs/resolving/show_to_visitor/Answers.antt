@@ -5,7 +5,7 @@ use Rattle.numbered_offers.specs.OfferWalks.{OfferWalkValue}
 use Rattle.numbered_offers.specs.Runs.{Run}
 use Rattle.guppy_package_graph.specs.Visits.{Chain}
 use Rattle.guppy_feature_graph.specs.Resolves.{shown_to}
-use Rattle.guppy_feature_graph.proofs.ResolveFacts.{Chain-append, Chain-by, SameSteps-trans, offer_below, run_more, shown_more, walk_more}
+use Rattle.guppy_feature_graph.proofs.ResolveFacts.{Chain-append, Chain-by, SameSteps-trans, offer_below, resolved, run_more, shown_more, walk_more}
 use Rattle.guppy_feature_graph.proofs.resolving.show_to_visitor.Goals as goal
 
 pub loop-due-preserved : goal.loop-due-preserved
@@ -49,3 +49,11 @@ returns-clause-looks g c =
     let most = none.bound in
     let so_far = was.looks in
     omega arith
+
+pub returns-clause-ok : goal.returns-clause-ok
+returns-clause-ok g c =
+    let was = c.loop-due.invariant in
+    let none = c.in_default.ensures in
+    let included = c.into_included.ensures in
+    let ended = ap (λ (v : OfferWalkValue). v.ended) none.kept in
+    (c.loop-due.walk.run, resolved c.args.query.now c.loop-due.walk c.take.new.self c.into_included.result was.walk none.kept none.all included.sized (included.included ended), was.chain)

@@ -11,5 +11,5 @@ loop-number-preserved c =
     let more = c.in_ok-push.ensures.items in
     record {
       numbers = both_more number_of (λ v. v) c.loop-number.links.items c.push.new.self.items c.link_at.result c.args.numbers.now c.loop-number.number-index 0 c.loop-number-test.true more c.link_at.ensures.number (was.numbers ∙ sym (map-id (take c.loop-number.number-index c.args.numbers.now))) ∙ map-id (take (c.loop-number.number-index + 1) c.args.numbers.now);
-      graphs = subst (All (λ m. link_graph_of m ≡ c.args.graph.now)) (sym more) (All-push _ _ _ was.graphs c.link_at.ensures.graph);
+      graphs = subst (All (λ m. link_graph_of m ≡ c.args.graph.now)) (sym more) (All-push (λ m. link_graph_of m ≡ c.args.graph.now) _ _ was.graphs c.link_at.ensures.graph);
     }

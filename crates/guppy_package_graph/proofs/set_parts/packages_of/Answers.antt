@@ -11,5 +11,5 @@ loop-place-preserved c =
     let more = c.in_ok-push.ensures.items in
     record {
       places = both_more place_of (λ v. v) c.loop-place.packages.items c.push.new.self.items c.metadata_at.result c.args.places.now c.loop-place.place-index 0 c.loop-place-test.true more c.metadata_at.ensures.place (was.places ∙ sym (map-id (take c.loop-place.place-index c.args.places.now))) ∙ map-id (take (c.loop-place.place-index + 1) c.args.places.now);
-      graphs = subst (All (λ m. graph_of m ≡ c.args.graph.now)) (sym more) (All-push _ _ _ was.graphs c.metadata_at.ensures.graph);
+      graphs = subst (All (λ m. graph_of m ≡ c.args.graph.now)) (sym more) (All-push (λ m. graph_of m ≡ c.args.graph.now) _ _ was.graphs c.metadata_at.ensures.graph);
     }
