@@ -25,28 +25,18 @@ impl<S> ParsedExpr<S> {
         ensures { OnOk result (map (λ l. leaf_of l.now) leaves.new.items ≡ map (λ l. leaf_of l.now) leaves.old.items ++ runtime_leaves (tree_of self.now)) }
     {
         match self {
-            ParsedExpr::Not(_, x) => {
-                x.push_runtime_only(leaves)?;
-                Ok(())
-            }
-            ParsedExpr::Parens(x) => {
-                x.push_runtime_only(leaves)?;
-                Ok(())
-            }
+            ParsedExpr::Not(_, x) | ParsedExpr::Parens(x) => x.push_runtime_only(leaves),
             ParsedExpr::Union(_, x, y) => {
                 x.push_runtime_only(leaves)?;
-                y.push_runtime_only(leaves)?;
-                Ok(())
+                y.push_runtime_only(leaves)
             }
             ParsedExpr::Intersection(_, x, y) => {
                 x.push_runtime_only(leaves)?;
-                y.push_runtime_only(leaves)?;
-                Ok(())
+                y.push_runtime_only(leaves)
             }
             ParsedExpr::Difference(_, x, y) => {
                 x.push_runtime_only(leaves)?;
-                y.push_runtime_only(leaves)?;
-                Ok(())
+                y.push_runtime_only(leaves)
             }
             ParsedExpr::Set(leaf) => {
                 if leaf.is_runtime_only() {
