@@ -2,11 +2,11 @@
 use Rattle.std.proofs.Common.{◌≡◌, ◌↔◌, ◌⊎◌, inl, inr, ⊎_elim, refl, sym, true≢false, Bool, true, false, ◌||◌, ◌&&◌, not}
 use Rattle.nextest_filter_evaluation.specs.Formulas.{Formula, negation, either, both, leaf, has_leaf, EachLeaf, Holds, SomeAnswersGive}
 
-or_left : (a b : Bool) → (a || b) ≡ false → a ≡ false
+pub or_left : (a b : Bool) → (a || b) ≡ false → a ≡ false
 or_left false b h = refl
 or_left true b h = h
 
-or_right : (a b : Bool) → (a || b) ≡ false → b ≡ false
+pub or_right : (a b : Bool) → (a || b) ≡ false → b ≡ false
 or_right false b h = h
 or_right true b h = absurd (true≢false h)
 
