@@ -8,7 +8,7 @@ use Rattle.nextest_filter_faults.specs.Faults.{is_pattern_fault}
 use Rattle.nextest_filter_faults.specs.declared.parse_error.ParseSingleError.{ParseSingleError}
 use Rattle.nextest_filter_tokens.specs.Bytes.{skip}
 use Rattle.nextest_filter_tokens.specs.FaultLists.{pattern_faults, syntax_faults}
-use Rattle.nextest_filter_tokens.specs.ReadingSteps.{GoesOn, Grows, KeepsPatterns, Spoils, SpoilsSyntax}
+use Rattle.nextest_filter_tokens.specs.ReadingSteps.{AreOf, GoesOn, Grows, KeepsPatterns, Spoils, SpoilsSyntax}
 use Rattle.nextest_filter_tokens.specs.declared.fault_list.FaultList.{FaultList}
 use Rattle.nextest_filter_tokens.specs.Heads.{head_at}
 use Rattle.nextest_filter_tokens.specs.declared.heads.Head.{Head}
@@ -66,6 +66,9 @@ fault_none B None all syntax clean fault = absurd (omega (arith, clean, fault.1)
 -- what goes on from the end of a head goes on from before it
 pub goes_from : (text : List ℕ) (at start next end : ℕ) (f g : FaultList) → at ≤ start → start < next → GoesOn text next end f g → GoesOn text at end f g
 goes_from text at start next end f g up over on = (omega (arith, up, over, on.0), on.1, on.2)
+
+pub grows_same : (text : List ℕ) (f : FaultList) → AreOf text f → Grows text f f
+grows_same text f of = (omega arith, omega arith, of)
 
 pub goes_both : (text : List ℕ) (i j k : ℕ) (f g h : FaultList) → GoesOn text i j f g → GoesOn text j k g h → GoesOn text i k f h
 goes_both text i j k f g h p q =

@@ -26,15 +26,9 @@ impl<S> ParsedExpr<S> {
     {
         match self {
             ParsedExpr::Not(_, x) | ParsedExpr::Parens(x) => x.push_runtime_only(leaves),
-            ParsedExpr::Union(_, x, y) => {
-                x.push_runtime_only(leaves)?;
-                y.push_runtime_only(leaves)
-            }
-            ParsedExpr::Intersection(_, x, y) => {
-                x.push_runtime_only(leaves)?;
-                y.push_runtime_only(leaves)
-            }
-            ParsedExpr::Difference(_, x, y) => {
+            ParsedExpr::Union(_, x, y)
+            | ParsedExpr::Intersection(_, x, y)
+            | ParsedExpr::Difference(_, x, y) => {
                 x.push_runtime_only(leaves)?;
                 y.push_runtime_only(leaves)
             }
