@@ -19,6 +19,12 @@ or_second true b h = refl
 or_second false b h = h
 
 module _ {L : Type 0} where
+  pub either_same : {a b c d : Formula L} → a ≡ b → c ≡ d → either a c ≡ either b d
+  either_same p q = cc
+
+  pub both_same : {a b c d : Formula L} → a ≡ b → c ≡ d → both a c ≡ both b d
+  both_same p q = cc
+
   pub each_of : (rule : L → Type 0) (f : Formula L) → ((l : L) → rule l) → EachLeaf rule f
   each_of rule (negation a) h = each_of rule a h
   each_of rule (either a b) h = (each_of rule a h, each_of rule b h)
