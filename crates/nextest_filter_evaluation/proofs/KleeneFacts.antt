@@ -2,6 +2,7 @@
 use Rattle.std.proofs.Common.{◌≡◌, ◌↔◌, refl, sym, ap, subst, true≢false, Bool, true, false, ◌||◌, ◌&&◌, not, Option, Some, None, IsTrue}
 use Rattle.nextest_filter_evaluation.specs.Kleene.{Tells, known_both, known_either, known_not, may_be}
 use Rattle.nextest_filter_evaluation.specs.Meaning.{Gives}
+use Rattle.nextest_filter_evaluation.proofs.FormulaFacts.{or_left, or_right}
 
 -- a test that says whether something holds tells its value
 pub tells_test : (P : Type 0) (b : Bool) → (IsTrue b ↔ P) → Tells (Some b) (Gives P)
@@ -56,14 +57,6 @@ no_or : (x y : Bool) → (x || y) ≡ true → (x ≡ true → ⊥) → (y ≡ t
 no_or true y e p q = p refl
 no_or false y e p q = q e
 
-or_first : (x y : Bool) → (x || y) ≡ false → x ≡ false
-or_first true y e = absurd (true≢false e)
-or_first false y e = refl
-
-or_last : (x y : Bool) → (x || y) ≡ false → y ≡ false
-or_last true y e = absurd (true≢false e)
-or_last false y e = e
-
 no_and : (x y : Bool) → (x && y) ≡ false → (x ≡ false → ⊥) → (y ≡ false → ⊥) → ⊥
 no_and false y e p q = p refl
 no_and true y e p q = q e
@@ -80,14 +73,14 @@ and_last false y e = absurd (true≢false (sym e))
 pub tells_either : (a b : Option Bool) (G H : Bool → Type 0) → Tells a G → Tells b H → Tells (known_either a b) (λ v. (x : Bool) × (y : Bool) × G x × H y × ((x || y) ≡ v))
 tells_either (Some true) b G H g h =
     let y = some_given b H h in
-    ((true, y.0, g.0, y.1, refl), λ s. g.1 (subst G (or_first s.0 s.1 s.4) s.2))
+    ((true, y.0, g.0, y.1, refl), λ s. g.1 (subst G (or_left s.0 s.1 s.4) s.2))
 tells_either (Some false) (Some true) G H g h =
-    ((false, true, g.0, h.0, refl), λ s. h.1 (subst H (or_last s.0 s.1 s.4) s.3))
+    ((false, true, g.0, h.0, refl), λ s. h.1 (subst H (or_right s.0 s.1 s.4) s.3))
 tells_either (Some false) (Some false) G H g h =
     ((false, false, g.0, h.0, refl), λ s. no_or s.0 s.1 s.4 (λ e. g.1 (subst G e s.2)) (λ e. h.1 (subst H e s.3)))
 tells_either (Some false) None G H g h = ((false, true, g.0, h.0, refl), (false, false, g.0, h.1, refl))
 tells_either None (Some true) G H g h =
-    ((true, true, g.0, h.0, refl), λ s. h.1 (subst H (or_last s.0 s.1 s.4) s.3))
+    ((true, true, g.0, h.0, refl), λ s. h.1 (subst H (or_right s.0 s.1 s.4) s.3))
 tells_either None (Some false) G H g h = ((true, false, g.0, h.0, refl), (false, false, g.1, h.0, refl))
 tells_either None None G H g h = ((true, true, g.0, h.0, refl), (false, false, g.1, h.1, refl))
 
