@@ -78,6 +78,10 @@ pub goes_after : (text : List ℕ) (i j : ℕ) (f g h : FaultList) → GoesOn te
 goes_after text i j f g h p q =
     (p.0, p.1, (omega (arith, p.2.0, q.0), omega (arith, p.2.1, q.1), q.2))
 
+-- reading that stays where it is, before blanks within the text
+pub stays : (text : List ℕ) (at start : ℕ) (f g : FaultList) → at ≤ start → start ≤ length text → Grows text f g → GoesOn text at at f g
+stays text at start f g up within grows = (omega arith, omega (arith, up, within), grows)
+
 -- an expression is spoiled exactly where the part is that it is made of
 pub leaf_spoils : (l : Option (ParsedLeaf SourceSpan)) (x : Option (ParsedExpr SourceSpan)) (f g : FaultList) → part_of x ≡ leaf_part l → Spoils l f g → Spoils x f g
 leaf_spoils (Some l) (Some x) f g same p = p

@@ -7,8 +7,61 @@ use Rattle.nextest_filter_syntax.specs.Trees.{set_of}
 use Rattle.nextest_filter_syntax.specs.Grammar.{MoreOf, Reads, joined_of}
 use Rattle.nextest_filter_syntax.specs.Reading.{IsReading, is_wrong}
 use Rattle.nextest_filter_syntax.proofs.OperatorFacts.{close_ends}
-use Rattle.nextest_filter_syntax.proofs.StepFacts.{fault_none, first_only, first_read, goes_after, goes_both, goes_from, last_only, last_read, leaf_read, leaf_spoils, negated_deep, negated_only, negated_read, negated_spoils, nothing_of, operand_is, parens_deep, parens_only, parens_read, parens_spoils, platform_spoils, set_read, spoils_after, step_only, step_patterns, step_read, step_spoiled}
+use Rattle.nextest_filter_syntax.proofs.StepFacts.{fault_none, first_only, first_read, goes_after, goes_both, goes_from, last_only, last_read, leaf_read, leaf_spoils, negated_deep, negated_only, negated_read, negated_spoils, nothing_of, operand_is, parens_deep, parens_only, parens_read, parens_spoils, platform_spoils, set_read, spoils_after, stays, step_only, step_patterns, step_read, step_spoiled}
 use Rattle.nextest_filter_syntax.proofs.reading.+reading.Goals as goal
+
+pub operand_from-returns-then-room-eq0-clause-goes_on : goal.operand_from-returns-then-room-eq0-clause-goes_on
+operand_from-returns-then-room-eq0-clause-goes_on n c =
+    stays c.args.text.now c.args.at c.skip_blanks-start.result c.args.faults.now c.report_too_deep.new.faults c.skip_blanks-start.ensures.rises c.skip_blanks-start.ensures.end c.in_ok-report_too_deep-in-Negates.ensures.grows
+
+pub operand_from-returns-then-room-eq0-clause-spoils : goal.operand_from-returns-then-room-eq0-clause-spoils
+operand_from-returns-then-room-eq0-clause-spoils n c =
+    (tt, c.in_ok-report_too_deep-in-Negates.ensures.fault.0)
+
+pub operand_from-returns-then-room-eq0-2-clause-goes_on : goal.operand_from-returns-then-room-eq0-2-clause-goes_on
+operand_from-returns-then-room-eq0-2-clause-goes_on n c =
+    stays c.args.text.now c.args.at c.skip_blanks-start.result c.args.faults.now c.report_too_deep-then-room-eq0-2.new.faults c.skip_blanks-start.ensures.rises c.skip_blanks-start.ensures.end c.in_ok-report_too_deep-in-Opens.ensures.grows
+
+pub operand_from-returns-then-room-eq0-2-clause-spoils : goal.operand_from-returns-then-room-eq0-2-clause-spoils
+operand_from-returns-then-room-eq0-2-clause-spoils n c =
+    (tt, c.in_ok-report_too_deep-in-Opens.ensures.fault.0)
+
+pub operand_from-returns-in_ok-report_no_operand-in-Unknown-clause-goes_on : goal.operand_from-returns-in_ok-report_no_operand-in-Unknown-clause-goes_on
+operand_from-returns-in_ok-report_no_operand-in-Unknown-clause-goes_on n c =
+    stays c.args.text.now c.args.at c.skip_blanks-start.result c.args.faults.now c.report_no_operand.new.faults c.skip_blanks-start.ensures.rises c.skip_blanks-start.ensures.end c.in_ok-report_no_operand-in-Unknown.ensures.grows
+
+pub operand_from-returns-in_ok-report_no_operand-in-Unknown-clause-spoils : goal.operand_from-returns-in_ok-report_no_operand-in-Unknown-clause-spoils
+operand_from-returns-in_ok-report_no_operand-in-Unknown-clause-spoils n c =
+    (tt, c.in_ok-report_no_operand-in-Unknown.ensures.fault.0)
+
+pub operand_from-returns-in_ok-report_misplaced-in-Misplaces-clause-goes_on : goal.operand_from-returns-in_ok-report_misplaced-in-Misplaces-clause-goes_on
+operand_from-returns-in_ok-report_misplaced-in-Misplaces-clause-goes_on n c =
+    let end = c.in-Misplaces.ensures.end in
+    (omega (arith, c.skip_blanks-start.ensures.rises, end.0), end.1, c.in_ok-report_misplaced-in-Misplaces.ensures.grows)
+
+pub operand_from-returns-in_ok-report_misplaced-in-Misplaces-clause-spoils : goal.operand_from-returns-in_ok-report_misplaced-in-Misplaces-clause-spoils
+operand_from-returns-in_ok-report_misplaced-in-Misplaces-clause-spoils n c =
+    (tt, c.in_ok-report_misplaced-in-Misplaces.ensures.fault.0)
+
+pub operand_from-closed_parens-requires-clause-faults : goal.operand_from-closed_parens-requires-clause-faults
+operand_from-closed_parens-requires-clause-faults n c =
+    c.in_ok-tree-in-Opens.ensures.goes_on.2.2
+
+pub tree_from-returns-then-level-eq0-clause-goes_on : goal.tree_from-returns-then-level-eq0-clause-goes_on
+tree_from-returns-then-level-eq0-clause-goes_on n c =
+    c.in_ok-tree.ensures.goes_on
+
+pub tree_from-returns-then-level-eq0-clause-spoils : goal.tree_from-returns-then-level-eq0-clause-spoils
+tree_from-returns-then-level-eq0-clause-spoils n c =
+    c.in_ok-tree.ensures.spoils
+
+pub tree_from-returns-then-level-eq0-clause-as_written : goal.tree_from-returns-then-level-eq0-clause-as_written
+tree_from-returns-then-level-eq0-clause-as_written n c =
+    c.in_ok-tree.ensures.as_written
+
+pub tree_from-operator_after-requires-clause-faults : goal.tree_from-operator_after-requires-clause-faults
+tree_from-operator_after-requires-clause-faults n c =
+    c.loop-found.invariant.goes_on.2.2
 
 pub operand_from-named_set_from-requires-clause-at : goal.operand_from-named_set_from-requires-clause-at
 operand_from-named_set_from-requires-clause-at n c = c.in-Names.ensures.end.1
