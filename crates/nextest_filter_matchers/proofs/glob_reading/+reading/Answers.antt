@@ -1,4 +1,4 @@
-use Rattle.std.proofs.Common.{◌≡◌, ◌∙◌, ◌-◌, ◌∷◌, true, false, IfOk, length, take, drop, sym, ap, subst, arith}
+use Rattle.std.proofs.Common.{◌≡◌, ◌∙◌, ◌-◌, ◌∷◌, false, IfOk, length, take, drop, sym, ap, subst, arith}
 use Rattle.std.proofs.lemmas.Grind.{common_steps}
 use Rattle.nextest_filter_matchers.specs.GlobReading.{Reads, Tokens, Alternates, alternates_after, read_part, tokens_from}
 use Rattle.nextest_filter_matchers.specs.GlobViews.{glob_of}

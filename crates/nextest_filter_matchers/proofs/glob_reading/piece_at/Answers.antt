@@ -3,7 +3,7 @@ use Rattle.std.proofs.lemmas.Bool.{ne_eqb}
 use Rattle.std.proofs.lemmas.Grind.{common_steps}
 use Rattle.std.specs.List.{starts_with}
 use Rattle.nextest_filter_matchers.specs.GlobReading.{first_piece}
-use Rattle.nextest_filter_matchers.proofs.ReadingFacts.{and_left, and_right, piece_first, piece_inner, piece_leading}
+use Rattle.nextest_filter_matchers.proofs.ReadingFacts.{and_left, and_right, piece_first, piece_inner}
 use Rattle.nextest_filter_matchers.proofs.glob_reading.piece_at.Goals as goal
 use Rattle.nextest_filter_matchers.proofs.glob_reading.piece_at.Goals.{else-is_front-via-then-is_front+else-starts_with, else-is_front-via-else-is_front, else-text-eq3-via-then-text-eq3+else-starts_with-3, else-text-eq3-via-else-text-eq3}
 
