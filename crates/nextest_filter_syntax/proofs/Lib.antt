@@ -3,3 +3,4 @@ pub mod GrammarFacts
 pub mod StepFacts
 pub mod SpanFacts
 pub mod TextFacts
+pub mod TreeFacts
