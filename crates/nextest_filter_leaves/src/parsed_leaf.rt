@@ -103,6 +103,7 @@ impl<S> ParsedLeaf<S> {
     ghost use Rattle.std.specs.Prelude.{◌≡◌};
     ghost use Rattle.nextest_filter_leaves.specs.Leaves.{leaf_of, leaf_of_parts};
 
+    /// What the leaf is made of.
     fn parts(&self) -> Parts<'_, S>
         ensures { leaf_of_parts result ≡ leaf_of self.now }
     {
