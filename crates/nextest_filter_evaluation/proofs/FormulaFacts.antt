@@ -1,24 +1,52 @@
 -- Formulas whose leaves say the same.
-use Rattle.std.proofs.Common.{◌≡◌, ◌↔◌, ◌⊎◌, inl, inr, ⊎_elim, refl, sym, true≢false, Bool, true, false, ◌||◌, ◌&&◌, not}
+use Rattle.std.proofs.Common.{◌≡◌, ◌↔◌, ◌⊎◌, inl, inr, ⊎_elim, refl, sym, true≢false, Bool, true, false, ◌||◌, ◌&&◌, not, ◌∙◌, Result, Ok, Err, IfOk, IsTrue}
 use Rattle.nextest_filter_evaluation.specs.Formulas.{Formula, negation, either, both, leaf, has_leaf, EachLeaf, Holds, SomeAnswersGive}
 
-or_left : (a b : Bool) → (a || b) ≡ false → a ≡ false
+pub or_left : (a b : Bool) → (a || b) ≡ false → a ≡ false
 or_left false b h = refl
 or_left true b h = h
 
-or_right : (a b : Bool) → (a || b) ≡ false → b ≡ false
+pub or_right : (a b : Bool) → (a || b) ≡ false → b ≡ false
 or_right false b h = h
 or_right true b h = absurd (true≢false h)
 
-or_first : (a b : Bool) → a ≡ true → (a || b) ≡ true
+pub or_first : (a b : Bool) → a ≡ true → (a || b) ≡ true
 or_first true b h = refl
 or_first false b h = absurd (true≢false (sym h))
 
-or_second : (a b : Bool) → b ≡ true → (a || b) ≡ true
+pub or_second : (a b : Bool) → b ≡ true → (a || b) ≡ true
 or_second true b h = refl
 or_second false b h = h
 
+-- what a negation says, and what two parts say of which one or each is asked
+pub says_not : (b : Bool) (P : Type 0) → IsTrue b ↔ P → IsTrue (not b) ↔ (P → ⊥)
+says_not true P h = (λ e. absurd (true≢false (sym e)), λ n. absurd (n (h.0 refl)))
+says_not false P h = (λ _ p. true≢false (sym (h.1 p)), λ _. refl)
+
+says_out : (b : Bool) (P : Type 0) → IsTrue b ↔ P → b ≡ false → P → ⊥
+says_out b P h e p = true≢false (sym (h.1 p) ∙ e)
+
+pub says_first : (b : Bool) (P Q : Type 0) → IsTrue b ↔ P → b ≡ true → IsTrue true ↔ (P ⊎ Q)
+says_first b P Q h e = (λ _. inl (h.0 e), λ _. refl)
+
+pub says_other : {E : Type 0} (b : Bool) (P Q : Type 0) (r : Result Bool E) → IsTrue b ↔ P → b ≡ false → IfOk r (λ x. IsTrue x ↔ Q) → IfOk r (λ x. IsTrue x ↔ (P ⊎ Q))
+says_other b P Q (Ok x) h e k = (λ t. inr (k.0 t), λ s. ⊎_elim (λ p. absurd (says_out b P h e p)) k.1 s)
+says_other b P Q (Err x) h e k = k
+
+pub says_neither : (b : Bool) (P Q : Type 0) → IsTrue b ↔ P → b ≡ false → IsTrue false ↔ (P × Q)
+says_neither b P Q h e = (λ t. absurd (true≢false (sym t)), λ s. absurd (says_out b P h e s.0))
+
+pub says_second : {E : Type 0} (b : Bool) (P Q : Type 0) (r : Result Bool E) → IsTrue b ↔ P → b ≡ true → IfOk r (λ x. IsTrue x ↔ Q) → IfOk r (λ x. IsTrue x ↔ (P × Q))
+says_second b P Q (Ok x) h e k = (λ t. (h.0 e, k.0 t), λ s. k.1 s.1)
+says_second b P Q (Err x) h e k = k
+
 module _ {L : Type 0} where
+  pub either_same : {a b c d : Formula L} → a ≡ b → c ≡ d → either a c ≡ either b d
+  either_same p q = cc
+
+  pub both_same : {a b c d : Formula L} → a ≡ b → c ≡ d → both a c ≡ both b d
+  both_same p q = cc
+
   pub each_of : (rule : L → Type 0) (f : Formula L) → ((l : L) → rule l) → EachLeaf rule f
   each_of rule (negation a) h = each_of rule a h
   each_of rule (either a b) h = (each_of rule a h, each_of rule b h)

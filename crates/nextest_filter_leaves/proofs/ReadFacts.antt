@@ -1,11 +1,15 @@
 -- Leaves and their parts are read in one way alone.
-use Rattle.std.proofs.Common.{◌≡◌, ℕ, ◌+◌, ◌<◌, List, Option, Some, None, IfNone, length, sym, ◌∙◌, ap, subst, arith, inl, inr}
+use Rattle.std.proofs.Common.{◌≡◌, ℕ, ◌+◌, ◌<◌, List, Option, Some, None, IfNone, length, refl, sym, ◌∙◌, ap, subst, arith, inl, inr}
 use Rattle.std.proofs.lemmas.Bool.{false≢true, cases_lt}
 use Rattle.nextest_filter_tokens.specs.Patterns.{ReadsPattern}
 use Rattle.nextest_filter_texts.specs.Texts.{ReadsText}
 use Rattle.nextest_filter_texts.proofs.TextFacts.{read_once}
 use Rattle.nextest_filter_texts.proofs.PatternFacts.{patterns_read_once}
-use Rattle.nextest_filter_leaves.specs.LeafGrammar.{IsUpToClose, PatternFrom, ReadsSome}
+use Rattle.nextest_filter_matchers.specs.declared.source_span.SourceSpan.{SourceSpan}
+use Rattle.nextest_filter_tokens.specs.Bytes.{skip}
+use Rattle.nextest_filter_tokens.specs.declared.heads.Predicate.{Predicate}
+use Rattle.nextest_filter_leaves.specs.Leaves.{Leaf, Named}
+use Rattle.nextest_filter_leaves.specs.LeafGrammar.{IsUpToClose, NamedFrom, PatternFrom, ReadsMatcher, ReadsSome, Stands, between}
 use Rattle.nextest_filter_matchers.specs.Matchers.{Matcher}
 
 -- what stands in any case stands where a part is spoiled
@@ -37,3 +41,19 @@ module _ (text : List ℕ) where
               | inr le ↦ omega arith
             ]
       ]
+
+  -- the leaf of a matcher that is read in parentheses
+  pub named_is : (predicate : Predicate) (i inner start end j : ℕ) (m : Matcher) (l : Leaf SourceSpan) → Stands text i 40 inner → start ≡ skip text inner → ReadsMatcher text predicate start m end → Stands text end 41 j → l ≡ Named predicate m (between inner end) → NamedFrom text predicate i l j
+  named_is predicate i inner start end j m l opens place reads closes is = record {
+    matcher = m;
+    inner = inner;
+    end = end;
+    opens = opens;
+    reads = subst (λ k. ReadsMatcher text predicate k m end) place reads;
+    closes = closes;
+    is = is;
+  }
+
+  pub named_some : (predicate : Predicate) (i inner start end j : ℕ) (m : Matcher) → Stands text i 40 inner → start ≡ skip text inner → ReadsMatcher text predicate start m end → Stands text end 41 j → (l : Leaf SourceSpan) × NamedFrom text predicate i l j
+  named_some predicate i inner start end j m opens place reads closes =
+      (Named predicate m (between inner end), named_is predicate i inner start end j m (Named predicate m (between inner end)) opens place reads closes refl)

@@ -6,6 +6,8 @@ use Rattle.nextest_filter_tokens.specs.declared.heads.Predicate.{Predicate}
 use Rattle.nextest_filter_tokens.specs.declared.heads.Predicate.TheVariants.{Package, Deps, Rdeps, Kind, Binary, BinaryId, Test, Group, Feature}
 use Rattle.nextest_filter_leaves.specs.declared.parsed_leaf.ParsedLeaf.{ParsedLeaf}
 use Rattle.nextest_filter_leaves.specs.declared.parsed_leaf.ParsedLeaf.TheVariants as leaf
+use Rattle.nextest_filter_leaves.specs.declared.parsed_leaf.Parts.{Parts}
+use Rattle.nextest_filter_leaves.specs.declared.parsed_leaf.Parts.TheVariants as parts
 
 pub data Leaf (S : Type 0) : Type 0 where
   Named : Predicate → Matcher → S → Leaf S
@@ -28,6 +30,14 @@ leaf_of (leaf.Feature matcher span) = Named Feature (matcher_of matcher) span
 leaf_of (leaf.Default span) = Default span
 leaf_of leaf.All = All
 leaf_of leaf.None = None
+
+-- the leaf whose parts they are
+abbrev pub leaf_of_parts : {S : Type 0} → Parts S → Leaf S
+leaf_of_parts (parts.Named predicate matcher span) = Named predicate (matcher_of matcher.now) span.now
+leaf_of_parts (parts.Platform platform span) = Platform platform span.now
+leaf_of_parts (parts.Default span) = Default span.now
+leaf_of_parts parts.All = All
+leaf_of_parts parts.None = None
 
 abbrev pub is_runtime_predicate : Predicate → Bool
 is_runtime_predicate Test = true

@@ -1,5 +1,12 @@
+ghost use Rattle.std.specs.Prelude.{◌≡◌};
+ghost use Rattle.nextest_filter_matchers.specs.Matchers.{matcher_of};
+ghost use Rattle.nextest_filter_leaves.specs.AsWritten.{IsLeafAsWritten, IsMatcherAsWritten};
+ghost use Rattle.nextest_filter_leaves.specs.Leaves.{Named, leaf_of};
+ghost use Rattle.nextest_filter_leaves.specs.LeafTexts as text;
+
 use nextest_filter_faults::BuildPlatform;
 use nextest_filter_matchers::{NameMatcher, SourceSpan};
+use nextest_filter_tokens::Predicate;
 use std::alloc::{AllocError, Global};
 use std::fmt;
 
@@ -47,6 +54,77 @@ impl<S> ParsedLeaf<S> {
     }
 }
 
+/// A leaf with its predicate apart.
+#[derive(Drop)]
+enum Parts<'l, S> {
+    Named(Predicate, &'l NameMatcher, &'l S),
+    Platform(BuildPlatform, &'l S),
+    Default(&'l S),
+    All,
+    None,
+}
+
+/// The leaf of a predicate's matcher.
+pub(crate) fn leaf_with<S>(predicate: Predicate, matcher: NameMatcher, span: S) -> ParsedLeaf<S>
+    ensures value { leaf_of result ≡ Named predicate (matcher_of matcher) span }
+    ensures as_written { IsMatcherAsWritten matcher → IsLeafAsWritten result }
+{
+    match predicate {
+        Predicate::Package => ParsedLeaf::Package(matcher, span),
+        Predicate::Deps => ParsedLeaf::Deps(matcher, span),
+        Predicate::Rdeps => ParsedLeaf::Rdeps(matcher, span),
+        Predicate::Kind => ParsedLeaf::Kind(matcher, span),
+        Predicate::Binary => ParsedLeaf::Binary(matcher, span),
+        Predicate::BinaryId => ParsedLeaf::BinaryId(matcher, span),
+        Predicate::Test => ParsedLeaf::Test(matcher, span),
+        Predicate::Group => ParsedLeaf::Group(matcher, span),
+        Predicate::Feature => ParsedLeaf::Feature(matcher, span),
+    }
+}
+
+/// How a predicate is written.
+fn predicate_name(predicate: Predicate) -> &'static str
+    ensures { result.now ≡ text.predicate_name predicate }
+{
+    match predicate {
+        Predicate::Package => "package",
+        Predicate::Deps => "deps",
+        Predicate::Rdeps => "rdeps",
+        Predicate::Kind => "kind",
+        Predicate::Binary => "binary",
+        Predicate::BinaryId => "binary_id",
+        Predicate::Test => "test",
+        Predicate::Group => "group",
+        Predicate::Feature => "feature",
+    }
+}
+
+impl<S> ParsedLeaf<S> {
+    ghost use Rattle.std.specs.Prelude.{◌≡◌};
+    ghost use Rattle.nextest_filter_leaves.specs.Leaves.{leaf_of, leaf_of_parts};
+
+    /// What the leaf is made of.
+    fn parts(&self) -> Parts<'_, S>
+        ensures { leaf_of_parts result ≡ leaf_of self.now }
+    {
+        match self {
+            ParsedLeaf::Package(matcher, span) => Parts::Named(Predicate::Package, matcher, span),
+            ParsedLeaf::Deps(matcher, span) => Parts::Named(Predicate::Deps, matcher, span),
+            ParsedLeaf::Rdeps(matcher, span) => Parts::Named(Predicate::Rdeps, matcher, span),
+            ParsedLeaf::Kind(matcher, span) => Parts::Named(Predicate::Kind, matcher, span),
+            ParsedLeaf::Binary(matcher, span) => Parts::Named(Predicate::Binary, matcher, span),
+            ParsedLeaf::BinaryId(matcher, span) => Parts::Named(Predicate::BinaryId, matcher, span),
+            ParsedLeaf::Test(matcher, span) => Parts::Named(Predicate::Test, matcher, span),
+            ParsedLeaf::Group(matcher, span) => Parts::Named(Predicate::Group, matcher, span),
+            ParsedLeaf::Feature(matcher, span) => Parts::Named(Predicate::Feature, matcher, span),
+            ParsedLeaf::Platform(platform, span) => Parts::Platform(*platform, span),
+            ParsedLeaf::Default(span) => Parts::Default(span),
+            ParsedLeaf::All => Parts::All,
+            ParsedLeaf::None => Parts::None,
+        }
+    }
+}
+
 impl<S: Copy> ParsedLeaf<S> {
     ghost use Rattle.std.specs.Prelude.{◌≡◌, IfOk};
     ghost use Rattle.nextest_filter_leaves.specs.Leaves.{leaf_of};
@@ -55,47 +133,15 @@ impl<S: Copy> ParsedLeaf<S> {
     pub fn copy(&self, alloc: Global) -> Result<ParsedLeaf<S>, AllocError>
         ensures { IfOk result (λ c. leaf_of c ≡ leaf_of self.now) }
     {
-        match self {
-            ParsedLeaf::Package(matcher, span) => {
+        match self.parts() {
+            Parts::Named(predicate, matcher, span) => {
                 let matcher = matcher.copy(alloc)?;
-                Ok(ParsedLeaf::Package(matcher, *span))
+                Ok(leaf_with(predicate, matcher, *span))
             }
-            ParsedLeaf::Deps(matcher, span) => {
-                let matcher = matcher.copy(alloc)?;
-                Ok(ParsedLeaf::Deps(matcher, *span))
-            }
-            ParsedLeaf::Rdeps(matcher, span) => {
-                let matcher = matcher.copy(alloc)?;
-                Ok(ParsedLeaf::Rdeps(matcher, *span))
-            }
-            ParsedLeaf::Kind(matcher, span) => {
-                let matcher = matcher.copy(alloc)?;
-                Ok(ParsedLeaf::Kind(matcher, *span))
-            }
-            ParsedLeaf::Binary(matcher, span) => {
-                let matcher = matcher.copy(alloc)?;
-                Ok(ParsedLeaf::Binary(matcher, *span))
-            }
-            ParsedLeaf::BinaryId(matcher, span) => {
-                let matcher = matcher.copy(alloc)?;
-                Ok(ParsedLeaf::BinaryId(matcher, *span))
-            }
-            ParsedLeaf::Platform(platform, span) => Ok(ParsedLeaf::Platform(*platform, *span)),
-            ParsedLeaf::Test(matcher, span) => {
-                let matcher = matcher.copy(alloc)?;
-                Ok(ParsedLeaf::Test(matcher, *span))
-            }
-            ParsedLeaf::Group(matcher, span) => {
-                let matcher = matcher.copy(alloc)?;
-                Ok(ParsedLeaf::Group(matcher, *span))
-            }
-            ParsedLeaf::Feature(matcher, span) => {
-                let matcher = matcher.copy(alloc)?;
-                Ok(ParsedLeaf::Feature(matcher, *span))
-            }
-            ParsedLeaf::Default(span) => Ok(ParsedLeaf::Default(*span)),
-            ParsedLeaf::All => Ok(ParsedLeaf::All),
-            ParsedLeaf::None => Ok(ParsedLeaf::None),
+            Parts::Platform(platform, span) => Ok(ParsedLeaf::Platform(platform, *span)),
+            Parts::Default(span) => Ok(ParsedLeaf::Default(*span)),
+            Parts::All => Ok(ParsedLeaf::All),
+            Parts::None => Ok(ParsedLeaf::None),
         }
     }
 }
@@ -108,20 +154,15 @@ impl<S> fmt::Display for ParsedLeaf<S> {
     ghost output = { λ l. Some (leaf_text (leaf_of l)) };
 
     fn fmt<W: fmt::Write>(&self, f: &mut fmt::Formatter<W>) -> fmt::Result {
-        match self {
-            ParsedLeaf::Package(matcher, _) => write!(f, "package({matcher})"),
-            ParsedLeaf::Deps(matcher, _) => write!(f, "deps({matcher})"),
-            ParsedLeaf::Rdeps(matcher, _) => write!(f, "rdeps({matcher})"),
-            ParsedLeaf::Kind(matcher, _) => write!(f, "kind({matcher})"),
-            ParsedLeaf::Binary(matcher, _) => write!(f, "binary({matcher})"),
-            ParsedLeaf::BinaryId(matcher, _) => write!(f, "binary_id({matcher})"),
-            ParsedLeaf::Platform(platform, _) => write!(f, "platform({platform})"),
-            ParsedLeaf::Test(matcher, _) => write!(f, "test({matcher})"),
-            ParsedLeaf::Group(matcher, _) => write!(f, "group({matcher})"),
-            ParsedLeaf::Feature(matcher, _) => write!(f, "feature({matcher})"),
-            ParsedLeaf::Default(_) => f.write_str("default()"),
-            ParsedLeaf::All => f.write_str("all()"),
-            ParsedLeaf::None => f.write_str("none()"),
+        match self.parts() {
+            Parts::Named(predicate, matcher, _) => {
+                let name = predicate_name(predicate);
+                write!(f, "{name}({matcher})")
+            }
+            Parts::Platform(platform, _) => write!(f, "platform({platform})"),
+            Parts::Default(_) => f.write_str("default()"),
+            Parts::All => f.write_str("all()"),
+            Parts::None => f.write_str("none()"),
         }
     }
 }

@@ -1,40 +1,20 @@
 ghost use Rattle.std.specs.Prelude.{◌≡◌, ◌≤◌, ◌<◌, ◌+◌, ℕ, [], IfOk, IfSome, IfNone, OnOk, length, slice_range};
 ghost use Rattle.std.specs.Str.{IsCharBoundary, trim};
-ghost use Rattle.nextest_filter_matchers.specs.Matchers.{matcher_of};
 ghost use Rattle.nextest_binaries.specs.Platforms.{platform_text};
 ghost use Rattle.nextest_binaries.specs.declared.build_platform.BuildPlatform as declared;
 ghost use Rattle.nextest_filter_matchers.specs.declared.source_span.SourceSpan as source;
 ghost use Rattle.nextest_filter_tokens.specs.ReadingSteps.{AreOf, GoesOn, Grows, GrowsUpTo, IsClean, KeepsPatterns, Spoils, SpoilsSyntax};
-ghost use Rattle.nextest_filter_leaves.specs.AsWritten.{IsLeafAsWritten, IsMatcherAsWritten};
-ghost use Rattle.nextest_filter_leaves.specs.Leaves.{Leaf, Named, leaf_of};
+ghost use Rattle.nextest_filter_leaves.specs.AsWritten.{IsLeafAsWritten};
+ghost use Rattle.nextest_filter_leaves.specs.Leaves.{Leaf, leaf_of};
 ghost use Rattle.nextest_filter_leaves.specs.LeafGrammar as spec;
 ghost use Rattle.nextest_filter_leaves.specs.LeafGrammar.{IsUpToClose, NamedFrom, NullaryFrom, PlatformFrom};
 
 use crate::matchers::{matcher_from, some_text};
-use crate::parsed_leaf::ParsedLeaf;
+use crate::parsed_leaf::{ParsedLeaf, leaf_with};
 use crate::places::{close_place, closed_after, expect_byte};
 use nextest_filter_faults::{BuildPlatform, ParseSingleError, SourceSpan};
-use nextest_filter_matchers::NameMatcher;
 use nextest_filter_tokens::{FaultList, Nullary, Predicate, skip_blanks};
 use std::alloc::{AllocError, Global};
-
-/// The leaf of a predicate's matcher.
-fn leaf_with(predicate: Predicate, matcher: NameMatcher, span: SourceSpan) -> ParsedLeaf
-    ensures value { leaf_of result ≡ Named predicate (matcher_of matcher) span }
-    ensures as_written { IsMatcherAsWritten matcher → IsLeafAsWritten result }
-{
-    match predicate {
-        Predicate::Package => ParsedLeaf::Package(matcher, span),
-        Predicate::Deps => ParsedLeaf::Deps(matcher, span),
-        Predicate::Rdeps => ParsedLeaf::Rdeps(matcher, span),
-        Predicate::Kind => ParsedLeaf::Kind(matcher, span),
-        Predicate::Binary => ParsedLeaf::Binary(matcher, span),
-        Predicate::BinaryId => ParsedLeaf::BinaryId(matcher, span),
-        Predicate::Test => ParsedLeaf::Test(matcher, span),
-        Predicate::Group => ParsedLeaf::Group(matcher, span),
-        Predicate::Feature => ParsedLeaf::Feature(matcher, span),
-    }
-}
 
 /// The leaf of a word that takes nothing.
 fn nullary_leaf(word: Nullary, span: SourceSpan) -> ParsedLeaf

@@ -1,7 +1,7 @@
 //! How a glob is read from its text.
 
 ghost use Rattle.std.specs.Prelude.{◌≡◌, ◌+◌, ◌*◌, [], false, IfOk, length};
-ghost use Rattle.nextest_filter_matchers.specs.GlobReading.{class_at, class_of, class_piece, class_rest, character_piece, or_read, piece_of, then_read, past_directories, read_glob, read_part, tokens_from, Alternates, Tokens};
+ghost use Rattle.nextest_filter_matchers.specs.GlobReading.{class_at, class_of, class_piece, class_rest, character_piece, or_read, piece_of, then_read, past_directories, read_glob, read_part, tokens_from, Alternates, Outcome, Tokens};
 ghost use Rattle.nextest_filter_matchers.specs.GlobViews.{glob_of};
 ghost use Rattle.nextest_filter_matchers.specs.ReadingViews.{class_outcome, outcome_of, piece_view, read_view};
 
@@ -199,6 +199,40 @@ fn or_more<'t>(
     }
 }
 
+/// The pattern, and then what is read after it.
+fn then_if_read<'t>(
+    alloc: Global,
+    pattern: Pattern,
+    more: Result<PatternRead<'t>, AllocError>,
+) -> Result<PatternRead<'t>, AllocError>
+    ensures { (o : Outcome) → IfOk more.entry (λ m. outcome_of m ≡ o) → IfOk result (λ r. outcome_of r ≡ then_read (glob_of pattern) o) }
+{
+    match more {
+        Ok(more) => then_more(alloc, pattern, more),
+        Err(refused) => {
+            drop(pattern);
+            Err(refused)
+        }
+    }
+}
+
+/// The pattern, or what is read as another.
+fn or_if_read<'t>(
+    alloc: Global,
+    pattern: Pattern,
+    more: Result<PatternRead<'t>, AllocError>,
+) -> Result<PatternRead<'t>, AllocError>
+    ensures { (o : Outcome) → IfOk more.entry (λ m. outcome_of m ≡ o) → IfOk result (λ r. outcome_of r ≡ or_read (glob_of pattern) o) }
+{
+    match more {
+        Ok(more) => or_more(alloc, pattern, more),
+        Err(refused) => {
+            drop(pattern);
+            Err(refused)
+        }
+    }
+}
+
 /// Reads tokens, at most so many, up to the end of the text or of the alternate that they stand in.
 #[cycle(reading)]
 fn tokens<'t>(
@@ -214,8 +248,7 @@ fn tokens<'t>(
         return Ok(PatternRead::Bad(GlobError::UnclosedAlternates));
     }
     let piece = piece_at(alloc, is_front, text)?;
-    let read = tokens_after(alloc, left - 1, is_inside, text, piece)?;
-    Ok(read)
+    tokens_after(alloc, left - 1, is_inside, text, piece)
 }
 
 /// Reads tokens from a piece on, with which the text begins.
@@ -233,24 +266,21 @@ fn tokens_after<'t>(
         Piece::End if is_inside => Ok(PatternRead::Bad(GlobError::UnclosedAlternates)),
         Piece::End => Ok(PatternRead::Read(Pattern::Empty, &[])),
         Piece::Stands(token, rest) => {
-            let more = tokens(alloc, left, false, is_inside, rest)?;
-            let read = then_more(alloc, Pattern::Single(token), more)?;
-            Ok(read)
+            let more = tokens(alloc, left, false, is_inside, rest);
+            then_if_read(alloc, Pattern::Single(token), more)
         }
         Piece::Open(rest) => match alternates(alloc, left, rest)? {
             PatternRead::Read(group, rest) => {
-                let more = tokens(alloc, left, false, is_inside, rest)?;
-                let read = then_more(alloc, group, more)?;
-                Ok(read)
+                let more = tokens(alloc, left, false, is_inside, rest);
+                then_if_read(alloc, group, more)
             }
             PatternRead::Bad(error) => Ok(PatternRead::Bad(error)),
         },
         Piece::Comma(_) if is_inside => Ok(PatternRead::Read(Pattern::Empty, text)),
         Piece::Comma(rest) => {
             let comma = Token::One(CharacterSet::Character(','));
-            let more = tokens(alloc, left, false, false, rest)?;
-            let read = then_more(alloc, Pattern::Single(comma), more)?;
-            Ok(read)
+            let more = tokens(alloc, left, false, false, rest);
+            then_if_read(alloc, Pattern::Single(comma), more)
         }
         Piece::Close(_) if is_inside => Ok(PatternRead::Read(Pattern::Empty, text)),
         Piece::Close(_) => Ok(PatternRead::Bad(GlobError::UnopenedAlternates)),
@@ -273,9 +303,8 @@ fn alternates<'t>(
     match tokens(alloc, left - 1, false, true, text)? {
         PatternRead::Read(pattern, rest) => match rest {
             [',', rest @ ..] => {
-                let more = alternates(alloc, left - 1, rest)?;
-                let read = or_more(alloc, pattern, more)?;
-                Ok(read)
+                let more = alternates(alloc, left - 1, rest);
+                or_if_read(alloc, pattern, more)
             }
             [_, rest @ ..] => Ok(PatternRead::Read(pattern, rest)),
             [] => Ok(PatternRead::Bad(GlobError::UnclosedAlternates)),

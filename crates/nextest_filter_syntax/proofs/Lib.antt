@@ -2,3 +2,5 @@ pub mod OperatorFacts
 pub mod GrammarFacts
 pub mod StepFacts
 pub mod SpanFacts
+pub mod TextFacts
+pub mod TreeFacts

@@ -1,5 +1,5 @@
 -- The steps of reading: what each takes from the parts before it, and gives to those after it.
-use Rattle.std.proofs.Common.{◌≡◌, ◌↔◌, ℕ, suc, ◌+◌, ◌-◌, ◌<◌, ◌≤◌, Bool, true, false, not, cond, List, [], ◌∷◌, Option, Some, None, IfSome, IfNone, length, refl, sym, ◌∙◌, ap, subst, arith}
+use Rattle.std.proofs.Common.{◌≡◌, ◌↔◌, ℕ, suc, ◌+◌, ◌-◌, ◌<◌, ◌≤◌, Bool, true, false, not, cond, List, [], ◌∷◌, Option, Some, None, IfSome, IfNone, length, vec_len, refl, sym, ◌∙◌, ap, subst, arith}
 use Rattle.std.proofs.lemmas.List.Sums.{sum_by-cons}
 use Rattle.std.specs.List.{count_by}
 use Rattle.nextest_filter_matchers.specs.declared.source_span.SourceSpan.{SourceSpan}
@@ -8,6 +8,8 @@ use Rattle.nextest_filter_faults.specs.Faults.{is_pattern_fault}
 use Rattle.nextest_filter_faults.specs.declared.parse_error.ParseSingleError.{ParseSingleError}
 use Rattle.nextest_filter_tokens.specs.Bytes.{skip}
 use Rattle.nextest_filter_tokens.specs.FaultLists.{pattern_faults, syntax_faults}
+use Rattle.nextest_filter_tokens.specs.ReadingSteps.{AreOf, GoesOn, Grows, KeepsPatterns, Spoils, SpoilsSyntax}
+use Rattle.nextest_filter_tokens.specs.declared.fault_list.FaultList.{FaultList}
 use Rattle.nextest_filter_tokens.specs.Heads.{head_at}
 use Rattle.nextest_filter_tokens.specs.declared.heads.Head.{Head}
 use Rattle.nextest_filter_tokens.specs.declared.heads.Head.TheVariants.{Negates, Opens}
@@ -29,6 +31,9 @@ some_same e = cc
 
 none_some : {A : Type 0} {x : A} → None ≡ Some x → ⊥
 none_some e = cc
+
+no_room : {room d : ℕ} → room ≡ 0 → room ≡ suc d → ⊥
+no_room full some = omega (arith, full, some)
 
 one_of : (b : Bool) → cond (not b) 1 0 + cond b 1 0 ≡ 1
 one_of true = refl
@@ -57,6 +62,58 @@ built_whole None i j k empty last same = tt
 pub fault_none : {A : Type 0} (B : Type 0) (o : Option A) (all syntax : ℕ) → syntax ≡ 0 → IfNone o ((0 < all) × (0 < syntax)) → IfNone o B
 fault_none B (Some v) all syntax clean fault = tt
 fault_none B None all syntax clean fault = absurd (omega (arith, clean, fault.1))
+
+-- what goes on from the end of a head goes on from before it
+pub goes_from : (text : List ℕ) (at start next end : ℕ) (f g : FaultList) → at ≤ start → start < next → GoesOn text next end f g → GoesOn text at end f g
+goes_from text at start next end f g up over on = (omega (arith, up, over, on.0), on.1, on.2)
+
+pub grows_same : (text : List ℕ) (f : FaultList) → AreOf text f → Grows text f f
+grows_same text f of = (omega arith, omega arith, of)
+
+pub goes_both : (text : List ℕ) (i j k : ℕ) (f g h : FaultList) → GoesOn text i j f g → GoesOn text j k g h → GoesOn text i k f h
+goes_both text i j k f g h p q =
+    (omega (arith, p.0, q.0), q.1, (omega (arith, p.2.0, q.2.0), omega (arith, p.2.1, q.2.1), q.2.2))
+
+pub goes_after : (text : List ℕ) (i j : ℕ) (f g h : FaultList) → GoesOn text i j f g → Grows text g h → GoesOn text i j f h
+goes_after text i j f g h p q =
+    (p.0, p.1, (omega (arith, p.2.0, q.0), omega (arith, p.2.1, q.1), q.2))
+
+-- reading that stays where it is, before blanks within the text
+pub stays : (text : List ℕ) (at start : ℕ) (f g : FaultList) → at ≤ start → start ≤ length text → Grows text f g → GoesOn text at at f g
+stays text at start f g up within grows = (omega arith, omega (arith, up, within), grows)
+
+-- an expression is spoiled exactly where the part is that it is made of
+pub leaf_spoils : (l : Option (ParsedLeaf SourceSpan)) (x : Option (ParsedExpr SourceSpan)) (f g : FaultList) → part_of x ≡ leaf_part l → Spoils l f g → Spoils x f g
+leaf_spoils (Some l) (Some x) f g same p = p
+leaf_spoils (Some l) None f g same p = absurd (none_some same)
+leaf_spoils None (Some x) f g same p = absurd (none_some (sym same))
+leaf_spoils None None f g same p = p
+
+pub platform_spoils : (l : Option (ParsedLeaf SourceSpan)) (x : Option (ParsedExpr SourceSpan)) (f g : FaultList) → part_of x ≡ leaf_part l → SpoilsSyntax l f g → Spoils x f g
+platform_spoils (Some l) (Some x) f g same p = p
+platform_spoils (Some l) None f g same p = absurd (none_some same)
+platform_spoils None (Some x) f g same p = absurd (none_some (sym same))
+platform_spoils None None f g same p = (tt, p.1.0)
+
+pub negated_spoils : (op : NotOperator) (x y : Option (ParsedExpr SourceSpan)) (f g : FaultList) → part_of y ≡ negated_part op (part_of x) → Spoils x f g → Spoils y f g
+negated_spoils op (Some x) (Some y) f g same p = p
+negated_spoils op (Some x) None f g same p = absurd (none_some same)
+negated_spoils op None (Some y) f g same p = absurd (none_some (sym same))
+negated_spoils op None None f g same p = p
+
+parens_alike : (x y : Option (ParsedExpr SourceSpan)) (f g : FaultList) → part_of y ≡ parens_part (part_of x) → Spoils x f g → Spoils y f g
+parens_alike (Some x) (Some y) f g same p = p
+parens_alike (Some x) None f g same p = absurd (none_some same)
+parens_alike None (Some y) f g same p = absurd (none_some (sym same))
+parens_alike None None f g same p = p
+
+-- what is or is not spoiled stays so where no pattern is refused after it
+pub spoils_after : (x : Option (ParsedExpr SourceSpan)) (f g h : FaultList) → Spoils x f g → KeepsPatterns g h → vec_len g.list ≤ vec_len h.list → Spoils x f h
+spoils_after (Some x) f g h p keeps more = (keeps ∙ p.0, tt)
+spoils_after None f g h p keeps more = (tt, omega (arith, p.1, more))
+
+pub parens_spoils : (x y : Option (ParsedExpr SourceSpan)) (f g h : FaultList) → part_of y ≡ parens_part (part_of x) → Spoils x f g → KeepsPatterns g h → vec_len g.list ≤ vec_len h.list → Spoils y f h
+parens_spoils x y f g h same p keeps more = spoils_after y f g h (parens_alike x y f g same p) keeps more
 
 module _ (text : List ℕ) where
   -- a tree is that of the expression which has its value, unless it is spoiled
@@ -114,6 +171,17 @@ module _ (text : List ℕ) where
       let w = operand_is room at j start t (Opens next) is begins r in
       let less : w.1 ≡ room - 1 = omega (arith, w.3) in
       (w.0, w.2, subst (λ d. Reads text d 2 next w.0 w.2) less w.5, w.6)
+
+  -- where there is no room, no negation and no parentheses stand
+  pub negated_deep : (room at start next j : ℕ) (op : NotOperator) (t : Tree SourceSpan) → start ≡ skip text at → Negates op next ≡ head_at text start → room ≡ 0 → Reads text room 0 at t j → ⊥
+  negated_deep room at start next j op t is begins full r =
+      let w = operand_is room at j start t (Negates op next) is begins r in
+      no_room full w.2
+
+  pub parens_deep : (room at start next j : ℕ) (t : Tree SourceSpan) → start ≡ skip text at → Opens next ≡ head_at text start → room ≡ 0 → Reads text room 0 at t j → ⊥
+  parens_deep room at start next j t is begins full r =
+      let w = operand_is room at j start t (Opens next) is begins r in
+      no_room full w.3
 
   -- a tree is that of the expression, and the parts that join it make a part of a level
   abbrev pub IsBegun : ℕ → ℕ → ℕ → ℕ → Option (ParsedExpr SourceSpan) → ℕ → Type 0

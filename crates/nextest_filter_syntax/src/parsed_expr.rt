@@ -1,4 +1,4 @@
-ghost use Rattle.std.specs.Prelude.{◌≡◌, IfOk};
+ghost use Rattle.std.specs.Prelude.{◌≡◌, Ok, IfOk};
 
 use nextest_filter_faults::{AndOperator, DifferenceOperator, NotOperator, OrOperator};
 use nextest_filter_leaves::ParsedLeaf;
@@ -71,7 +71,7 @@ fn boxed_with<S: Copy>(
     left: ParsedExpr<S>,
     right: Result<ParsedExpr<S>, AllocError>,
 ) -> Result<(Box<ParsedExpr<S>>, Box<ParsedExpr<S>>), AllocError>
-    ensures { IfOk result (λ r. (r.0.value ≡ left) × IfOk right (λ x. r.1.value ≡ x)) }
+    ensures { IfOk result (λ r. (r.0.value ≡ left) × (right ≡ Ok r.1.value)) }
 {
     match right {
         Ok(right) => both_boxed(alloc, left, right),

@@ -25,28 +25,12 @@ impl<S> ParsedExpr<S> {
         ensures { OnOk result (map (λ l. leaf_of l.now) leaves.new.items ≡ map (λ l. leaf_of l.now) leaves.old.items ++ runtime_leaves (tree_of self.now)) }
     {
         match self {
-            ParsedExpr::Not(_, x) => {
+            ParsedExpr::Not(_, x) | ParsedExpr::Parens(x) => x.push_runtime_only(leaves),
+            ParsedExpr::Union(_, x, y)
+            | ParsedExpr::Intersection(_, x, y)
+            | ParsedExpr::Difference(_, x, y) => {
                 x.push_runtime_only(leaves)?;
-                Ok(())
-            }
-            ParsedExpr::Parens(x) => {
-                x.push_runtime_only(leaves)?;
-                Ok(())
-            }
-            ParsedExpr::Union(_, x, y) => {
-                x.push_runtime_only(leaves)?;
-                y.push_runtime_only(leaves)?;
-                Ok(())
-            }
-            ParsedExpr::Intersection(_, x, y) => {
-                x.push_runtime_only(leaves)?;
-                y.push_runtime_only(leaves)?;
-                Ok(())
-            }
-            ParsedExpr::Difference(_, x, y) => {
-                x.push_runtime_only(leaves)?;
-                y.push_runtime_only(leaves)?;
-                Ok(())
+                y.push_runtime_only(leaves)
             }
             ParsedExpr::Set(leaf) => {
                 if leaf.is_runtime_only() {

@@ -5,6 +5,34 @@ use Rattle.nextest_filter_tokens.specs.Patterns.{ReadsPattern}
 use Rattle.nextest_filter_leaves.proofs.ReadFacts.{if_none, pattern_is}
 use Rattle.nextest_filter_leaves.proofs.matchers.pattern_matcher.Goals as goal
 
+pub returns-in_ok-matcher-in-Some-clause-spoils : goal.returns-in_ok-matcher-in-Some-clause-spoils
+returns-in_ok-matcher-in-Some-clause-spoils c =
+    c.in_ok-matcher-in-Some.ensures.spoils
+
+pub returns-in_ok-matcher-in-Some-clause-as_written : goal.returns-in_ok-matcher-in-Some-clause-as_written
+returns-in_ok-matcher-in-Some-clause-as_written c =
+    c.in_ok-matcher-in-Some.ensures.as_written
+
+pub returns-in_ok-report-in-None-clause-goes_on : goal.returns-in_ok-report-in-None-clause-goes_on
+returns-in_ok-report-in-None-clause-goes_on c =
+    let report = c.in_ok-report-in-None.ensures in
+    let up_to = c.close_place-end.ensures.up_to in
+    let within = report.within (length c.args.text.now) c.requires.faults.0 (omega (arith, up_to.end)) in
+    (omega (arith, up_to.rises), up_to.end, (report.grows, report.keeps_syntax, (within, report.same_over c.args.text.now c.requires.faults.1 refl)))
+
+pub returns-in_ok-report-in-None-clause-spoils : goal.returns-in_ok-report-in-None-clause-spoils
+returns-in_ok-report-in-None-clause-spoils c =
+    (tt, c.in_ok-report-in-None.ensures.some)
+
+pub returns-in_ok-report-in-None-clause-unbuilt : goal.returns-in_ok-report-in-None-clause-unbuilt
+returns-in_ok-report-in-None-clause-unbuilt c clean =
+    absurd (omega (arith, clean, c.in_ok-report-in-None.ensures.syntax refl))
+
+pub returns-in_ok-report-in-None-clause-only : goal.returns-in_ok-report-in-None-clause-only
+returns-in_ok-report-in-None-clause-only c clean m j from =
+    let unread = rw c.in-None.is at c.in_ok-pattern.ensures.unread in
+    absurd (unread from.bytes from.end from.reads)
+
 pub returns-in_ok-matcher-in-Some-clause-goes_on : goal.returns-in_ok-matcher-in-Some-clause-goes_on
 returns-in_ok-matcher-in-Some-clause-goes_on c =
     let matcher = c.in_ok-matcher-in-Some.ensures in

@@ -3,6 +3,10 @@ use Rattle.nextest_filter_leaves.specs.LeafGrammar.{made_of}
 use Rattle.nextest_filter_leaves.proofs.ReadFacts.{some_is}
 use Rattle.nextest_filter_leaves.proofs.matchers.text_matcher.Goals as goal
 
+pub some_text-requires-clause-faults : goal.some_text-requires-clause-faults
+some_text-requires-clause-faults c =
+    c.requires.faults
+
 pub returns-in_ok-matcher-in-Some-clause-goes_on : goal.returns-in_ok-matcher-in-Some-clause-goes_on
 returns-in_ok-matcher-in-Some-clause-goes_on c =
     let text = c.args.text.now in

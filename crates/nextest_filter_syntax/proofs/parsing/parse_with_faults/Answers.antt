@@ -5,6 +5,26 @@ use Rattle.nextest_filter_syntax.proofs.OperatorFacts.{whole_ends}
 use Rattle.nextest_filter_syntax.proofs.StepFacts.{all_faults, built_whole, spoiled_grows, whole_exact, whole_tree}
 use Rattle.nextest_filter_syntax.proofs.parsing.parse_with_faults.Goals as goal
 
+pub returns-in-Ok-clause-spoiled : goal.returns-in-Ok-clause-spoiled
+returns-in-Ok-clause-spoiled c =
+    spoiled_grows c.in_ok-tree.tree _ _ c.in_ok-tree.ensures.spoils.1 c.in-Ok.ensures.grows.0
+
+pub returns-in-Ok-clause-as_written : goal.returns-in-Ok-clause-as_written
+returns-in-Ok-clause-as_written c =
+    c.in_ok-tree.ensures.as_written
+
+pub returns-in-Ok-clause-within : goal.returns-in-Ok-clause-within
+returns-in-Ok-clause-within c =
+    c.in-Ok.ensures.grows.2.0
+
+pub returns-in-Ok-clause-over : goal.returns-in-Ok-clause-over
+returns-in-Ok-clause-over c =
+    c.in-Ok.ensures.grows.2.1
+
+pub expect_end-requires-clause-faults : goal.expect_end-requires-clause-faults
+expect_end-requires-clause-faults c =
+    c.in_ok-tree.ensures.goes_on.2.2
+
 pub returns-in-Ok-clause-exact : goal.returns-in-Ok-clause-exact
 returns-in-Ok-clause-exact c =
     let text = c.args.text.now in

@@ -1,14 +1,203 @@
 use Rattle.std.proofs.Common.{◌≡◌, ◌∙◌, ◌-◌, suc, refl, ap, sym, subst, arith}
 use Rattle.nextest_filter_tokens.specs.ReadingSteps.{IsClean}
-use Rattle.nextest_filter_tokens.specs.declared.heads.Head.TheVariants.{Says}
+use Rattle.nextest_filter_tokens.specs.declared.heads.Head.TheVariants.{Names, Platform, Says, Misplaces, Unknown}
 use Rattle.nextest_filter_leaves.specs.Leaves.{leaf_of}
 use Rattle.nextest_filter_leaves.specs.LeafGrammar.{NullaryFrom, Stands}
 use Rattle.nextest_filter_syntax.specs.Trees.{set_of}
-use Rattle.nextest_filter_syntax.specs.Grammar.{MoreOf, joined_of}
-use Rattle.nextest_filter_syntax.specs.Reading.{is_wrong}
+use Rattle.nextest_filter_syntax.specs.Grammar.{MoreOf, Reads, joined_of}
+use Rattle.nextest_filter_syntax.specs.Reading.{IsReading, is_wrong}
 use Rattle.nextest_filter_syntax.proofs.OperatorFacts.{close_ends}
-use Rattle.nextest_filter_syntax.proofs.StepFacts.{fault_none, first_only, first_read, last_only, last_read, leaf_read, negated_only, negated_read, nothing_of, operand_is, parens_only, parens_read, set_read, step_only, step_read, step_patterns, step_spoiled}
+use Rattle.nextest_filter_syntax.proofs.StepFacts.{fault_none, first_only, first_read, goes_after, goes_both, goes_from, last_only, last_read, leaf_read, leaf_spoils, negated_deep, negated_only, negated_read, negated_spoils, nothing_of, operand_is, parens_deep, parens_only, parens_read, parens_spoils, platform_spoils, set_read, spoils_after, stays, step_only, step_patterns, step_read, step_spoiled}
 use Rattle.nextest_filter_syntax.proofs.reading.+reading.Goals as goal
+
+pub operand_from-returns-then-room-eq0-clause-goes_on : goal.operand_from-returns-then-room-eq0-clause-goes_on
+operand_from-returns-then-room-eq0-clause-goes_on n c =
+    stays c.args.text.now c.args.at c.skip_blanks-start.result c.args.faults.now c.report_too_deep.new.faults c.skip_blanks-start.ensures.rises c.skip_blanks-start.ensures.end c.in_ok-report_too_deep-in-Negates.ensures.grows
+
+pub operand_from-returns-then-room-eq0-clause-spoils : goal.operand_from-returns-then-room-eq0-clause-spoils
+operand_from-returns-then-room-eq0-clause-spoils n c =
+    (tt, c.in_ok-report_too_deep-in-Negates.ensures.fault.0)
+
+pub operand_from-returns-then-room-eq0-2-clause-goes_on : goal.operand_from-returns-then-room-eq0-2-clause-goes_on
+operand_from-returns-then-room-eq0-2-clause-goes_on n c =
+    stays c.args.text.now c.args.at c.skip_blanks-start.result c.args.faults.now c.report_too_deep-then-room-eq0-2.new.faults c.skip_blanks-start.ensures.rises c.skip_blanks-start.ensures.end c.in_ok-report_too_deep-in-Opens.ensures.grows
+
+pub operand_from-returns-then-room-eq0-2-clause-spoils : goal.operand_from-returns-then-room-eq0-2-clause-spoils
+operand_from-returns-then-room-eq0-2-clause-spoils n c =
+    (tt, c.in_ok-report_too_deep-in-Opens.ensures.fault.0)
+
+pub operand_from-returns-in_ok-report_no_operand-in-Unknown-clause-goes_on : goal.operand_from-returns-in_ok-report_no_operand-in-Unknown-clause-goes_on
+operand_from-returns-in_ok-report_no_operand-in-Unknown-clause-goes_on n c =
+    stays c.args.text.now c.args.at c.skip_blanks-start.result c.args.faults.now c.report_no_operand.new.faults c.skip_blanks-start.ensures.rises c.skip_blanks-start.ensures.end c.in_ok-report_no_operand-in-Unknown.ensures.grows
+
+pub operand_from-returns-in_ok-report_no_operand-in-Unknown-clause-spoils : goal.operand_from-returns-in_ok-report_no_operand-in-Unknown-clause-spoils
+operand_from-returns-in_ok-report_no_operand-in-Unknown-clause-spoils n c =
+    (tt, c.in_ok-report_no_operand-in-Unknown.ensures.fault.0)
+
+pub operand_from-returns-in_ok-report_misplaced-in-Misplaces-clause-goes_on : goal.operand_from-returns-in_ok-report_misplaced-in-Misplaces-clause-goes_on
+operand_from-returns-in_ok-report_misplaced-in-Misplaces-clause-goes_on n c =
+    let end = c.in-Misplaces.ensures.end in
+    (omega (arith, c.skip_blanks-start.ensures.rises, end.0), end.1, c.in_ok-report_misplaced-in-Misplaces.ensures.grows)
+
+pub operand_from-returns-in_ok-report_misplaced-in-Misplaces-clause-spoils : goal.operand_from-returns-in_ok-report_misplaced-in-Misplaces-clause-spoils
+operand_from-returns-in_ok-report_misplaced-in-Misplaces-clause-spoils n c =
+    (tt, c.in_ok-report_misplaced-in-Misplaces.ensures.fault.0)
+
+pub operand_from-closed_parens-requires-clause-faults : goal.operand_from-closed_parens-requires-clause-faults
+operand_from-closed_parens-requires-clause-faults n c =
+    c.in_ok-tree-in-Opens.ensures.goes_on.2.2
+
+pub tree_from-returns-then-level-eq0-clause-goes_on : goal.tree_from-returns-then-level-eq0-clause-goes_on
+tree_from-returns-then-level-eq0-clause-goes_on n c =
+    c.in_ok-tree.ensures.goes_on
+
+pub tree_from-returns-then-level-eq0-clause-spoils : goal.tree_from-returns-then-level-eq0-clause-spoils
+tree_from-returns-then-level-eq0-clause-spoils n c =
+    c.in_ok-tree.ensures.spoils
+
+pub tree_from-returns-then-level-eq0-clause-as_written : goal.tree_from-returns-then-level-eq0-clause-as_written
+tree_from-returns-then-level-eq0-clause-as_written n c =
+    c.in_ok-tree.ensures.as_written
+
+pub tree_from-operator_after-requires-clause-faults : goal.tree_from-operator_after-requires-clause-faults
+tree_from-operator_after-requires-clause-faults n c =
+    c.loop-found.invariant.goes_on.2.2
+
+pub operand_from-named_set_from-requires-clause-at : goal.operand_from-named_set_from-requires-clause-at
+operand_from-named_set_from-requires-clause-at n c = c.in-Names.ensures.end.1
+
+pub operand_from-named_set_from-requires-clause-boundary : goal.operand_from-named_set_from-requires-clause-boundary
+operand_from-named_set_from-requires-clause-boundary n c = c.in-Names.ensures.end.2
+
+pub operand_from-returns-in_ok-leaf-in-Names-clause-goes_on : goal.operand_from-returns-in_ok-leaf-in-Names-clause-goes_on
+operand_from-returns-in_ok-leaf-in-Names-clause-goes_on n c =
+    goes_from c.args.text.now c.args.at c.skip_blanks-start.result c.in-Names.next c.in_ok-leaf-in-Names.end c.args.faults.now c.named_set_from.new.faults c.skip_blanks-start.ensures.rises c.in-Names.ensures.end.0 c.in_ok-leaf-in-Names.ensures.goes_on
+
+pub operand_from-returns-in_ok-leaf-in-Names-clause-spoils : goal.operand_from-returns-in_ok-leaf-in-Names-clause-spoils
+operand_from-returns-in_ok-leaf-in-Names-clause-spoils n c =
+    leaf_spoils c.in_ok-leaf-in-Names.leaf c.leaf_expr.result c.args.faults.now c.named_set_from.new.faults c.leaf_expr.ensures.value c.in_ok-leaf-in-Names.ensures.spoils
+
+pub operand_from-returns-in_ok-leaf-in-Names-clause-as_written : goal.operand_from-returns-in_ok-leaf-in-Names-clause-as_written
+operand_from-returns-in_ok-leaf-in-Names-clause-as_written n c =
+    c.leaf_expr.ensures.as_written c.in_ok-leaf-in-Names.ensures.as_written
+
+pub operand_from-returns-in_ok-leaf-in-Names-clause-only : goal.operand_from-returns-in_ok-leaf-in-Names-clause-only
+operand_from-returns-in_ok-leaf-in-Names-clause-only n c clean t j r =
+    let from = operand_is c.args.text.now c.args.room c.args.at j c.skip_blanks-start.result t (Names c.in-Names.predicate c.in-Names.next) c.skip_blanks-start.ensures.value c.in-Names.ensures.value r in
+    c.in_ok-leaf-in-Names.ensures.only clean from.0 j from.2
+
+pub operand_from-platform_set_from-requires-clause-at : goal.operand_from-platform_set_from-requires-clause-at
+operand_from-platform_set_from-requires-clause-at n c = c.in-Platform.ensures.end.1
+
+pub operand_from-platform_set_from-requires-clause-boundary : goal.operand_from-platform_set_from-requires-clause-boundary
+operand_from-platform_set_from-requires-clause-boundary n c = c.in-Platform.ensures.end.2
+
+pub operand_from-returns-in_ok-leaf-in-Platform-clause-goes_on : goal.operand_from-returns-in_ok-leaf-in-Platform-clause-goes_on
+operand_from-returns-in_ok-leaf-in-Platform-clause-goes_on n c =
+    goes_from c.args.text.now c.args.at c.skip_blanks-start.result c.in-Platform.next c.in_ok-leaf-in-Platform.end c.args.faults.now c.platform_set_from.new.faults c.skip_blanks-start.ensures.rises c.in-Platform.ensures.end.0 c.in_ok-leaf-in-Platform.ensures.goes_on
+
+pub operand_from-returns-in_ok-leaf-in-Platform-clause-spoils : goal.operand_from-returns-in_ok-leaf-in-Platform-clause-spoils
+operand_from-returns-in_ok-leaf-in-Platform-clause-spoils n c =
+    platform_spoils c.in_ok-leaf-in-Platform.leaf c.leaf_expr-in-Platform.result c.args.faults.now c.platform_set_from.new.faults c.leaf_expr-in-Platform.ensures.value c.in_ok-leaf-in-Platform.ensures.spoils
+
+pub operand_from-returns-in_ok-leaf-in-Platform-clause-as_written : goal.operand_from-returns-in_ok-leaf-in-Platform-clause-as_written
+operand_from-returns-in_ok-leaf-in-Platform-clause-as_written n c =
+    c.leaf_expr-in-Platform.ensures.as_written c.in_ok-leaf-in-Platform.ensures.as_written
+
+pub operand_from-returns-in_ok-leaf-in-Platform-clause-only : goal.operand_from-returns-in_ok-leaf-in-Platform-clause-only
+operand_from-returns-in_ok-leaf-in-Platform-clause-only n c clean t j r =
+    let from = operand_is c.args.text.now c.args.room c.args.at j c.skip_blanks-start.result t (Platform c.in-Platform.next) c.skip_blanks-start.ensures.value c.in-Platform.ensures.value r in
+    c.in_ok-leaf-in-Platform.ensures.only clean from.0 j from.2
+
+pub operand_from-nullary_set_from-requires-clause-start : goal.operand_from-nullary_set_from-requires-clause-start
+operand_from-nullary_set_from-requires-clause-start n c = omega (arith, c.in-Says.ensures.end.0)
+
+pub operand_from-nullary_set_from-requires-clause-at : goal.operand_from-nullary_set_from-requires-clause-at
+operand_from-nullary_set_from-requires-clause-at n c = c.in-Says.ensures.end.1
+
+pub operand_from-nullary_set_from-requires-clause-boundary : goal.operand_from-nullary_set_from-requires-clause-boundary
+operand_from-nullary_set_from-requires-clause-boundary n c = c.in-Says.ensures.end.2
+
+pub operand_from-returns-in_ok-leaf-in-Says-clause-goes_on : goal.operand_from-returns-in_ok-leaf-in-Says-clause-goes_on
+operand_from-returns-in_ok-leaf-in-Says-clause-goes_on n c =
+    goes_from c.args.text.now c.args.at c.skip_blanks-start.result c.in-Says.next c.in_ok-leaf-in-Says.end c.args.faults.now c.nullary_set_from.new.faults c.skip_blanks-start.ensures.rises c.in-Says.ensures.end.0 c.in_ok-leaf-in-Says.ensures.goes_on
+
+pub operand_from-returns-in_ok-leaf-in-Says-clause-spoils : goal.operand_from-returns-in_ok-leaf-in-Says-clause-spoils
+operand_from-returns-in_ok-leaf-in-Says-clause-spoils n c =
+    (c.in_ok-leaf-in-Says.ensures.keeps, tt)
+
+pub operand_from-returns-in_ok-leaf-in-Says-clause-as_written : goal.operand_from-returns-in_ok-leaf-in-Says-clause-as_written
+operand_from-returns-in_ok-leaf-in-Says-clause-as_written n c =
+    c.in_ok-leaf-in-Says.ensures.as_written
+
+pub operand_from-returns-in_ok-tree-in-Negates-2-clause-goes_on : goal.operand_from-returns-in_ok-tree-in-Negates-2-clause-goes_on
+operand_from-returns-in_ok-tree-in-Negates-2-clause-goes_on n c =
+    goes_from c.args.text.now c.args.at c.skip_blanks-start.result c.in-Negates.next c.in_ok-tree-in-Negates.end c.args.faults.now c.operand_from.new.faults c.skip_blanks-start.ensures.rises c.in-Negates.ensures.end.0 c.in_ok-tree-in-Negates.ensures.goes_on
+
+pub operand_from-returns-in_ok-tree-in-Negates-2-clause-spoils : goal.operand_from-returns-in_ok-tree-in-Negates-2-clause-spoils
+operand_from-returns-in_ok-tree-in-Negates-2-clause-spoils n c =
+    negated_spoils c.in-Negates.op c.in_ok-tree-in-Negates.tree c.in_ok-tree-in-Negates-2.tree c.args.faults.now c.operand_from.new.faults c.in_ok-tree-in-Negates-2.ensures.value c.in_ok-tree-in-Negates.ensures.spoils
+
+pub operand_from-returns-in_ok-tree-in-Negates-2-clause-as_written : goal.operand_from-returns-in_ok-tree-in-Negates-2-clause-as_written
+operand_from-returns-in_ok-tree-in-Negates-2-clause-as_written n c =
+    c.in_ok-tree-in-Negates-2.ensures.as_written c.in_ok-tree-in-Negates.ensures.as_written
+
+pub operand_from-returns-in_ok-tree-in-Opens-2-clause-goes_on : goal.operand_from-returns-in_ok-tree-in-Opens-2-clause-goes_on
+operand_from-returns-in_ok-tree-in-Opens-2-clause-goes_on n c =
+    goes_from c.args.text.now c.args.at c.skip_blanks-start.result c.in-Opens.next c.in_ok-tree-in-Opens-2.after c.args.faults.now c.closed_parens.new.faults c.skip_blanks-start.ensures.rises c.in-Opens.ensures.end.0 (goes_both c.args.text.now c.in-Opens.next c.in_ok-tree-in-Opens.end c.in_ok-tree-in-Opens-2.after c.args.faults.now c.tree_from.new.faults c.closed_parens.new.faults c.in_ok-tree-in-Opens.ensures.goes_on c.in_ok-tree-in-Opens-2.ensures.goes_on)
+
+pub operand_from-returns-in_ok-tree-in-Opens-2-clause-spoils : goal.operand_from-returns-in_ok-tree-in-Opens-2-clause-spoils
+operand_from-returns-in_ok-tree-in-Opens-2-clause-spoils n c =
+    parens_spoils c.in_ok-tree-in-Opens.tree c.in_ok-tree-in-Opens-2.tree c.args.faults.now c.tree_from.new.faults c.closed_parens.new.faults c.in_ok-tree-in-Opens-2.ensures.value c.in_ok-tree-in-Opens.ensures.spoils c.in_ok-tree-in-Opens-2.ensures.keeps c.in_ok-tree-in-Opens-2.ensures.goes_on.2.0
+
+pub operand_from-returns-in_ok-tree-in-Opens-2-clause-as_written : goal.operand_from-returns-in_ok-tree-in-Opens-2-clause-as_written
+operand_from-returns-in_ok-tree-in-Opens-2-clause-as_written n c =
+    c.in_ok-tree-in-Opens-2.ensures.as_written c.in_ok-tree-in-Opens.ensures.as_written
+
+pub operand_from-returns-then-room-eq0-clause-only : goal.operand_from-returns-then-room-eq0-clause-only
+operand_from-returns-then-room-eq0-clause-only n c clean t j r =
+    absurd (negated_deep c.args.text.now c.args.room c.args.at c.skip_blanks-start.result c.in-Negates.next j c.in-Negates.op t c.skip_blanks-start.ensures.value c.in-Negates.ensures.value c.if-room-eq0.true r)
+
+pub operand_from-returns-then-room-eq0-2-clause-only : goal.operand_from-returns-then-room-eq0-2-clause-only
+operand_from-returns-then-room-eq0-2-clause-only n c clean t j r =
+    absurd (parens_deep c.args.text.now c.args.room c.args.at c.skip_blanks-start.result c.in-Opens.next j t c.skip_blanks-start.ensures.value c.in-Opens.ensures.value c.if-room-eq0-2.true r)
+
+pub operand_from-returns-in_ok-report_misplaced-in-Misplaces-clause-only : goal.operand_from-returns-in_ok-report_misplaced-in-Misplaces-clause-only
+operand_from-returns-in_ok-report_misplaced-in-Misplaces-clause-only n c clean t j r =
+    absurd (operand_is c.args.text.now c.args.room c.args.at j c.skip_blanks-start.result t (Misplaces c.in-Misplaces.op c.in-Misplaces.next) c.skip_blanks-start.ensures.value c.in-Misplaces.ensures.value r)
+
+pub operand_from-returns-in_ok-report_misplaced-in-Misplaces-clause-read : goal.operand_from-returns-in_ok-report_misplaced-in-Misplaces-clause-read
+operand_from-returns-in_ok-report_misplaced-in-Misplaces-clause-read n c clean =
+    absurd (omega (arith, clean, c.in_ok-report_misplaced-in-Misplaces.ensures.fault.1))
+
+pub operand_from-returns-in_ok-report_no_operand-in-Unknown-clause-only : goal.operand_from-returns-in_ok-report_no_operand-in-Unknown-clause-only
+operand_from-returns-in_ok-report_no_operand-in-Unknown-clause-only n c clean t j r =
+    absurd (operand_is c.args.text.now c.args.room c.args.at j c.skip_blanks-start.result t Unknown c.skip_blanks-start.ensures.value c.in-Unknown.ensures.value r)
+
+pub operand_from-returns-in_ok-report_no_operand-in-Unknown-clause-read : goal.operand_from-returns-in_ok-report_no_operand-in-Unknown-clause-read
+operand_from-returns-in_ok-report_no_operand-in-Unknown-clause-read n c clean =
+    absurd (omega (arith, clean, c.in_ok-report_no_operand-in-Unknown.ensures.fault.1))
+
+pub tree_from-returns-then-level-eq0-clause-read : goal.tree_from-returns-then-level-eq0-clause-read
+tree_from-returns-then-level-eq0-clause-read n c clean =
+    subst (λ l. IsReading c.args.text.now c.args.room l c.args.at c.in_ok-tree.tree c.in_ok-tree.end) (sym c.if-level-eq0.true) (c.in_ok-tree.ensures.read clean)
+
+pub tree_from-returns-then-level-eq0-clause-only : goal.tree_from-returns-then-level-eq0-clause-only
+tree_from-returns-then-level-eq0-clause-only n c clean t j r ends =
+    c.in_ok-tree.ensures.only clean t j (subst (λ l. Reads c.args.text.now c.args.room l c.args.at t j) c.if-level-eq0.true r)
+
+pub tree_from-returns-in_default-clause-goes_on : goal.tree_from-returns-in_default-clause-goes_on
+tree_from-returns-in_default-clause-goes_on n c =
+    goes_after c.args.text.now c.args.at c.loop-found.end c.args.faults.now c.loop-found.faults c.operator_after.new.faults c.loop-found.invariant.goes_on c.in-Ok.ensures.grows
+
+pub tree_from-returns-in_default-clause-spoils : goal.tree_from-returns-in_default-clause-spoils
+tree_from-returns-in_default-clause-spoils n c =
+    let nothing = nothing_of c.args.text.now c.in-Ok.found (sym c.place_after.ensures ∙ c.in_default.is) in
+    spoils_after c.loop-found.tree c.args.faults.now c.loop-found.faults c.operator_after.new.faults c.loop-found.invariant.spoils (c.in-Ok.ensures.keeps (ap is_wrong nothing)) c.in-Ok.ensures.grows.0
+
+pub tree_from-returns-in_default-clause-as_written : goal.tree_from-returns-in_default-clause-as_written
+tree_from-returns-in_default-clause-as_written n c =
+    c.loop-found.invariant.as_written
 
 pub operand_from-returns-in_ok-leaf-in-Names-clause-read : goal.operand_from-returns-in_ok-leaf-in-Names-clause-read
 operand_from-returns-in_ok-leaf-in-Names-clause-read n c clean =

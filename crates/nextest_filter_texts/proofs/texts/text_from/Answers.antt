@@ -5,6 +5,28 @@ use Rattle.nextest_filter_texts.specs.Texts.{ReadsText}
 use Rattle.nextest_filter_texts.proofs.TextFacts.{IsPart, run_between, part_ended, part_spoiled, escape_taken, boundary_after_backslash, within_text}
 use Rattle.nextest_filter_texts.proofs.texts.text_from.Goals as goal
 
+pub returns-then-is_whole-clause-goes_on : goal.returns-then-is_whole-clause-goes_on
+returns-then-is_whole-clause-goes_on c =
+    let on = c.loop-value.invariant.goes_on in
+    (omega (arith, on.0, c.plain_end-end.ensures.rises), c.plain_end-end.ensures.end, on.2)
+
+pub returns-then-is_text_end-clause-goes_on : goal.returns-then-is_text_end-clause-goes_on
+returns-then-is_text_end-clause-goes_on c =
+    let on = c.loop-value.invariant.goes_on in
+    (omega (arith, on.0, c.plain_end-end.ensures.rises), c.plain_end-end.ensures.end, on.2)
+
+pub returns-then-is_text_end-clause-spoiled : goal.returns-then-is_text_end-clause-spoiled
+returns-then-is_text_end-clause-spoiled c =
+    c.loop-value.invariant.fault c.if-is_whole.false
+
+pub returns-then-is_text_end-clause-unread : goal.returns-then-is_text_end-clause-unread
+returns-then-is_text_end-clause-unread c =
+    c.loop-value.invariant.unread c.if-is_whole.false
+
+pub report_escape-requires-clause-faults : goal.report_escape-requires-clause-faults
+report_escape-requires-clause-faults c =
+    c.loop-value.invariant.goes_on.2.2
+
 pub returns-then-is_whole-clause-whole : goal.returns-then-is_whole-clause-whole
 returns-then-is_whole-clause-whole c =
     let text = c.args.text.now in
