@@ -119,11 +119,16 @@ impl<'a> LentRule<'a> {
         ensures copied { IfOk result (λ r. r ≡ self.now) }
     {
         let premises = self.premises.copy(alloc)?;
-        let conclusion = self.conclusion.copy(alloc)?;
-        Ok(Rule {
-            premises,
-            conclusion,
-        })
+        match self.conclusion.copy(alloc) {
+            Ok(conclusion) => Ok(Rule {
+                premises,
+                conclusion,
+            }),
+            Err(refused) => {
+                drop(premises);
+                Err(refused)
+            }
+        }
     }
 }
 

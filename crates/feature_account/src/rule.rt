@@ -37,10 +37,15 @@ impl Rule {
         ensures { IfOk result (λ r. r ≡ self.now) }
     {
         let premises = self.premises.copy(alloc)?;
-        let conclusion = self.conclusion.copy(alloc)?;
-        Ok(Rule {
-            premises,
-            conclusion,
-        })
+        match self.conclusion.copy(alloc) {
+            Ok(conclusion) => Ok(Rule {
+                premises,
+                conclusion,
+            }),
+            Err(refused) => {
+                drop(premises);
+                Err(refused)
+            }
+        }
     }
 }

@@ -1,4 +1,5 @@
 pub mod PathFacts
+pub mod ChainFacts
 pub mod SetFacts
 pub mod MemberFacts
 pub mod WalkFacts
