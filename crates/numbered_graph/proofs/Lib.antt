@@ -18,3 +18,4 @@ pub mod ListingFacts
 pub mod RootFacts
 pub mod RunFacts
 pub mod CycleFacts
+pub mod LevelFacts
