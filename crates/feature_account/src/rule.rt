@@ -19,7 +19,16 @@ impl Premises {
         match self {
             Premises::None => Ok(Premises::None),
             Premises::One(a) => Ok(Premises::One(a.copy(alloc)?)),
-            Premises::Two(a, b) => Ok(Premises::Two(a.copy(alloc)?, b.copy(alloc)?)),
+            Premises::Two(a, b) => {
+                let first = a.copy(alloc)?;
+                match b.copy(alloc) {
+                    Ok(second) => Ok(Premises::Two(first, second)),
+                    Err(refused) => {
+                        drop(first);
+                        Err(refused)
+                    }
+                }
+            }
         }
     }
 }
