@@ -1,4 +1,3 @@
-use Rattle.std.proofs.Common.{ap}
 use Rattle.guppy_package_table.specs.Tables.{link_between}
 use Rattle.guppy_package_table.proofs.PushFacts.{mapped_all, mapped_more}
 use Rattle.guppy_package_table.proofs.numbering.numbered_links.Goals as goal

@@ -1,4 +1,4 @@
-use Rattle.std.proofs.Common.{◌≡◌, ℕ, suc, ◌-◌, ◌<◌, ◌≤◌, length, replicate, set, subst, sym, ap, arith, rules}
+use Rattle.std.proofs.Common.{◌≡◌, suc, ◌-◌, ◌<◌, length, replicate, set, subst, sym, arith, rules}
 use Rattle.std.proofs.lemmas.List.{get_or_read}
 use Rattle.numbered_graph.specs.Chains.{AreChained}
 use Rattle.numbered_graph.proofs.ChainFacts.{chained_more, chained_none}

@@ -1,4 +1,4 @@
-use Rattle.std.proofs.Common.{◌++◌, ◌∷◌, [], map, take, take_all, ap, sym, ◌∙◌}
+use Rattle.std.proofs.Common.{◌++◌, ◌∷◌, [], map, take_all, ap, sym, ◌∙◌}
 use Rattle.list_facts.proofs.Lists.{map-take_more}
 use Rattle.numbered_graph.specs.Cycles.{key_of}
 use Rattle.numbered_graph.proofs.cycle_lists.keys_of.Goals as goal

@@ -1,6 +1,5 @@
 use Rattle.std.proofs.Common.{◌≡◌, ◌+◌, ◌<◌, Bool, true, length, get_or, slice_set, All, Vec, Global, sym, subst, ap, ◌∙◌, arith}
 use Rattle.std.proofs.lemmas.List.{length-set}
-use Rattle.numbered_graph.specs.Links.{link_at}
 use Rattle.numbered_graph.specs.Cycles.{AreLevels}
 use Rattle.numbered_graph.proofs.LevelFacts.{levels_more, levels_same}
 use Rattle.numbered_graph.proofs.cycle_lists.levels_of.Goals.{then-from-to, else-from-to}

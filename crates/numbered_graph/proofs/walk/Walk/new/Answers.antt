@@ -1,4 +1,4 @@
-use Rattle.std.proofs.Common.{◌≡◌, ◌+◌, ◌<◌, [], Bool, false, None, replicate, subst, sym, ap, rules, length, get_or, take, arith}
+use Rattle.std.proofs.Common.{◌≡◌, ◌+◌, ◌<◌, [], false, None, replicate, subst, sym, ap, rules, length, get_or, take, arith}
 use Rattle.std.proofs.lemmas.List.{take_more}
 use Rattle.numbered_graph.specs.Walks.{AreFollowed, AreListed, Shown, taken_links}
 use Rattle.numbered_graph.proofs.WalkFacts.{AreFollowed-none, AreFollowed-start, AreListed-none}
