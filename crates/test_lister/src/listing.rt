@@ -37,10 +37,7 @@ fn has_repeat(alloc: Global, names: &[String]) -> Result<bool, AllocError>
 }
 
 /// Whether a name stands twice, by putting the names into an empty set.
-fn finds_repeat<'a>(
-    seen: &mut IndexSet<&'a str>,
-    names: &'a [String],
-) -> Result<bool, AllocError>
+fn finds_repeat<'a>(seen: &mut IndexSet<&'a str>, names: &'a [String]) -> Result<bool, AllocError>
     requires { seen.old.keys ≡ [] }
     ensures { IfOk result (λ found. IsTrue found ↔ HasRepeat (texts names.entry.now)) }
 {

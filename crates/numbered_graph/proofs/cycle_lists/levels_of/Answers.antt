@@ -14,17 +14,20 @@ loop-number-preserved c =
     let before = c.loop-number.invariant in
     let from = ap (λ n. get_or keys n 0) c.near.ensures.value in
     let to = ap (λ n. get_or keys n 0) c.far.ensures.value in
-    elim c.if-from-to.branch [ then-from-to w ↦ (
-      let in_keys : c.near.result < length keys = let node = c.near.ensures.node in let sized = c.requires in omega arith in
-      let small = subst (λ k. k < length flags) from (before.sized c.near.result 0 in_keys) in
-      record {
-        levels = subst (λ (v : Vec Bool Global). AreLevels links keys (j + 1) v.items) (sym w.levels-is) (subst (λ k. AreLevels links keys (j + 1) (slice_set flags k true)) (sym from) (levels_more before.levels (sym from ∙ w.if-from-to.true ∙ to) small));
-        sized = subst (λ (v : Vec Bool Global). All (λ k. k < length v.items) keys) (sym w.levels-is) (subst (λ n. All (λ k. k < n) keys) (sym (length-set flags (get_or keys c.near.result 0) true)) before.sized);
+    elim c.if-from-to.branch [
+      | then-from-to w ↦ (
+          let in_keys : c.near.result < length keys = let node = c.near.ensures.node in let sized = c.requires in omega arith in
+          let small = subst (λ k. k < length flags) from (before.sized c.near.result 0 in_keys) in
+          record {
+            levels = subst (λ (v : Vec Bool Global). AreLevels links keys (j + 1) v.items) (sym w.levels-is) (subst (λ k. AreLevels links keys (j + 1) (slice_set flags k true)) (sym from) (levels_more before.levels (sym from ∙ w.if-from-to.true ∙ to) small));
+            sized = subst (λ (v : Vec Bool Global). All (λ k. k < length v.items) keys) (sym w.levels-is) (subst (λ n. All (λ k. k < n) keys) (sym (length-set flags (get_or keys c.near.result 0) true)) before.sized);
+          }
+          )
+      | else-from-to w ↦ record {
+        levels = subst (λ (v : Vec Bool Global). AreLevels links keys (j + 1) v.items) (sym w.levels-is) (levels_same before.levels (λ same. w.if-from-to.false (from ∙ same ∙ sym to)));
+        sized = subst (λ (v : Vec Bool Global). All (λ k. k < length v.items) keys) (sym w.levels-is) before.sized;
       }
-    ) | else-from-to w ↦ record {
-      levels = subst (λ (v : Vec Bool Global). AreLevels links keys (j + 1) v.items) (sym w.levels-is) (levels_same before.levels (λ same. w.if-from-to.false (from ∙ same ∙ sym to)));
-      sized = subst (λ (v : Vec Bool Global). All (λ k. k < length v.items) keys) (sym w.levels-is) before.sized;
-    } ]
+    ]
 
 pub returns-clause-levels : goal.returns-clause-levels
 returns-clause-levels c =

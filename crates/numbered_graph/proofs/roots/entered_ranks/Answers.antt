@@ -17,21 +17,24 @@ loop-number-preserved c =
     let near = c.near.ensures.value in
     let far = c.far.ensures.value in
     let at = ap (λ n. get_or ranks n 0) far in
-    elim c.if-near-far.branch [ then-near-far+then-is_inside w ↦ (
-      let entry : IsEntry d links ranks set j = record { inside = sym w.is_inside.ensures ∙ w.if-is_inside.true; crosses = λ same. w.if-near-far.true (ap (λ n. get_or ranks n 0) near ∙ same ∙ sym at) } in
-      let in_ranks : c.far.result < length ranks = let node = c.far.ensures.node in let sized = c.requires in omega arith in
-      let small = subst (λ r. r < length flags) at (before.sized c.far.result 0 in_ranks) in
-      record {
-        entered = subst (λ (v : Vec Bool Global). AreEntered d links ranks set (j + 1) v.items) (sym w.entered-is) (subst (λ r. AreEntered d links ranks set (j + 1) (slice_set flags r true)) (sym at) (entered_more before.entered entry small));
-        sized = subst (λ (v : Vec Bool Global). All (λ r. r < length v.items) ranks) (sym w.entered-is) (subst (λ n. All (λ r. r < n) ranks) (sym (length-set flags (get_or ranks c.far.result 0) true)) before.sized);
-      }
-    ) | else-near-far w ↦ (
-      let none : ¬ IsEntry d links ranks set j = elim w.else-near-far.branch [ else-near-far-via-then-near-far+else-is_inside w' ↦ λ entry. true≢false (sym entry.inside ∙ sym w'.is_inside.ensures ∙ w'.if-is_inside.false) | else-near-far-via-else-near-far w' ↦ λ entry. entry.crosses (sym (ap (λ n. get_or ranks n 0) near) ∙ w'.if-near-far.false ∙ at) ] in
-      record {
-        entered = subst (λ (v : Vec Bool Global). AreEntered d links ranks set (j + 1) v.items) (sym w.entered-is) (entered_same before.entered none);
-        sized = subst (λ (v : Vec Bool Global). All (λ r. r < length v.items) ranks) (sym w.entered-is) before.sized;
-      }
-    ) ]
+    elim c.if-near-far.branch [
+      | then-near-far+then-is_inside w ↦ (
+          let entry : IsEntry d links ranks set j = record { inside = sym w.is_inside.ensures ∙ w.if-is_inside.true; crosses = λ same. w.if-near-far.true (ap (λ n. get_or ranks n 0) near ∙ same ∙ sym at) } in
+          let in_ranks : c.far.result < length ranks = let node = c.far.ensures.node in let sized = c.requires in omega arith in
+          let small = subst (λ r. r < length flags) at (before.sized c.far.result 0 in_ranks) in
+          record {
+            entered = subst (λ (v : Vec Bool Global). AreEntered d links ranks set (j + 1) v.items) (sym w.entered-is) (subst (λ r. AreEntered d links ranks set (j + 1) (slice_set flags r true)) (sym at) (entered_more before.entered entry small));
+            sized = subst (λ (v : Vec Bool Global). All (λ r. r < length v.items) ranks) (sym w.entered-is) (subst (λ n. All (λ r. r < n) ranks) (sym (length-set flags (get_or ranks c.far.result 0) true)) before.sized);
+          }
+          )
+      | else-near-far w ↦ (
+          let none : ¬ IsEntry d links ranks set j = elim w.else-near-far.branch [ else-near-far-via-then-near-far+else-is_inside w' ↦ λ entry. true≢false (sym entry.inside ∙ sym w'.is_inside.ensures ∙ w'.if-is_inside.false) | else-near-far-via-else-near-far w' ↦ λ entry. entry.crosses (sym (ap (λ n. get_or ranks n 0) near) ∙ w'.if-near-far.false ∙ at) ] in
+          record {
+            entered = subst (λ (v : Vec Bool Global). AreEntered d links ranks set (j + 1) v.items) (sym w.entered-is) (entered_same before.entered none);
+            sized = subst (λ (v : Vec Bool Global). All (λ r. r < length v.items) ranks) (sym w.entered-is) before.sized;
+          }
+          )
+    ]
 
 pub returns-clause-entered : goal.returns-clause-entered
 returns-clause-entered c =

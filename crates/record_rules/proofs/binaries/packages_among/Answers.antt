@@ -17,13 +17,16 @@ loop-row-preserved c =
     let kept = λ (v : Vec (Bor Package) Global). map (λ p. p.now) v.items in
     let found = ap is_found (sym c.row-item.is) ∙ sym c.has_id_among.ensures in
     let more = sym (filter_more is_found packages i item c.loop-row-test.true) in
-    elim c.if-has_id_among.branch [ then-has_id_among+in_ok-push w ↦ (
-      let test : is_found here ≡ true = found ∙ w.if-has_id_among.true in
-      ap kept w.among-is ∙ ap (map (λ (p : Bor Package). p.now)) w.in_ok-push.ensures.items ∙ map_push (λ (p : Bor Package). p.now) c.loop-row.among.items _ ∙ (λ j. so_far j ++ c.row-item.is j ∷ []) ∙ ap (λ b. filter is_found (take i packages) ++ cond b (here ∷ []) []) (sym test) ∙ more
-    ) | else-has_id_among w ↦ (
-      let test : is_found here ≡ false = found ∙ w.if-has_id_among.false in
-      ap kept w.among-is ∙ so_far ∙ sym (append-nil (filter is_found (take i packages))) ∙ ap (λ b. filter is_found (take i packages) ++ cond b (here ∷ []) []) (sym test) ∙ more
-    ) ]
+    elim c.if-has_id_among.branch [
+      | then-has_id_among+in_ok-push w ↦ (
+          let test : is_found here ≡ true = found ∙ w.if-has_id_among.true in
+          ap kept w.among-is ∙ ap (map (λ (p : Bor Package). p.now)) w.in_ok-push.ensures.items ∙ map_push (λ (p : Bor Package). p.now) c.loop-row.among.items _ ∙ (λ j. so_far j ++ c.row-item.is j ∷ []) ∙ ap (λ b. filter is_found (take i packages) ++ cond b (here ∷ []) []) (sym test) ∙ more
+          )
+      | else-has_id_among w ↦ (
+          let test : is_found here ≡ false = found ∙ w.if-has_id_among.false in
+          ap kept w.among-is ∙ so_far ∙ sym (append-nil (filter is_found (take i packages))) ∙ ap (λ b. filter is_found (take i packages) ++ cond b (here ∷ []) []) (sym test) ∙ more
+          )
+    ]
 
 pub returns : goal.returns
 returns c =
