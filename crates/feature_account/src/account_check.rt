@@ -1,7 +1,7 @@
 //! The checker of accounts. It shares nothing with the graphs that the accounts are made by: it reads
 //! the rules and the account, entry by entry.
 
-ghost use Rattle.std.specs.Prelude.{◌≡◌, ◌↔◌, IfOk, IfNone, IfSome};
+ghost use Rattle.std.specs.Prelude.{◌≡◌, [], ◌↔◌, IfOk, IfNone, IfSome};
 ghost use Rattle.feature_account.specs.Closed.{IsClosed};
 ghost use Rattle.feature_account.specs.Found.{found_set};
 ghost use Rattle.feature_account.specs.Accounts.{IsFirstOpen, IsValidAccount, IsVerdict};
@@ -64,9 +64,21 @@ fn verdict_of(
     ensures { IfOk result (IsVerdict rules.now account.now) }
 {
     let mut concluded = IndexSet::new(alloc);
-    match first_fault(rules, account, &mut concluded)? {
+    verdict_by(&mut concluded, rules, account)
+}
+
+/// The verdict, by a set for the features that are concluded, which is empty yet.
+fn verdict_by<'r, 'a>(
+    concluded: &mut IndexSet<&'r LentFeature<'a>>,
+    rules: &'r [LentRule<'a>],
+    account: &[usize],
+) -> Result<Verdict, AllocError>
+    requires { concluded.old.keys ≡ [] }
+    ensures { IfOk result (IsVerdict rules.entry.now account.now) }
+{
+    match first_fault(rules, account, concluded)? {
         Some(fault) => Ok(fault),
-        None => match first_open(rules, &concluded) {
+        None => match first_open(rules, concluded) {
             None => Ok(Verdict::Accepted),
             Some(number) => Ok(Verdict::NotClosed(number)),
         },

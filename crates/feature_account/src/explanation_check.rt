@@ -1,6 +1,6 @@
 //! The checker of explanations. It reads the rules and the entries, as that of accounts does.
 
-ghost use Rattle.std.specs.Prelude.{◌≡◌, ◌↔◌, IfOk, IsTrue, MatchOption};
+ghost use Rattle.std.specs.Prelude.{◌≡◌, [], ◌↔◌, IfOk, IsTrue, MatchOption};
 ghost use Rattle.feature_account.specs.Accounts.{IsSound};
 ghost use Rattle.feature_account.specs.Explanations.{EachIsUsed, EndsIn, IsExplanation, IsExplanationVerdict, IsFirstUnused};
 ghost use Rattle.feature_account.specs.RuleList.{rule_list};
@@ -48,8 +48,11 @@ fn verdict_of(
 ) -> Result<Verdict, AllocError>
     ensures { IfOk result (IsExplanationVerdict rules.now goal.now entries.now) }
 {
-    let mut concluded = IndexSet::new(alloc);
-    match first_fault(rules, entries, &mut concluded)? {
+    let fault = {
+        let mut concluded = IndexSet::new(alloc);
+        first_fault(rules, entries, &mut concluded)
+    };
+    match fault? {
         Some(fault) => Ok(fault),
         None => verdict_on_use(alloc, rules, goal, entries),
     }
@@ -98,13 +101,26 @@ fn first_unused(
     ensures { IfOk result (λ o. MatchOption o (EachIsUsed rules.now entries.now) (IsFirstUnused rules.now entries.now)) }
 {
     let mut needed: IndexSet<&LentFeature<'_>> = IndexSet::new(alloc);
+    first_unneeded(&mut needed, rules, entries)
+}
+
+/// The same, by a set for the premises of later entries, which is empty yet.
+fn first_unneeded<'r, 'a>(
+    needed: &mut IndexSet<&'r LentFeature<'a>>,
+    rules: &'r [LentRule<'a>],
+    entries: &[usize],
+) -> Result<Option<usize>, AllocError>
+    requires empty { needed.old.keys ≡ [] }
+    requires sound { IsSound rules.now entries.now }
+    ensures { IfOk result (λ o. MatchOption o (EachIsUsed rules.entry.now entries.now) (IsFirstUnused rules.entry.now entries.now)) }
+{
     let mut unused = None;
     for place in (0..entries.len()).rev() {
         let rule = rule_of(rules, entries[place]);
-        if place + 1 < entries.len() && !contains(&needed, rule.conclusion()) {
+        if place + 1 < entries.len() && !contains(needed, rule.conclusion()) {
             unused = Some(place);
         }
-        insert_premises(&mut needed, rule.premises())?;
+        insert_premises(needed, rule.premises())?;
     }
     Ok(unused)
 }

@@ -6,12 +6,13 @@ ghost use Rattle.feature_account.specs.LentLabels.{lent_label_view};
 
 use std::alloc::{AllocError, Global};
 use std::cmp::Ordering;
+use std::fmt;
 use std::hash::{Hash, Hasher};
 use std::marker::Model;
 use workspace_record::{Feature, Label};
 
 /// What a lent feature is of its package, as `Label` has it.
-#[derive(Clone, Copy, Debug)]
+#[derive(Clone, Copy)]
 enum LentLabel<'a> {
     Base,
     Named(&'a str),
@@ -57,10 +58,19 @@ impl<'a> LentLabel<'a> {
 }
 
 /// A feature of a package, whose texts are lent. In contracts it is the feature.
-#[derive(Debug, Drop)]
+#[derive(Drop)]
 pub struct LentFeature<'a> {
     package: &'a str,
     label: LentLabel<'a>,
+}
+
+impl fmt::Debug for LentFeature<'_> {
+    fn fmt<W: fmt::Write>(&self, f: &mut fmt::Formatter<W>) -> fmt::Result {
+        f.debug_struct("LentFeature")
+            .field("package", &self.package)
+            .field("name", &self.label.name())
+            .finish_non_exhaustive()
+    }
 }
 
 impl<'a> Model for LentFeature<'a> {

@@ -34,7 +34,16 @@ impl<'a> LentPremises<'a> {
         match self {
             LentPremises::None => Ok(Premises::None),
             LentPremises::One(a) => Ok(Premises::One(a.copy(alloc)?)),
-            LentPremises::Two(a, b) => Ok(Premises::Two(a.copy(alloc)?, b.copy(alloc)?)),
+            LentPremises::Two(a, b) => {
+                let first = a.copy(alloc)?;
+                match b.copy(alloc) {
+                    Ok(second) => Ok(Premises::Two(first, second)),
+                    Err(refused) => {
+                        drop(first);
+                        Err(refused)
+                    }
+                }
+            }
         }
     }
 }
@@ -119,11 +128,16 @@ impl<'a> LentRule<'a> {
         ensures copied { IfOk result (λ r. r ≡ self.now) }
     {
         let premises = self.premises.copy(alloc)?;
-        let conclusion = self.conclusion.copy(alloc)?;
-        Ok(Rule {
-            premises,
-            conclusion,
-        })
+        match self.conclusion.copy(alloc) {
+            Ok(conclusion) => Ok(Rule {
+                premises,
+                conclusion,
+            }),
+            Err(refused) => {
+                drop(premises);
+                Err(refused)
+            }
+        }
     }
 }
 

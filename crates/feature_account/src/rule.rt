@@ -19,7 +19,16 @@ impl Premises {
         match self {
             Premises::None => Ok(Premises::None),
             Premises::One(a) => Ok(Premises::One(a.copy(alloc)?)),
-            Premises::Two(a, b) => Ok(Premises::Two(a.copy(alloc)?, b.copy(alloc)?)),
+            Premises::Two(a, b) => {
+                let first = a.copy(alloc)?;
+                match b.copy(alloc) {
+                    Ok(second) => Ok(Premises::Two(first, second)),
+                    Err(refused) => {
+                        drop(first);
+                        Err(refused)
+                    }
+                }
+            }
         }
     }
 }
@@ -37,10 +46,15 @@ impl Rule {
         ensures { IfOk result (λ r. r ≡ self.now) }
     {
         let premises = self.premises.copy(alloc)?;
-        let conclusion = self.conclusion.copy(alloc)?;
-        Ok(Rule {
-            premises,
-            conclusion,
-        })
+        match self.conclusion.copy(alloc) {
+            Ok(conclusion) => Ok(Rule {
+                premises,
+                conclusion,
+            }),
+            Err(refused) => {
+                drop(premises);
+                Err(refused)
+            }
+        }
     }
 }

@@ -4,7 +4,7 @@ use Rattle.list_facts.proofs.Lists.{flat_map-flat_map, flat_map-map}
 use Rattle.workspace_record.specs.Records.{FeatureEntry, Link, Package}
 use Rattle.guppy_row_parts.specs.Warnings.{Warning}
 use Rattle.workspace_record.specs.Features.{FeatureValue}
-use Rattle.guppy_feature_demands.specs.Demands.{package_demands, same_name}
+use Rattle.guppy_feature_demands.specs.Demands.{NumberedValue, base_demands, demands_of, kept_demands, link_demands, package_demands, same_name}
 use Rattle.guppy_feature_demands.specs.Entries.{entry_value}
 use Rattle.guppy_feature_demands.specs.EntriesAt.{EntryPlace, at_demands, at_warnings, feature_entries, package_entries}
 use Rattle.guppy_feature_demands.specs.Nodes.{first_of_each, nodes_of}
@@ -36,3 +36,8 @@ warnings_by_links nodes links = links_from nodes 0 links
 pub warned : (ns : List FeatureValue) (ls : List (ℕ × Link)) (es : List EntryPlace) (ps : List Package) (rows : List Link) (ws : List Warning) → ns ≡ nodes_of ps → ls ≡ numbered rows → es ≡ flat_map package_entries ps → ws ≡ flat_map (at_warnings ns ls) es ++ flat_map (λ link. link_warnings ns link.1) ls → ws ≡ warnings_of ps rows
 warned ns ls es ps rows ws nodes links entries is =
     is ∙ (λ i. flat_map (at_warnings (nodes i) (links i)) (entries i) ++ flat_map (λ (link : ℕ × Link). link_warnings (nodes i) link.1) (links i)) ∙ (λ i. warnings_by_entries (nodes_of ps) (numbered rows) ps i ++ warnings_by_links (nodes_of ps) rows i)
+
+-- the demands of entries and links are those of their rows
+pub demanded : (ns : List FeatureValue) (ls : List (ℕ × Link)) (es : List EntryPlace) (ps : List Package) (rows : List Link) (ds : List NumberedValue) → ns ≡ nodes_of ps → ls ≡ numbered rows → es ≡ flat_map package_entries ps → ds ≡ kept_demands ns (base_demands ns ++ (flat_map (at_demands ns ls) es ++ flat_map link_demands ls)) → ds ≡ kept_demands (nodes_of ps) (demands_of ps rows)
+demanded ns ls es ps rows ds nodes links entries is =
+    is ∙ (λ i. kept_demands (nodes i) (base_demands (nodes i) ++ (flat_map (at_demands (nodes i) (links i)) (entries i) ++ flat_map link_demands (links i)))) ∙ (λ i. kept_demands (nodes_of ps) (base_demands (nodes_of ps) ++ (demands_by_entries (nodes_of ps) (numbered rows) ps i ++ flat_map link_demands (numbered rows))))

@@ -4,3 +4,4 @@ pub mod FirstFacts
 pub mod KeptFacts
 pub mod LinkFacts
 pub mod NumberFacts
+pub mod LoopFacts

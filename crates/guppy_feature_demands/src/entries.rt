@@ -45,7 +45,9 @@ fn push_package<'g>(
     let row = at.row;
     let features = named_entries(alloc, &row.features)?;
     let id = HashedId::of(row.id.as_str());
-    push_features(id, features.as_slice(), entries)
+    let pushed = push_features(id, features.as_slice(), entries);
+    drop(features);
+    pushed
 }
 
 fn push_features<'g>(

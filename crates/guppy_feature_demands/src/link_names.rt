@@ -76,7 +76,8 @@ pub(crate) struct LinkNames<'g> {
 // Written out, so that a function that lets one go takes one step.
 impl Drop for LinkNames<'_> {
     fn drop(self) {
-        let LinkNames { groups: _ } = self;
+        let LinkNames { groups } = self;
+        drop(groups);
     }
 }
 

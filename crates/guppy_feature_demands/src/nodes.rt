@@ -28,7 +28,8 @@ pub struct NodeTable<'g> {
 // Written out, so that a function that lets one go takes one step.
 impl Drop for NodeTable<'_> {
     fn drop(self) {
-        let NodeTable { ids: _, names: _ } = self;
+        let NodeTable { ids: _, names } = self;
+        drop(names);
     }
 }
 
@@ -160,13 +161,33 @@ fn first_of_each<'g>(alloc: Global, features: &[FeatureId<'g>]) -> Result<NodeTa
 {
     let mut ids: Vec<FeatureId<'g>> = Vec::with_capacity(alloc, features.len())?;
     let mut names: IndexSet<HashedName<'g>> = IndexSet::with_capacity(alloc, features.len())?;
+    match push_firsts(features, &mut names, &mut ids) {
+        Ok(()) => Ok(NodeTable { ids, names }),
+        Err(refused) => {
+            drop(names);
+            Err(refused)
+        }
+    }
+}
+
+/// Lists the first of each of these features, with its name, where none is listed yet.
+fn push_firsts<'g>(
+    features: &[FeatureId<'g>],
+    names: &mut IndexSet<HashedName<'g>>,
+    ids: &mut Vec<FeatureId<'g>>,
+) -> Result<(), AllocError>
+    requires names { names.old.keys ≡ [] }
+    requires ids { ids.old.items ≡ [] }
+    ensures names { OnOk result (map hashed_view names.new.keys ≡ first_of_each feature_eq (map id_view features.now)) }
+    ensures ids { OnOk result (map id_view ids.new.items ≡ map hashed_view names.new.keys) }
+{
     let mut last = HashedId::of("");
     for feature in features {
         let name = HashedName::of(last, *feature);
         last = name.id;
-        push_first(name, *feature, &mut names, &mut ids)?;
+        push_first(name, *feature, names, ids)?;
     }
-    Ok(NodeTable { ids, names })
+    Ok(())
 }
 
 fn push_first<'g>(

@@ -27,7 +27,6 @@ pub struct FeatureParts<'g> {
 
 /// What the rows of packages and links say of features. Takes time in proportion to packages,
 /// features, entries and lines, each with the texts that it names.
-#[tactic(auto, using(crate::proofs::EntriesFacts::demands_by_entries))]
 pub fn feature_parts<'g>(
     alloc: Global,
     packages: &[PackageAt<'g>],

@@ -273,10 +273,10 @@ fn missing_feature(
 ) -> Result<FeatureGraphWarning, AllocError>
     ensures { IfOk result (λ w. warning_view w ≡ MissingFeature (place_view stage.entry) feature.entry.id.text.now (label_text (label_view feature.entry.label))) }
 {
-    let stage = stage_of(alloc, stage)?;
     let package_id = id_of(alloc, feature.id.text)?;
     let label = feature.label;
     let feature_name = format!(in alloc; "{label}")?;
+    let stage = stage_of(alloc, stage)?;
     Ok(FeatureGraphWarning::MissingFeature {
         stage,
         package_id,

@@ -3,3 +3,4 @@ pub mod IdFacts
 pub mod Places
 pub mod LinkFacts
 pub mod TableFacts
+pub mod PushFacts

@@ -5,7 +5,7 @@ use Rattle.numbered_graph.specs.Sets.{has}
 use Rattle.workspace_record.specs.Records.{Link, Package}
 use Rattle.guppy_package_table.specs.Tables.{firm_flags, links_among}
 
-abbrev IsListed : List Package → List Link → List ℕ → Type 0
+abbrev pub IsListed : List Package → List Link → List ℕ → Type 0
 IsListed packages links xs = IsListing (links_among packages links) (has (firm_flags links)) (λ v. nat_lt v (length packages)) xs
 
 -- what lists the packages of rows lists those of the same rows

@@ -30,10 +30,12 @@ pub struct PackageIndices {
 impl Drop for PackageIndices {
     fn drop(self) {
         let PackageIndices {
-            ids: _,
+            ids,
             versions: _,
-            members: _,
+            members,
         } = self;
+        drop(ids);
+        drop(members);
     }
 }
 
@@ -109,12 +111,17 @@ pub(crate) fn package_indices(
     ensures { IfOk result (IndexesPackages packages.now workspace.now) }
 {
     let ids = ids_of(alloc, packages)?;
-    let members = members_of(alloc, &ids, workspace)?;
-    Ok(PackageIndices {
-        ids,
-        versions,
-        members,
-    })
+    match members_of(alloc, &ids, workspace) {
+        Ok(members) => Ok(PackageIndices {
+            ids,
+            versions,
+            members,
+        }),
+        Err(refused) => {
+            drop(ids);
+            Err(refused)
+        }
+    }
 }
 
 /// What is found at once in links between these packages, beside the requirements that were read.

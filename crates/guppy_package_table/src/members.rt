@@ -32,16 +32,21 @@ pub(crate) fn members_of(
     requires { AllPairs (λ a b. a.package_id ≢ b.package_id) workspace.now.members }
     ensures { IfOk result (AreMembers ids.now.keys workspace.now) }
 {
-    let member_ids = member_ids_of(alloc, &workspace.members)?;
-    let numbers = member_numbers(alloc, &member_ids, ids.as_slice())?;
     let places = member_places(alloc, ids, &workspace.members)?;
     let defaults = default_places(alloc, ids, &workspace.default_members)?;
-    Ok(Members {
-        ids: member_ids,
-        numbers,
-        places,
-        defaults,
-    })
+    let member_ids = member_ids_of(alloc, &workspace.members)?;
+    match member_numbers(alloc, &member_ids, ids.as_slice()) {
+        Ok(numbers) => Ok(Members {
+            ids: member_ids,
+            numbers,
+            places,
+            defaults,
+        }),
+        Err(refused) => {
+            drop(member_ids);
+            Err(refused)
+        }
+    }
 }
 
 /// The ids of the members' packages, each at the place of its member.

@@ -78,9 +78,9 @@ impl FeatureGraphWarning {
                 package_id,
                 feature_name,
             } => {
-                let stage = stage.copy(alloc)?;
                 let package_id = package_id.copy(alloc)?;
                 let feature_name = String::from_str(alloc, feature_name.as_str())?;
+                let stage = stage.copy(alloc)?;
                 Ok(FeatureGraphWarning::MissingFeature {
                     stage,
                     package_id,

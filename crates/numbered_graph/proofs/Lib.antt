@@ -1,4 +1,5 @@
 pub mod PathFacts
+pub mod ChainFacts
 pub mod SetFacts
 pub mod MemberFacts
 pub mod WalkFacts
@@ -17,3 +18,4 @@ pub mod ListingFacts
 pub mod RootFacts
 pub mod RunFacts
 pub mod CycleFacts
+pub mod LevelFacts

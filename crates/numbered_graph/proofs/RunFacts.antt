@@ -1,5 +1,5 @@
 -- Nodes cut where their key changes.
-use Rattle.std.proofs.Common.{◌≡◌, ◌≢◌, ℕ, ◌+◌, ◌-◌, ◌<◌, Bool, cond, List, [], ◌∷◌, ◌++◌, length, get_or, take, filter, flat_map, sym, subst, ap, ◌∙◌, ⊎_elim, Contains, append-nil, arith}
+use Rattle.std.proofs.Common.{◌≡◌, ◌≢◌, ℕ, ◌+◌, ◌-◌, ◌<◌, ◌≤◌, Bool, cond, List, [], ◌∷◌, ◌++◌, length, get_or, take, filter, flat_map, sym, subst, ap, ◌∙◌, ⊎_elim, All, Contains, append-nil, arith}
 use Rattle.std.proofs.lemmas.Bool.{cases_lt}
 use Rattle.std.proofs.lemmas.List.{get_or-append-add, get_or-take, length-take-le, get_or_default}
 use Rattle.std.proofs.lemmas.List.Concat.{flat_map-append}
@@ -13,6 +13,16 @@ use Rattle.numbered_graph.proofs.Numbers.{push_or}
 pub kept_at : (p : ℕ → Bool) (xs : List ℕ) (i : ℕ) → i < length xs → (old new : List ℕ) → new ≡ cond (p (get_or xs i 0)) (old ++ get_or xs i 0 ∷ []) old → old ≡ filter p (take i xs) → new ≡ filter p (take (i + 1) xs)
 kept_at p xs i lt old new made so_far =
     made ∙ sym (push_or (p (get_or xs i 0)) old (get_or xs i 0)) ∙ ap (λ ys. ys ++ cond (p (get_or xs i 0)) (get_or xs i 0 ∷ []) []) so_far ∙ sym (filter_more p xs i 0 lt)
+
+-- a loop's end: the nodes from `start` on, up to the first with another key
+pub run_ends : (keys nodes : List ℕ) (start at : ℕ) (run : List ℕ) → start < length nodes → at ≡ start + length run → at ≤ length nodes → take start nodes ++ run ≡ take at nodes → All (λ v. get_or keys v 0 ≡ get_or keys (get_or nodes start 0) 0) run → (at < length nodes → get_or keys (get_or nodes at 0) 0 ≢ get_or keys (get_or nodes start 0) 0) → IsRun keys nodes start run
+run_ends keys nodes start at run lt is within whole level ends = record {
+  some = ⊎_elim (λ some. some) (λ none. let here : at ≡ start = omega arith in absurd (ends (omega arith) (ap (λ n. get_or keys (get_or nodes n 0) 0) here))) (cases_lt 0 (length run));
+  within = omega arith;
+  whole = whole ∙ ap (λ n. take n nodes) is;
+  level = level;
+  ends = subst (λ n. n < length nodes → get_or keys (get_or nodes n 0) 0 ≢ get_or keys (get_or nodes start 0) 0) is ends;
+}
 
 module _ (keys nodes : List ℕ) (together : AreKeysTogether keys nodes) (runs : List (List ℕ)) (start : ℕ) (whole : flat_map (λ c. c) runs ≡ take start nodes) (are : AreRuns keys runs) (cut : (i : ℕ) → i < start → start < length nodes → get_or keys (get_or nodes i 0) 0 ≢ get_or keys (get_or nodes start 0) 0) (run : List ℕ) (is : IsRun keys nodes start run) where
   start_within : start < length nodes

@@ -1,7 +1,7 @@
 -- Before the first node, and after the last one.
 use Rattle.std.proofs.Common.{◌≡◌, ℕ, zero, suc, ◌<◌, ◌≤◌, Bool, List, [], length, get_or, replicate, refl, subst, ⊎_elim, arith}
 use Rattle.std.proofs.lemmas.Bool.{cases_lt}
-use Rattle.std.proofs.lemmas.List.{length-replicate}
+use Rattle.std.proofs.lemmas.List.{get_or_past, length-replicate}
 use Rattle.numbered_graph.specs.declared.link.Link.{Link}
 use Rattle.numbered_graph.specs.declared.direction.Direction.TheVariants.{Reverse}
 use Rattle.numbered_graph.specs.Links.{near_at}
@@ -21,12 +21,12 @@ get_or-zeros (suc n) (suc v) = get_or-zeros n v
 none_open : (n v i : ℕ) → IsOpen (zeros n) (zeros n) v i → ⊥
 none_open n v i o = let placed = o.placed in let none = get_or-zeros n v in absurd (omega arith)
 
-pub Searches-start : (links : List Link) (passes : ℕ → Bool) (nodes : ℕ) (first : List ℕ) → length first ≡ nodes → ((v : ℕ) → v < nodes → IsNextLink Reverse links v 0 (get_or first v 0)) → ((j : ℕ) → j < length links → near_at Reverse links j < nodes) → Searches links passes nodes (record { cursors = first; places = zeros nodes; ranks = zeros nodes; path = []; starts = []; todo = []; closed = 0 })
-Searches-start links passes nodes first sized firsts within = record {
+pub Searches-start : (links : List Link) (passes : ℕ → Bool) (nodes : ℕ) (first : List ℕ) → length first ≡ nodes → ((v : ℕ) → v < nodes → IsNextLink Reverse links v 0 (get_or first v 0)) → Searches links passes nodes (record { cursors = first; places = zeros nodes; ranks = zeros nodes; path = []; starts = []; todo = []; closed = 0 })
+Searches-start links passes nodes first sized firsts = record {
   sized = record { cursors_sized = sized; places_sized = length-replicate nodes 0; ranks_sized = length-replicate nodes 0 };
   cursors = record {
     follows = λ v below. (firsts v below).follows;
-    unmet = λ j lt new. ⊎_elim (λ past. absurd ((firsts (near_at Reverse links j) (within j lt)).none_between j (omega arith) past refl)) (λ le. le) (cases_lt j (get_or first (near_at Reverse links j) 0));
+    unmet = λ j lt new. ⊎_elim (λ small. ⊎_elim (λ past. absurd ((firsts (near_at Reverse links j) small).none_between j (omega arith) past refl)) (λ le. le) (cases_lt j (get_or first (near_at Reverse links j) 0))) (λ past. let none = get_or_past first (near_at Reverse links j) 0 (omega arith) in omega arith) (cases_lt (near_at Reverse links j) nodes);
   };
   path = record {
     below = λ k d lt. absurd (omega arith);

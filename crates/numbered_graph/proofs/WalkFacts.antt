@@ -1,7 +1,7 @@
 -- The steps of a walk: a node is included, a link is taken, a node is left, a link is answered.
-use Rattle.std.proofs.Common.{◌≡◌, ◌≢◌, ℕ, suc, ◌+◌, ◌<◌, ◌≤◌, Bool, true, false, cond, ◌&&◌, ◌||◌, eqb, None, List, [], ◌∷◌, ◌++◌, length, get_or, set, replicate, refl, sym, subst, ap, ◌∙◌, ◌⊎◌, inl, inr, ⊎_elim, ◌↔◌, Contains, All, arith, true≢false}
+use Rattle.std.proofs.Common.{◌≡◌, ◌≢◌, ℕ, zero, suc, ◌+◌, ◌<◌, ◌≤◌, Bool, true, false, cond, ◌&&◌, ◌||◌, eqb, None, List, [], ◌∷◌, ◌++◌, length, get_or, set, replicate, refl, sym, subst, ap, ◌∙◌, ◌⊎◌, inl, inr, ⊎_elim, ◌↔◌, Contains, All, count_by, arith, true≢false}
 use Rattle.std.proofs.lemmas.Bool.{cases_eq, cases_lt, eq-eqb, eqb-true, or_cases, or_left, or_right, and_parts, and_from, cond_both}
-use Rattle.std.proofs.lemmas.List.{get_or-set_same, get_or-set_other, length-set, set-get_or, length_push, length-append, get_or_append_left, get_or_default, append-nil, map-append, length-map, get_or-replicate}
+use Rattle.std.proofs.lemmas.List.{get_or-set_same, get_or-set_other, length-set, set-get_or, length_push, length-append, get_or_append_left, get_or_default, append-nil, map-append, length-map, length-replicate, get_or-replicate}
 use Rattle.std.proofs.lemmas.List.Elements.{All-push, All-weaker, Contains-push, Contains-append_left, Contains-push_cases, All-contains, Contains-get_or}
 use Rattle.std.proofs.lemmas.List.Quantifiers.{all_pairs_push}
 use Rattle.std.proofs.lemmas.List.Folds.{list_any-append}
@@ -28,6 +28,31 @@ AreListed-more {n} {reached} {order} h v lt new =
       each = All-push (λ u. has (set reached v true) u ≡ true) order v (All-weaker (λ u. has reached u ≡ true) (λ u. has (set reached v true) u ≡ true) (has-set reached v) order h.each) (get_or-set_same reached v true false within);
       all = λ u set_now. has-set_elim (λ w. Contains (order ++ v ∷ []) w) reached v u (Contains-push order v) (λ before. Contains-append_left order (v ∷ []) u (h.all u before)) set_now;
     }
+
+-- no node was reached
+has-none : (n v : ℕ) → has (replicate n false) v ≡ true → ⊥
+has-none zero v h = true≢false (sym h)
+has-none (suc n) zero h = true≢false (sym h)
+has-none (suc n) (suc v) h = has-none n v h
+
+counted-none : (n : ℕ) → 0 ≡ count_by (λ (b : Bool). b) (replicate n false)
+counted-none zero = refl
+counted-none (suc n) = counted-none n
+
+pub AreListed-none : (n : ℕ) → AreListed n (replicate n false) []
+AreListed-none n = record {
+  sized = length-replicate n false;
+  counted = counted-none n;
+  each = λ k d lt. absurd (omega arith);
+  all = λ v h. absurd (has-none n v h);
+}
+
+pub AreFollowed-none : (d : Direction) (links : List Link) (n : ℕ) → AreFollowed d links [] [] (replicate n false)
+AreFollowed-none d links n = record {
+  begins = λ v i. let lt = i.1 in absurd (omega arith);
+  leads = λ v h. absurd (has-none n v h);
+  closed = λ j lt h. absurd (true≢false (sym h));
+}
 
 -- one that was reached is listed already
 pub set-same : (flags : List Bool) (v : ℕ) → has flags v ≡ true → set flags v true ≡ flags
@@ -204,7 +229,7 @@ AreFollowed-start {d} {links} {reached} starts more v e lt h =
       closed = λ j small a. absurd (true≢false (sym a));
     })
 
-taken_after : (shown more : Shown) (c : ℕ) (b : Bool) → more ≡ shown ++ (c, b) ∷ [] → taken_links more None ≡ shown_links shown ++ c ∷ []
+pub taken_after : (shown more : Shown) (c : ℕ) (b : Bool) → more ≡ shown ++ (c, b) ∷ [] → taken_links more None ≡ shown_links shown ++ c ∷ []
 taken_after shown more c b e = append-nil (shown_links more) ∙ ap shown_links e ∙ map-append (λ (s : ℕ × Bool). s.0) shown ((c, b) ∷ [])
 
 -- a link was taken and gets its answer

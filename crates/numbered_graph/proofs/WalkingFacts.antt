@@ -1,6 +1,6 @@
 -- What a walk keeps while it looks for the next link.
-use Rattle.std.proofs.Common.{◌≡◌, ℕ, suc, ◌+◌, ◌<◌, ◌≤◌, true, None, Some, [], ◌∷◌, ◌++◌, length, get_or, set, Vec, Global, sym, subst, ap, ◌∙◌, arith}
-use Rattle.std.proofs.lemmas.List.{append-nil, get_or_read}
+use Rattle.std.proofs.Common.{◌≡◌, ℕ, suc, ◌+◌, ◌<◌, ◌≤◌, true, None, Some, [], ◌∷◌, ◌++◌, List, length, get_or, set, Vec, Global, sym, subst, ap, ◌∙◌, arith}
+use Rattle.std.proofs.lemmas.List.{append-nil, get_or_read, length_push}
 use Rattle.numbered_graph.specs.declared.walk.Walk.TheInside.{Inside}
 use Rattle.numbered_graph.specs.Chains.{IsNextLink}
 use Rattle.numbered_graph.specs.Links.{near_at}
@@ -22,6 +22,10 @@ module _ (w : Inside) (h : Stands w) where
   module _ (idle : w.waiting ≡ None) where
     shown_all : taken_links w.shown.items w.waiting ≡ shown_links w.shown.items
     shown_all = ap (taken_links w.shown.items) idle ∙ append-nil (shown_links w.shown.items)
+
+    -- a link that is taken is one more
+    pub one_more : (number : ℕ) → length (taken_links w.shown.items (Some number)) ≡ length (taken_links w.shown.items w.waiting) + 1
+    one_more number = length_push (shown_links w.shown.items) number ∙ ap (λ (js : List ℕ). length js + 1) (sym shown_all)
 
     idle_taken : AreTaken w.direction w.graph.now.nodes w.graph.now.links w.reached.items w.order.items w.cursors.items w.opened (shown_links w.shown.items)
     idle_taken = subst (λ js. AreTaken w.direction w.graph.now.nodes w.graph.now.links w.reached.items w.order.items w.cursors.items w.opened js) shown_all h.taken

@@ -1,6 +1,6 @@
 //! Keys that stand at an earlier place.
 
-ghost use Rattle.std.specs.Prelude.{◌≡◌, IfOk, map, string_bytes};
+ghost use Rattle.std.specs.Prelude.{◌≡◌, [], IfOk, map, string_bytes};
 ghost use Rattle.std.specs.Ordering.{eq_by_cmp};
 ghost use Rattle.std.specs.Str.{bytes_eq};
 ghost use Rattle.package_rules.specs.Places.{first_repeat};
@@ -19,6 +19,19 @@ pub fn first_repeat<K: Eq + Hash + Copy>(
     ensures { IfOk result (λ place. place ≡ first_repeat K.eq keys.now) }
 {
     let mut seen: IndexSet<K> = IndexSet::with_capacity(alloc, keys.len())?;
+    let place = first_seen(&mut seen, keys);
+    drop(seen);
+    place
+}
+
+/// The same, by a set for the keys of earlier places, which is empty yet.
+fn first_seen<K: Eq + Hash + Copy>(
+    seen: &mut IndexSet<K>,
+    keys: &[K],
+) -> Result<Option<usize>, AllocError>
+    requires { seen.old.keys ≡ [] }
+    ensures { IfOk result (λ place. place ≡ first_repeat K.eq keys.now) }
+{
     for (place, key) in keys.iter().enumerate() {
         if !seen.insert(*key)? {
             return Ok(Some(place));

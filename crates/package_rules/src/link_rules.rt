@@ -20,7 +20,9 @@ pub(crate) fn first_unknown_end(
     ensures { IfOk result (λ place. place ≡ position (λ l. not (is_package_id packages.now l.from && is_package_id packages.now l.to)) links.now) }
 {
     let ids = package_id_set(alloc, packages)?;
-    Ok(first_end_outside(&ids, links))
+    let place = first_end_outside(&ids, links);
+    drop(ids);
+    Ok(place)
 }
 
 fn first_end_outside(ids: &IndexSet<&str>, links: &[LinkRecord]) -> Option<usize>

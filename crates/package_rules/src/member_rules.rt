@@ -39,7 +39,9 @@ fn first_unknown_id(
     ensures { IfOk result (λ place. place ≡ position (λ id. not (is_package_id packages.now id)) (map (λ t. t.now) ids.now)) }
 {
     let known = package_id_set(alloc, packages)?;
-    Ok(first_outside(&known, ids))
+    let place = first_outside(&known, ids);
+    drop(known);
+    Ok(place)
 }
 
 fn first_outside(known: &IndexSet<&str>, ids: &[&str]) -> Option<usize>
@@ -155,7 +157,9 @@ pub(crate) fn first_unknown_default(
 {
     let ids = workspace.member_ids(alloc)?;
     let members = text_set(alloc, &ids)?;
-    Ok(first_default_outside(&members, &workspace.default_members))
+    let place = first_default_outside(&members, &workspace.default_members);
+    drop(members);
+    Ok(place)
 }
 
 fn first_default_outside(members: &IndexSet<&str>, defaults: &[String]) -> Option<usize>

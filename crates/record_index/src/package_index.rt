@@ -21,9 +21,11 @@ impl Drop for PackageIndex<'_> {
     fn drop(self) {
         let PackageIndex {
             row: _,
-            features: _,
-            optional: _,
+            features,
+            optional,
         } = self;
+        drop(features);
+        drop(optional);
     }
 }
 
@@ -43,12 +45,17 @@ impl<'a> PackageIndex<'a> {
         ensures { IfOk result (λ p. p ≡ row.entry.now) }
     {
         let features = feature_names(alloc, &row.features)?;
-        let optional = text_set(alloc, &row.optional)?;
-        Ok(PackageIndex {
-            row,
-            features,
-            optional,
-        })
+        match text_set(alloc, &row.optional) {
+            Ok(optional) => Ok(PackageIndex {
+                row,
+                features,
+                optional,
+            }),
+            Err(refused) => {
+                drop(features);
+                Err(refused)
+            }
+        }
     }
 
     /// The package's record.

@@ -27,10 +27,13 @@ impl Drop for RecordIndex<'_> {
     fn drop(self) {
         let RecordIndex {
             record: _,
-            packages: _,
-            members: _,
-            links: _,
+            packages,
+            members,
+            links,
         } = self;
+        drop(packages);
+        drop(members);
+        drop(links);
     }
 }
 
@@ -50,15 +53,20 @@ impl<'a> RecordIndex<'a> {
     pub fn of(alloc: Global, record: &'a WorkspaceRecord) -> Result<RecordIndex<'a>, AllocError>
         ensures made { IfOk result (λ r. r ≡ «record».entry.now) }
     {
-        let members = member_ids(alloc, &record.workspace.members)?;
         let links = link_names(alloc, &record.links)?;
         let packages = packages_by_id(alloc, &record.packages)?;
-        Ok(RecordIndex {
-            record,
-            packages,
-            members,
-            links,
-        })
+        match member_ids(alloc, &record.workspace.members) {
+            Ok(members) => Ok(RecordIndex {
+                record,
+                packages,
+                members,
+                links,
+            }),
+            Err(refused) => {
+                drop(packages);
+                Err(refused)
+            }
+        }
     }
 
     /// The record.

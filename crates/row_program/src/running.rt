@@ -190,6 +190,6 @@ fn are_known(value: &Value, inputs: &[&str], answers: &[Answer], report: &mut Re
 
 fn is_known(key: &str, inputs: &[&str], answers: &[Answer]) -> bool {
     ["name", "rows"].contains(&key)
-        || inputs.iter().any(|input| *input == key)
+        || inputs.contains(&key)
         || answers.iter().any(|answer| answer.key == key)
 }

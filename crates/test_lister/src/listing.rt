@@ -1,6 +1,6 @@
 //! Whether a listing is well-formed.
 
-ghost use Rattle.std.specs.Prelude.{◌≡◌, IsTrue, IfOk, ◌↔◌, nat_eq, string_bytes};
+ghost use Rattle.std.specs.Prelude.{◌≡◌, [], IsTrue, IfOk, ◌↔◌, nat_eq, string_bytes};
 ghost use Rattle.std.specs.List.{list_any};
 ghost use Rattle.list_facts.specs.Texts.{texts};
 ghost use Rattle.test_lister.specs.Listings.{HasLineFeed, HasRepeat, FindsFault};
@@ -31,6 +31,16 @@ fn has_repeat(alloc: Global, names: &[String]) -> Result<bool, AllocError>
     ensures { IfOk result (λ found. IsTrue found ↔ HasRepeat (texts names.now)) }
 {
     let mut seen: IndexSet<&str> = IndexSet::with_capacity(alloc, names.len())?;
+    let found = finds_repeat(&mut seen, names);
+    drop(seen);
+    found
+}
+
+/// Whether a name stands twice, by putting the names into an empty set.
+fn finds_repeat<'a>(seen: &mut IndexSet<&'a str>, names: &'a [String]) -> Result<bool, AllocError>
+    requires { seen.old.keys ≡ [] }
+    ensures { IfOk result (λ found. IsTrue found ↔ HasRepeat (texts names.entry.now)) }
+{
     for name in names {
         if !seen.insert(name.as_str())? {
             return Ok(true);

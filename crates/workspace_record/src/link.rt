@@ -1,4 +1,4 @@
-ghost use Rattle.std.specs.Prelude.{◌≡◌, IfOk};
+ghost use Rattle.std.specs.Prelude.{◌≡◌, [], IfOk};
 
 use crate::kinds::LineKind;
 use crate::texts::{copy_text, same_text, same_texts};
@@ -144,12 +144,22 @@ impl LinkRecord {
     pub fn copy(&self, alloc: Global) -> Result<LinkRecord, AllocError>
         ensures { IfOk result (λ l. l ≡ self.now) }
     {
+        let lines = copy_lines(alloc, &self.lines)?;
+        let mut link = self.copy_without_lines(alloc)?;
+        link.lines = lines;
+        Ok(link)
+    }
+
+    /// The link without its lines, in memory of its own.
+    pub(crate) fn copy_without_lines(&self, alloc: Global) -> Result<LinkRecord, AllocError>
+        ensures { IfOk result (λ l. l ≡ record self.now { lines = [] }) }
+    {
         Ok(LinkRecord {
             from: String::from_str(alloc, self.from.as_str())?,
             to: String::from_str(alloc, self.to.as_str())?,
             name: String::from_str(alloc, self.name.as_str())?,
             requirement: String::from_str(alloc, self.requirement.as_str())?,
-            lines: copy_lines(alloc, &self.lines)?,
+            lines: Vec::new(alloc),
             registry: copy_text(alloc, &self.registry)?,
             path: copy_text(alloc, &self.path)?,
         })

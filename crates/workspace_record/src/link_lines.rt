@@ -5,7 +5,6 @@ ghost use Rattle.std.specs.List.Sorted.{IsStrictlyIncreasing};
 ghost use Rattle.workspace_record.specs.LinesAt.{lines_at};
 
 use crate::link::{LineRecord, LinkRecord};
-use crate::texts::copy_text;
 use std::alloc::{AllocError, Global};
 
 impl LinkRecord {
@@ -15,15 +14,10 @@ impl LinkRecord {
         requires ascending { IsStrictlyIncreasing places.now }
         ensures { IfOk result (λ l. l ≡ record self.now { lines = lines_at self.now.lines places.now }) }
     {
-        Ok(LinkRecord {
-            from: String::from_str(alloc, self.from.as_str())?,
-            to: String::from_str(alloc, self.to.as_str())?,
-            name: String::from_str(alloc, self.name.as_str())?,
-            requirement: String::from_str(alloc, self.requirement.as_str())?,
-            lines: copy_lines_at(alloc, &self.lines, places)?,
-            registry: copy_text(alloc, &self.registry)?,
-            path: copy_text(alloc, &self.path)?,
-        })
+        let lines = copy_lines_at(alloc, &self.lines, places)?;
+        let mut link = self.copy_without_lines(alloc)?;
+        link.lines = lines;
+        Ok(link)
     }
 }
 

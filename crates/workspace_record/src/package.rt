@@ -3,7 +3,7 @@ ghost use Rattle.workspace_record.specs.Records.{no_details};
 ghost use Rattle.workspace_record.specs.RecordEquality.{same_origin, same_description, same_addresses};
 
 use crate::target::{TargetRecord, copy_targets};
-use crate::texts::{copy_text, copy_text_list, same_text, same_text_list, same_texts};
+use crate::texts::{copy_text_list, replace_text, same_text, same_text_list, same_texts};
 use list_facts::copy_texts;
 use std::alloc::{AllocError, Global};
 use std::marker::Model;
@@ -214,21 +214,28 @@ impl PackageInfo {
         ensures { IfOk result (λ p. p ≡ self.now) }
     {
         let mut info = PackageInfo::empty(alloc);
-        copy_origin(alloc, self, &mut info)?;
-        copy_description(alloc, self, &mut info)?;
-        copy_addresses(alloc, self, &mut info)?;
-        Ok(info)
+        let copied = copy_info(alloc, self, &mut info);
+        copied.and(Ok(info))
     }
+}
+
+/// Puts a copy of all that is given in place of what stands there.
+fn copy_info(alloc: Global, from: &PackageInfo, to: &mut PackageInfo) -> Result<(), AllocError>
+    ensures { OnOk result (to.new ≡ from.now) }
+{
+    copy_origin(alloc, from, to)?;
+    copy_description(alloc, from, to)?;
+    copy_addresses(alloc, from, to)
 }
 
 fn copy_origin(alloc: Global, from: &PackageInfo, to: &mut PackageInfo) -> Result<(), AllocError>
     ensures { OnOk result (to.new ≡ record to.old { source = from.now.source; path = from.now.path; manifest_path = from.now.manifest_path; edition = from.now.edition; rust_version = from.now.rust_version; publish = from.now.publish }) }
 {
-    to.source = copy_text(alloc, &from.source)?;
-    to.path = copy_text(alloc, &from.path)?;
+    replace_text(alloc, &from.source, &mut to.source)?;
+    replace_text(alloc, &from.path, &mut to.path)?;
     to.manifest_path = String::from_str(alloc, from.manifest_path.as_str())?;
     to.edition = String::from_str(alloc, from.edition.as_str())?;
-    to.rust_version = copy_text(alloc, &from.rust_version)?;
+    replace_text(alloc, &from.rust_version, &mut to.rust_version)?;
     to.publish = copy_text_list(alloc, &from.publish)?;
     Ok(())
 }
@@ -241,9 +248,9 @@ fn copy_description(
     ensures { OnOk result (to.new ≡ record to.old { authors = from.now.authors; description = from.now.description; license = from.now.license; license_file = from.now.license_file; categories = from.now.categories; keywords = from.now.keywords }) }
 {
     to.authors = copy_texts(alloc, &from.authors)?;
-    to.description = copy_text(alloc, &from.description)?;
-    to.license = copy_text(alloc, &from.license)?;
-    to.license_file = copy_text(alloc, &from.license_file)?;
+    replace_text(alloc, &from.description, &mut to.description)?;
+    replace_text(alloc, &from.license, &mut to.license)?;
+    replace_text(alloc, &from.license_file, &mut to.license_file)?;
     to.categories = copy_texts(alloc, &from.categories)?;
     to.keywords = copy_texts(alloc, &from.keywords)?;
     Ok(())
@@ -252,13 +259,13 @@ fn copy_description(
 fn copy_addresses(alloc: Global, from: &PackageInfo, to: &mut PackageInfo) -> Result<(), AllocError>
     ensures { OnOk result (to.new ≡ record to.old { readme = from.now.readme; repository = from.now.repository; homepage = from.now.homepage; documentation = from.now.documentation; links = from.now.links; default_run = from.now.default_run; metadata = from.now.metadata }) }
 {
-    to.readme = copy_text(alloc, &from.readme)?;
-    to.repository = copy_text(alloc, &from.repository)?;
-    to.homepage = copy_text(alloc, &from.homepage)?;
-    to.documentation = copy_text(alloc, &from.documentation)?;
-    to.links = copy_text(alloc, &from.links)?;
-    to.default_run = copy_text(alloc, &from.default_run)?;
-    to.metadata = copy_text(alloc, &from.metadata)?;
+    replace_text(alloc, &from.readme, &mut to.readme)?;
+    replace_text(alloc, &from.repository, &mut to.repository)?;
+    replace_text(alloc, &from.homepage, &mut to.homepage)?;
+    replace_text(alloc, &from.documentation, &mut to.documentation)?;
+    replace_text(alloc, &from.links, &mut to.links)?;
+    replace_text(alloc, &from.default_run, &mut to.default_run)?;
+    replace_text(alloc, &from.metadata, &mut to.metadata)?;
     Ok(())
 }
 

@@ -1,6 +1,6 @@
 //! Copies and comparisons of the texts that records hold.
 
-ghost use Rattle.std.specs.Prelude.{◌≡◌, IfOk, map, option_map, string_bytes};
+ghost use Rattle.std.specs.Prelude.{◌≡◌, IfOk, OnOk, map, option_map, string_bytes};
 ghost use Rattle.std.specs.Option.{option_eq};
 ghost use Rattle.std.specs.Cmp.Lexicographic.{pointwise};
 ghost use Rattle.workspace_record.specs.Equality.{text_eq};
@@ -15,6 +15,18 @@ pub(crate) fn copy_text(alloc: Global, text: &Option<String>) -> Result<Option<S
         None => Ok(None),
         Some(text) => Ok(Some(String::from_str(alloc, text.as_str())?)),
     }
+}
+
+/// Puts a copy of a text in place of another.
+pub(crate) fn replace_text(
+    alloc: Global,
+    from: &Option<String>,
+    to: &mut Option<String>,
+) -> Result<(), AllocError>
+    ensures { OnOk result (option_map string_bytes to.new ≡ option_map string_bytes from.now) }
+{
+    *to = copy_text(alloc, from)?;
+    Ok(())
 }
 
 pub(crate) fn same_texts(a: &[String], b: &[String]) -> bool

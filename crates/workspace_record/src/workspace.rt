@@ -127,9 +127,9 @@ impl WorkspaceInfo {
         Ok(WorkspaceInfo {
             root: String::from_str(alloc, self.root.as_str())?,
             target_directory: String::from_str(alloc, self.target_directory.as_str())?,
-            build_directory: copy_text(alloc, &self.build_directory)?,
             members: copy_members(alloc, &self.members)?,
             default_members: copy_texts(alloc, &self.default_members)?,
+            build_directory: copy_text(alloc, &self.build_directory)?,
             metadata: copy_text(alloc, &self.metadata)?,
         })
     }
@@ -267,11 +267,11 @@ impl WorkspaceRecord {
         ensures { IfOk result (λ w. w ≡ self.now) }
     {
         Ok(WorkspaceRecord {
-            packages: copy_packages(alloc, &self.packages)?,
-            links: copy_links(alloc, &self.links)?,
-            workspace: self.workspace.copy(alloc)?,
             groups: copy_groups(alloc, &self.groups)?,
+            links: copy_links(alloc, &self.links)?,
+            packages: copy_packages(alloc, &self.packages)?,
             default_filter: copy_text(alloc, &self.default_filter)?,
+            workspace: self.workspace.copy(alloc)?,
         })
     }
 }

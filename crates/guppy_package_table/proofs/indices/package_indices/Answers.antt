@@ -4,11 +4,11 @@ use Rattle.guppy_package_table.specs.Members.{AreMembers}
 use Rattle.guppy_package_table.proofs.Places.{defaults_within, members_within}
 use Rattle.guppy_package_table.proofs.indices.package_indices.Goals as goal
 
-pub returns : goal.returns
-returns c =
+pub returns-in-Ok : goal.returns-in-Ok
+returns-in-Ok c =
     let packages = c.args.packages.now in
     let workspace = c.args.workspace.now in
-    let members : AreMembers (ids_of packages) workspace c.in_ok-members.members = subst (λ ids. AreMembers ids workspace c.in_ok-members.members) c.in_ok-ids.ensures c.in_ok-members.ensures in
+    let members : AreMembers (ids_of packages) workspace c.in-Ok.members = subst (λ ids. AreMembers ids workspace c.in-Ok.members) c.in_ok-ids.ensures c.in-Ok.ensures in
     let within : ℕ → Type 0 = λ v. v < length packages in
     record {
       ids = c.in_ok-ids.ensures;

@@ -1,5 +1,5 @@
 use Rattle.std.proofs.Common.{◌≡◌, ℕ, ◌<◌, ◌≤◌, true, Vec, Global, length, get_or, map, filter, replicate, sym, subst, ap, ◌∙◌, All, AllPairs, IsPermutation}
-use Rattle.std.proofs.lemmas.List.{length-map}
+use Rattle.std.proofs.lemmas.List.{length-map, length-replicate}
 use Rattle.std.proofs.lemmas.List.Elements.{All-filter}
 use Rattle.std.proofs.lemmas.List.Sorted.{All-permutation}
 use Rattle.numbered_graph.specs.Listings.{numbers_below}
@@ -59,3 +59,18 @@ returns c =
     let rising : AllPairs (λ u v. get_or keys u 0 ≤ get_or keys v 0) order = subst (λ ks. AllPairs (λ u v. get_or ks u 0 ≤ get_or ks v 0) order) c.deref-3.ensures.value (λ i j d lt small. (c.in_ok-order.ensures.order i j d lt small).0) in
     let are = AreCycles-from_runs c.links.ensures.within (AreKeyed-by_keys c.args.direction all most made perm rising) are_levels lists whole runs in
     record { cycles = are; within = λ v inside. on_cycle_within nodes links c.links.ensures.within v ((are.each v).0 inside) }
+
+pub component_ranks-requires : goal.component_ranks-requires
+component_ranks-requires c =
+    ap length (c.deref.ensures.value ∙ c.in_ok-all.ensures) ∙ length-replicate (length c.links.result.now) true ∙ ap length c.links.ensures.value
+
+pub in_order-requires : goal.in_order-requires
+in_order-requires c = ap length (c.deref-4.ensures.value ∙ sym c.deref-3.ensures.value)
+
+pub levels_of-requires : goal.levels_of-requires
+levels_of-requires c =
+    ap length (c.deref-5.ensures.value ∙ c.in_ok-keys.ensures.2) ∙ length-map c.deref-2.result.now (key_of c.args.direction c.in_ok-keys.ensures.0) ∙ ap length c.deref-2.ensures.value ∙ c.in_ok-ranks.ensures.ranks.sized
+
+pub on_levels-requires-clause-levels : goal.on_levels-requires-clause-levels
+on_levels-requires-clause-levels c =
+    subst (All (λ k. k < length c.deref-8.result.now)) (c.deref-5.ensures.value ∙ sym c.deref-7.ensures.value) (subst (λ fs. All (λ k. k < length fs) c.deref-5.result.now) (sym c.deref-8.ensures.value) c.in_ok-levels.ensures.sized)

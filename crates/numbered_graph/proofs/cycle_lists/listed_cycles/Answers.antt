@@ -1,5 +1,6 @@
 use Rattle.std.proofs.Common.{◌≡◌, ℕ, ◌<◌, true, List, Vec, Global, length, get_or, map, filter, flat_map, replicate, sym, subst, ap, ◌∙◌, All}
 use Rattle.std.proofs.lemmas.List.Elements.{All-filter}
+use Rattle.std.proofs.lemmas.List.{length-replicate}
 use Rattle.numbered_graph.specs.declared.direction.Direction.TheVariants.{Forward}
 use Rattle.numbered_graph.specs.Paths.{any_link}
 use Rattle.numbered_graph.specs.Ranks.{AreRanks}
@@ -64,3 +65,14 @@ pub returns-clause-within : goal.returns-clause-within
 returns-clause-within c =
     let made = goal.at.returns-clause-within c in
     λ v inside. on_cycle_within c.args.graph.now.nodes c.args.graph.now.links c.links.ensures.within v (((are_cycles made.In_ok-cycles (all made.In_ok-ranks)).each v).0 inside)
+
+pub component_ranks-requires : goal.component_ranks-requires
+component_ranks-requires c =
+    ap length (c.deref.ensures.value ∙ c.in_ok-all.ensures) ∙ length-replicate (length c.links.result.now) true ∙ ap length c.links.ensures.value
+
+pub levels_of-requires : goal.levels_of-requires
+levels_of-requires c = ap length c.deref-2.ensures.value ∙ c.in_ok-ranks.ensures.ranks.sized
+
+pub on_levels-requires-clause-levels : goal.on_levels-requires-clause-levels
+on_levels-requires-clause-levels c =
+    subst (All (λ k. k < length c.deref-4.result.now)) (c.deref-2.ensures.value ∙ sym c.deref-3.ensures.value) (subst (λ fs. All (λ k. k < length fs) c.deref-2.result.now) (sym c.deref-4.ensures.value) c.in_ok-levels.ensures.sized)

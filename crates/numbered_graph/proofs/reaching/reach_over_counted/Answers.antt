@@ -1,4 +1,5 @@
 use Rattle.std.proofs.Common.{◌≡◌, ℕ, Bool, None, ◌++◌, ◌∷◌, [], ◌↔◌, IsTrue, All, length, refl, subst, sym, ap, ◌∙◌, arith}
+use Rattle.std.proofs.lemmas.List.{length_push}
 use Rattle.std.proofs.lemmas.List.Elements.{All-push}
 use Rattle.numbered_graph.specs.Graphs.{GraphValue}
 use Rattle.numbered_graph.specs.Paths.{IsReached}
@@ -35,3 +36,47 @@ returns-clause-reached g c = λ v.
     let by_graph = subst (λ (x : GraphValue). IsTrue (has reached v) ↔ IsReached walk.direction x.links (has c.args.passes.now) walk.starts v) before.graph here in
     let by_direction = subst (λ d. IsTrue (has reached v) ↔ IsReached d c.args.graph.now.links (has c.args.passes.now) walk.starts v) before.direction by_graph in
     subst (λ starts. IsTrue (has reached v) ↔ IsReached c.args.direction c.args.graph.now.links (has c.args.passes.now) starts v) before.starts by_direction
+
+pub loop-number-init : goal.loop-number-init
+loop-number-init g c =
+    let started = c.in_ok-walk.ensures.started in
+    let looked = ap (λ (w : WalkValue). w.looked) started in
+    record {
+      graph = ap (λ (w : WalkValue). w.graph) started;
+      direction = ap (λ (w : WalkValue). w.direction) started;
+      starts = ap (λ (w : WalkValue). w.starts) started;
+      idle = ap (λ (w : WalkValue). w.waiting) started;
+      answers = subst (λ shown. All (λ (s : ℕ × Bool). s.1 ≡ has c.args.passes.now s.0) shown) (sym (ap (λ (w : WalkValue). w.shown) started)) (λ k d lt. absurd (omega arith));
+      looks = omega arith;
+      bound = omega arith;
+    }
+
+pub take-requires : goal.take-requires
+take-requires g c = c.loop-number.invariant.idle
+
+pub answer-requires : goal.answer-requires
+answer-requires g c = ap (λ (w : WalkValue). w.waiting) c.in-Some.ensures.kept
+
+pub loop-number-smaller : goal.loop-number-smaller
+loop-number-smaller g c =
+    let kept = c.in-Some.ensures.kept in
+    let answered = c.answer.ensures.answered in
+    let size = ap (λ (w : WalkValue). length w.shown) answered ∙ length_push _ _ in
+    let was = ap (λ (w : WalkValue). length w.shown) kept in
+    let links = ap (λ (w : WalkValue). length w.graph.links) answered ∙ ap (λ (w : WalkValue). length w.graph.links) kept in
+    let room = c.in-Some.ensures.room in
+    omega arith
+
+pub returns-clause-sized : goal.returns-clause-sized
+returns-clause-sized g c =
+    c.into_included.ensures.sized ∙ ap (λ (w : WalkValue). w.graph.nodes) c.in_default.ensures.kept ∙ ap (λ (x : GraphValue). x.nodes) c.loop-number.invariant.graph
+
+pub returns-clause-looks : goal.returns-clause-looks
+returns-clause-looks g c =
+    let graph = ap (λ (w : WalkValue). w.graph) c.in_default.ensures.kept ∙ c.loop-number.invariant.graph in
+    let nodes = ap (λ (x : GraphValue). x.nodes) graph in
+    let links = ap (λ (x : GraphValue). length x.links) graph in
+    let looks = c.in_default.ensures.looks in
+    let bound = c.in_default.ensures.bound in
+    let before = c.loop-number.invariant.looks in
+    omega arith

@@ -1,5 +1,8 @@
-use Rattle.std.proofs.Common.{length, append-nil, subst, sym, ap, ◌∙◌, arith}
-use Rattle.numbered_graph.specs.Walks.{WalkValue}
+use Rattle.std.proofs.Common.{ℕ, List, length, append-nil, refl, subst, sym, ap, ◌∙◌, arith}
+use Rattle.numbered_graph.specs.declared.direction.Direction.{Direction}
+use Rattle.numbered_graph.specs.declared.link.Link.{Link}
+use Rattle.numbered_graph.specs.Graphs.{GraphValue}
+use Rattle.numbered_graph.specs.Walks.{IsShowing, Shown, WalkValue}
 use Rattle.numbered_offers.specs.Keeping.{run_of}
 use Rattle.numbered_offers.specs.States.{WaitsFor}
 use Rattle.numbered_offers.proofs.StateFacts.{none_of, walk_rests, walk_meets}
@@ -35,3 +38,51 @@ pub returns-clause-rests : goal.returns-clause-rests
 returns-clause-rests g c =
     let kept = c.in_default.ensures.kept in
     walk_rests c.loop-number.state c.take.new.self _ (ap (λ (w : WalkValue). w.graph) kept) (ap (λ (w : WalkValue). w.direction) kept) (ap (λ (w : WalkValue). w.starts) kept) (ap (λ (w : WalkValue). w.shown) kept) c.in_default.ensures.bound c.loop-number.invariant.rests (ap (λ (w : WalkValue). w.waiting) kept)
+
+pub loop-number-init : goal.loop-number-init
+loop-number-init g c = record {
+  rests = c.requires.rests;
+  run = refl;
+  walk = record { graph = refl; direction = refl; starts = refl };
+  shown = omega arith;
+  looks = refl;
+}
+
+pub take-requires : goal.take-requires
+take-requires g c = c.loop-number.invariant.rests.idle
+
+pub returns-then-is_some-clause-run : goal.returns-then-is_some-clause-run
+returns-then-is_some-clause-run g c = c.meet_link-due.ensures.run ∙ c.loop-number.invariant.run
+
+pub returns-then-is_some-clause-walk : goal.returns-then-is_some-clause-walk
+returns-then-is_some-clause-walk g c =
+    let before = c.loop-number.invariant.walk in
+    let met = c.meet_link-due.ensures in
+    record {
+      graph = met.graph ∙ before.graph;
+      direction = met.direction ∙ before.direction;
+      starts = ap (λ (w : WalkValue). w.starts) met.walk ∙ ap (λ (w : WalkValue). w.starts) c.in-Some.ensures.kept ∙ before.starts;
+    }
+
+pub returns-clause-all : goal.returns-clause-all
+returns-clause-all g c =
+    let kept = c.in_default.ensures.kept in
+    let stands = c.loop-number.invariant.rests.stands in
+    let links = ap (λ (x : GraphValue). x.links) stands.graph in
+    let starts = sym (ap (λ (w : WalkValue). w.starts) kept) in
+    let shown = sym (ap (λ (w : WalkValue). w.shown) kept) in
+    subst (λ (x : Direction × List Link × List ℕ × Shown). IsShowing x.0 x.1 x.2 x.3) (λ i. (stands.direction i, links i, starts i, shown i)) c.in_default.ensures.all
+
+pub returns-clause-run : goal.returns-clause-run
+returns-clause-run g c = c.loop-number.invariant.run
+
+pub returns-clause-walk : goal.returns-clause-walk
+returns-clause-walk g c =
+    let before = c.loop-number.invariant.walk in
+    record { graph = before.graph; direction = before.direction; starts = ap (λ (w : WalkValue). w.starts) c.in_default.ensures.kept ∙ before.starts }
+
+pub returns-clause-bound : goal.returns-clause-bound
+returns-clause-bound g c =
+    let nodes = ap (λ (w : WalkValue). w.graph.nodes) c.in_default.ensures.kept ∙ ap (λ (x : GraphValue). x.nodes) c.loop-number.invariant.rests.stands.graph in
+    let bound = c.in_default.ensures.bound in
+    omega arith

@@ -1,4 +1,4 @@
-use Rattle.std.proofs.Common.{length, ap, ◌∙◌, arith}
+use Rattle.std.proofs.Common.{add-one, length, refl, ap, ◌∙◌, arith}
 use Rattle.std.proofs.lemmas.List.{length_push}
 use Rattle.numbered_graph.specs.Walks.{WalkValue}
 use Rattle.numbered_offers.specs.Keeping.{near_after, dep_after, run_of}
@@ -28,3 +28,19 @@ returns-clause-rests c =
       counts = waits.counts;
       idle = ap (λ (w : WalkValue). w.waiting) after;
     }
+
+pub answer-requires : goal.answer-requires
+answer-requires c = c.requires.waits.waiting
+
+pub returns-clause-run : goal.returns-clause-run
+returns-clause-run c = c.note.ensures.run
+
+pub returns-clause-walk : goal.returns-clause-walk
+returns-clause-walk c = record { graph = refl; direction = refl; starts = ap (λ (w : WalkValue). w.starts) c.answer.ensures.answered }
+
+pub returns-clause-shown : goal.returns-clause-shown
+returns-clause-shown c =
+    ap (λ (w : WalkValue). length w.shown) c.answer.ensures.answered ∙ length_push c.args.state.now.walk.shown _ ∙ add-one (length c.args.state.now.walk.shown)
+
+pub returns-clause-looked : goal.returns-clause-looked
+returns-clause-looked c = ap (λ (w : WalkValue). w.looked) c.answer.ensures.answered

@@ -1,15 +1,21 @@
-use Rattle.std.proofs.Common.{◌≡◌, ℕ, ◌<◌, Some, ◌++◌, ◌∷◌, [], length, subst, ap, ◌∙◌, arith}
+use Rattle.std.proofs.Common.{◌≡◌, ℕ, ◌+◌, ◌<◌, Bool, None, Some, ◌++◌, ◌∷◌, [], length, subst, sym, ap, ◌∙◌, arith}
 use Rattle.std.specs.Option.{option_to_list}
 use Rattle.numbered_graph.specs.declared.walk.Walk.TheInside.{Inside}
 use Rattle.numbered_graph.specs.Links.{far_at}
-use Rattle.numbered_graph.specs.Walks.{WalkValue, shown_links, AreListed, AreTaken}
-use Rattle.numbered_graph.specs.Walking.{Stands}
-use Rattle.numbered_graph.proofs.WalkFacts.{waiting_within, waiting_near, waiting_room, AreTaken-answered, AreTaken-accepted, AreFollowed-accepted, AreFollowed-refused}
+use Rattle.numbered_graph.specs.Walks.{Shown, WalkValue, shown_links, taken_links, AreListed, AreTaken}
+use Rattle.numbered_graph.specs.Walking.{seen, Stands}
+use Rattle.numbered_graph.proofs.WalkFacts.{waiting_within, waiting_near, waiting_room, AreTaken-answered, AreTaken-accepted, AreFollowed-accepted, AreFollowed-refused, taken_after}
 use Rattle.numbered_graph.proofs.walk.Walk.answer.Goals as goal
 
 -- what was taken, by the link that waits
 taken_at : (w : Inside) → Stands w → (j : ℕ) → w.waiting ≡ Some j → AreTaken w.direction w.graph.now.nodes w.graph.now.links w.reached.items w.order.items w.cursors.items w.opened (shown_links w.shown.items ++ j ∷ [])
 taken_at w h j e = subst (λ o. AreTaken w.direction w.graph.now.nodes w.graph.now.links w.reached.items w.order.items w.cursors.items w.opened (shown_links w.shown.items ++ option_to_list o)) e h.taken
+
+-- what is seen after the answer
+answered_value : (w : Inside) (number : ℕ) (accepted : Bool) (old : WalkValue) → seen w ≡ old → w.waiting ≡ Some number → (shown : Shown) → shown ≡ w.shown.items ++ (number, accepted) ∷ [] → record (seen w) { shown = shown; waiting = None; looked = w.opened + length (taken_links shown None) } ≡ record old { waiting = None; shown = old.shown ++ (number, accepted) ∷ [] }
+answered_value w number accepted old is waits shown items =
+    let links : taken_links shown None ≡ taken_links w.shown.items w.waiting = taken_after w.shown.items shown number accepted items ∙ ap (taken_links w.shown.items) (sym waits) in
+    (λ i. record (seen w) { shown = items i; waiting = None; looked = w.opened + length (links i) }) ∙ ap (λ (v : WalkValue). record v { waiting = None; shown = v.shown ++ (number, accepted) ∷ [] }) is
 
 pub far-far-requires : goal.far-far-requires
 far-far-requires c =
@@ -48,3 +54,13 @@ invariant_of-self-else-accepted c =
       order_room = stands.order_room;
       shown_room = let room = stands.shown_room in let grown = c.push_within.ensures.capacity in omega arith;
     }
+
+pub returns-then-accepted : goal.returns-then-accepted
+returns-then-accepted c = record {
+  answered = answered_value c.self.inside c.args.number c.args.accepted c.args.self.now c.self.view_is (ap (λ (v : WalkValue). v.waiting) c.self.view_is ∙ c.requires) c.push_within.new.items.items c.push_within.ensures.items;
+}
+
+pub returns-else-accepted : goal.returns-else-accepted
+returns-else-accepted c = record {
+  answered = answered_value c.self.inside c.args.number c.args.accepted c.args.self.now c.self.view_is (ap (λ (v : WalkValue). v.waiting) c.self.view_is ∙ c.requires) c.push_within.new.items.items c.push_within.ensures.items;
+}

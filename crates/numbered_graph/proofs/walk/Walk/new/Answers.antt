@@ -1,7 +1,7 @@
-use Rattle.std.proofs.Common.{◌+◌, ◌<◌, subst, length, get_or, take, arith}
+use Rattle.std.proofs.Common.{◌≡◌, ◌+◌, ◌<◌, [], false, None, replicate, subst, sym, ap, rules, length, get_or, take, arith}
 use Rattle.std.proofs.lemmas.List.{take_more}
-use Rattle.numbered_graph.specs.Walks.{AreListed}
-use Rattle.numbered_graph.proofs.WalkFacts.{AreFollowed-start}
+use Rattle.numbered_graph.specs.Walks.{AreFollowed, AreListed, Shown, taken_links}
+use Rattle.numbered_graph.proofs.WalkFacts.{AreFollowed-none, AreFollowed-start, AreListed-none}
 use Rattle.numbered_graph.proofs.walk.Walk.new.Goals as goal
 
 pub loop-node-preserved : goal.loop-node-preserved
@@ -16,3 +16,19 @@ loop-node-preserved c =
       followed = rw c.include.ensures.reached (AreFollowed-start (take i starts) (take (i + 1) starts) (get_or starts i 0) (take_more starts i 0 c.loop-node-test.true) within before.followed);
       room = let room = before.room in let grown = c.include.ensures.capacity in omega arith;
     }
+
+pub loop-node-init : goal.loop-node-init
+loop-node-init c =
+    let nodes = c.node_count-nodes.result in
+    let reached : c.in_ok-reached.reached.items ≡ replicate nodes false = search rules in
+    record {
+      nodes = c.node_count-nodes.ensures.count;
+      listed = subst (AreListed nodes c.in_ok-reached.reached.items) (sym c.in_ok-order.ensures.items) (subst (λ flags. AreListed nodes flags []) (sym reached) (AreListed-none nodes));
+      followed = subst (AreFollowed c.args.direction c.args.graph.now.links [] []) (sym reached) (AreFollowed-none c.args.direction c.args.graph.now.links nodes);
+      room = c.in_ok-order.ensures.capacity;
+    }
+
+pub returns : goal.returns
+returns c = record {
+  started = ap (λ (shown : Shown). record { graph = c.args.graph.now; direction = c.args.direction; starts = c.args.starts.now; shown = shown; waiting = None; looked = 0 + length (taken_links shown None) }) c.in_ok-shown.ensures.items;
+}

@@ -1,7 +1,17 @@
-use Rattle.std.proofs.Common.{◌+◌, ◌<◌, ◌≤◌, length, refl, subst, ap, ◌∙◌, arith}
+use Rattle.std.proofs.Common.{◌+◌, ◌<◌, ◌≤◌, Some, length, refl, subst, sym, ap, ◌∙◌, arith}
 use Rattle.numbered_graph.specs.Walks.{WalkValue, IsDue, IsShowing}
 use Rattle.numbered_offers.proofs.WalkingFacts.{looked_bound, all_shown, in_cursors, Goes-passed, is_due, room_left, Goes-taken}
 use Rattle.numbered_offers.proofs.link_walk.LinkWalk.take.Goals as goal
+
+pub loop-self-init : goal.loop-self-init
+loop-self-init g c = record {
+  stands = c.self.invariant;
+  kept = ap (λ (v : WalkValue). record v { looked = c.self.inside.opened }) c.self.view_is;
+  looks = ap (λ (v : WalkValue). c.args.looks.now + v.looked) (sym c.self.view_is);
+}
+
+pub invariant_of-self : goal.invariant_of-self
+invariant_of-self g c = c.loop-self.invariant.stands
 
 pub index-number-requires : goal.index-number-requires
 index-number-requires g c =
@@ -9,6 +19,19 @@ index-number-requires g c =
     let lt : w.opened < length w.order.items = omega (arith, c.len.ensures) in
     let within = in_cursors w c.loop-self.invariant.stands c.index-node.result.now lt c.index-node.ensures in
     omega arith
+
+pub index_mut-requires : goal.index_mut-requires
+index_mut-requires g c =
+    let w = c.loop-self.self-inside in
+    let lt : w.opened < length w.order.items = omega (arith, c.len.ensures) in
+    let within = in_cursors w c.loop-self.invariant.stands c.index-node.result.now lt c.index-node.ensures in
+    omega arith
+
+pub loop-self-smaller : goal.loop-self-smaller
+loop-self-smaller g c =
+    let w = c.loop-self.self-inside in
+    let lt : w.opened < length w.order.items = omega (arith, c.len.ensures) in
+    omega (arith, lt)
 
 pub loop-self-preserved : goal.loop-self-preserved
 loop-self-preserved g c =
@@ -49,6 +72,13 @@ returns-then-number-links-clause-room g c =
     let small = subst (λ links. c.index-number.result.now < length links) c.links.ensures.value c.if-number-links.true in
     subst (λ (v : WalkValue). length v.shown < length v.graph.links) before.kept (room_left w before.stands c.index-node.result.now lt c.index-node.ensures c.index-number.result.now c.index-number.ensures idle small c.next_of.result c.next_of.ensures)
 
+pub returns-then-number-links-clause-kept : goal.returns-then-number-links-clause-kept
+returns-then-number-links-clause-kept g c =
+    ap (λ (v : WalkValue). record v { waiting = Some c.index-number.result.now; looked = c.loop-self.self-inside.opened }) c.loop-self.invariant.kept
+
+pub returns-then-number-links-clause-looks : goal.returns-then-number-links-clause-looks
+returns-then-number-links-clause-looks g c = c.loop-self.invariant.looks
+
 pub returns-then-number-links-clause-bound : goal.returns-then-number-links-clause-bound
 returns-then-number-links-clause-bound g c = looked_bound c.loop-self.self-inside c.loop-self.invariant.stands
 
@@ -59,6 +89,13 @@ returns-clause-all g c =
     let idle = ap (λ (v : WalkValue). v.waiting) before.kept ∙ c.requires in
     let past : length w.order.items ≤ w.opened = omega (arith, c.len.ensures) in
     subst (λ (v : WalkValue). IsShowing v.direction v.graph.links v.starts v.shown) before.kept (all_shown w before.stands idle past)
+
+pub returns-clause-kept : goal.returns-clause-kept
+returns-clause-kept g c =
+    c.loop-self.invariant.kept ∙ ap (λ o. record c.args.self.now { waiting = o; looked = c.loop-self.self-inside.opened }) c.requires
+
+pub returns-clause-looks : goal.returns-clause-looks
+returns-clause-looks g c = c.loop-self.invariant.looks
 
 pub returns-clause-bound : goal.returns-clause-bound
 returns-clause-bound g c = looked_bound c.loop-self.self-inside c.loop-self.invariant.stands

@@ -3,7 +3,7 @@ use Rattle.workspace_record.specs.Features.{feature_eq}
 use Rattle.guppy_feature_ids.specs.IdViews.{id_view}
 use Rattle.guppy_feature_demands.specs.HashedViews.{hashed_view}
 use Rattle.guppy_feature_demands.specs.Nodes.{first_of_each}
-use Rattle.guppy_feature_demands.proofs.nodes.first_of_each.Given as goal
+use Rattle.guppy_feature_demands.proofs.nodes.push_firsts.Given as goal
 
 abbrev pub invariant-loop-feature : goal.invariant-loop-feature
 invariant-loop-feature l = record {

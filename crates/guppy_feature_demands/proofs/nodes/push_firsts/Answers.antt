@@ -5,7 +5,7 @@ use Rattle.indexmap.specs.IndexSet.{insert_key}
 use Rattle.guppy_feature_ids.specs.IdViews.{id_view}
 use Rattle.guppy_feature_demands.specs.HashedViews.{hashed_view}
 use Rattle.guppy_feature_demands.proofs.FirstFacts.{first_next, inserted_both}
-use Rattle.guppy_feature_demands.proofs.nodes.first_of_each.Goals as goal
+use Rattle.guppy_feature_demands.proofs.nodes.push_firsts.Goals as goal
 
 pub loop-feature-preserved : goal.loop-feature-preserved
 loop-feature-preserved c =

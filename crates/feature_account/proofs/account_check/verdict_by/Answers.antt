@@ -2,7 +2,7 @@ use Rattle.std.proofs.Common.{◌≡◌, IfNone, subst}
 use Rattle.feature_account.specs.Accounts.{concludes, IsSound}
 use Rattle.feature_account.specs.Closed.{IsClosed}
 use Rattle.feature_account.specs.Found.{found_set}
-use Rattle.feature_account.proofs.account_check.verdict_of.Goals as goal
+use Rattle.feature_account.proofs.account_check.verdict_by.Goals as goal
 
 pub returns-in-None-first_open : goal.returns-in-None-first_open
 returns-in-None-first_open c =

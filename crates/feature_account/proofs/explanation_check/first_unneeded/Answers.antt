@@ -3,12 +3,12 @@ use Rattle.workspace_record.specs.Features.{FeatureValue}
 use Rattle.feature_account.specs.Closed.{is_premise}
 use Rattle.feature_account.specs.Found.{found_set}
 use Rattle.feature_account.proofs.ExplanationFacts.{UsedFrom, number_known, used_step, unused_step}
-use Rattle.feature_account.proofs.explanation_check.first_unused.Goals as goal
-use Rattle.feature_account.proofs.explanation_check.first_unused.Goals.{then-place-entries+then-not-contains, else-place-entries, else-place-entries-via-then-place-entries+else-not-contains, else-place-entries-via-else-place-entries}
+use Rattle.feature_account.proofs.explanation_check.first_unneeded.Goals as goal
+use Rattle.feature_account.proofs.explanation_check.first_unneeded.Goals.{then-place-entries+then-not-contains, else-place-entries, else-place-entries-via-then-place-entries+else-not-contains, else-place-entries-via-else-place-entries}
 
 pub rule_of-rule-requires : goal.rule_of-rule-requires
 rule_of-rule-requires c = record {
-  known = number_known c.args.rules.now c.args.entries.now (c.loop-place.place - 1) c.requires (omega arith);
+  known = number_known c.args.rules.now c.args.entries.now (c.loop-place.place - 1) c.requires.sound (omega arith);
 }
 
 pub loop-place-preserved : goal.loop-place-preserved

@@ -2,10 +2,10 @@ use Rattle.std.proofs.Common.{take_all, sym, ap, subst, true≢false, refl}
 use Rattle.list_facts.specs.Texts.{texts}
 use Rattle.test_lister.specs.Listings.{HasRepeat}
 use Rattle.test_lister.proofs.Repeats.{HoldsDistinct, holds_none, holds_more, repeat_of_texts, texts_more}
-use Rattle.test_lister.proofs.listing.has_repeat.Goals as goal
+use Rattle.test_lister.proofs.listing.finds_repeat.Goals as goal
 
 pub loop-name-init : goal.loop-name-init
-loop-name-init c = rw c.in_ok-seen.ensures.empty holds_none
+loop-name-init c = rw c.requires holds_none
 
 pub returns-then-not-branch : goal.returns-then-not-branch
 returns-then-not-branch c =

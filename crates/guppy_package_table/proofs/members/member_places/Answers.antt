@@ -1,0 +1,12 @@
+use Rattle.std.proofs.Common.{ap, ◌∙◌}
+use Rattle.workspace_record.specs.Records.{Member}
+use Rattle.guppy_package_table.specs.Tables.{place_among}
+use Rattle.guppy_package_table.proofs.PushFacts.{mapped_all, mapped_more}
+use Rattle.guppy_package_table.proofs.members.member_places.Goals as goal
+
+pub loop-member-preserved : goal.loop-member-preserved
+loop-member-preserved c =
+    mapped_more (λ (m : Member). place_among c.args.ids.now.keys m.package_id) c.args.members.now c.loop-member.member-index c.member-item.result c.loop-member-test.true c.member-item.is _ _ _ c.loop-member.invariant c.in_ok-push.ensures.items (c.place_of_id.ensures ∙ ap (place_among c.args.ids.now.keys) (c.as_str.ensures.value ∙ ap (λ (m : Member). m.package_id) c.member.view_is))
+
+pub returns : goal.returns
+returns c = mapped_all (λ (m : Member). place_among c.args.ids.now.keys m.package_id) c.args.members.now c.loop-member.member-index _ c.loop-member-test.false c.loop-member.invariant
