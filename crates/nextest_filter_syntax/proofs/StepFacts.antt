@@ -8,7 +8,7 @@ use Rattle.nextest_filter_faults.specs.Faults.{is_pattern_fault}
 use Rattle.nextest_filter_faults.specs.declared.parse_error.ParseSingleError.{ParseSingleError}
 use Rattle.nextest_filter_tokens.specs.Bytes.{skip}
 use Rattle.nextest_filter_tokens.specs.FaultLists.{pattern_faults, syntax_faults}
-use Rattle.nextest_filter_tokens.specs.ReadingSteps.{AreOf, GoesOn, Grows, KeepsPatterns, Spoils, SpoilsSyntax}
+use Rattle.nextest_filter_tokens.specs.ReadingSteps.{GoesOn, Grows, KeepsPatterns, Spoils, SpoilsSyntax}
 use Rattle.nextest_filter_tokens.specs.declared.fault_list.FaultList.{FaultList}
 use Rattle.nextest_filter_tokens.specs.Heads.{head_at}
 use Rattle.nextest_filter_tokens.specs.declared.heads.Head.{Head}
@@ -19,6 +19,7 @@ use Rattle.nextest_filter_tokens.specs.declared.operators.Found.TheVariants.{Not
 use Rattle.nextest_filter_leaves.specs.Leaves.{Leaf, leaf_of}
 use Rattle.nextest_filter_leaves.specs.LeafGrammar.{LeafBy, Stands}
 use Rattle.nextest_filter_leaves.specs.declared.parsed_leaf.ParsedLeaf.{ParsedLeaf}
+use Rattle.nextest_filter_leaves.proofs.StepFacts.{goes_from}
 use Rattle.nextest_filter_syntax.specs.declared.parsed_expr.ParsedExpr.{ParsedExpr}
 use Rattle.nextest_filter_syntax.specs.Trees.{Tree, not_of, parens_of, set_of, tree_of}
 use Rattle.nextest_filter_syntax.specs.Grammar.{MoreOf, Reads, ReadsWhole, chain, found_at, joined_of, leaf, negated, none, one, parens}
@@ -64,15 +65,8 @@ fault_none B (Some v) all syntax clean fault = tt
 fault_none B None all syntax clean fault = absurd (omega (arith, clean, fault.1))
 
 -- what goes on from the end of a head goes on from before it
-pub goes_from : (text : List ℕ) (at start next end : ℕ) (f g : FaultList) → at ≤ start → start < next → GoesOn text next end f g → GoesOn text at end f g
-goes_from text at start next end f g up over on = (omega (arith, up, over, on.0), on.1, on.2)
-
-pub grows_same : (text : List ℕ) (f : FaultList) → AreOf text f → Grows text f f
-grows_same text f of = (omega arith, omega arith, of)
-
-pub goes_both : (text : List ℕ) (i j k : ℕ) (f g h : FaultList) → GoesOn text i j f g → GoesOn text j k g h → GoesOn text i k f h
-goes_both text i j k f g h p q =
-    (omega (arith, p.0, q.0), q.1, (omega (arith, p.2.0, q.2.0), omega (arith, p.2.1, q.2.1), q.2.2))
+pub goes_from_head : (text : List ℕ) (at start next end : ℕ) (f g : FaultList) → at ≤ start → start < next → GoesOn text next end f g → GoesOn text at end f g
+goes_from_head text at start next end f g up over on = goes_from text at next end f g (omega (arith, up, over)) on
 
 pub goes_after : (text : List ℕ) (i j : ℕ) (f g h : FaultList) → GoesOn text i j f g → Grows text g h → GoesOn text i j f h
 goes_after text i j f g h p q =

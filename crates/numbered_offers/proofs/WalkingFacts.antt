@@ -1,13 +1,11 @@
 -- What a walk keeps while it looks for the next link.
-use Rattle.std.proofs.Common.{◌≡◌, ℕ, zero, suc, ◌+◌, ◌<◌, ◌≤◌, Bool, true, false, true≢false, None, Some, List, [], ◌∷◌, ◌++◌, length, get_or, replicate, count_by, set, Vec, Global, refl, sym, subst, ap, ◌∙◌, arith}
-use Rattle.std.proofs.lemmas.List.{append-nil, get_or_read, length-replicate}
+use Rattle.std.proofs.Common.{◌≡◌, ℕ, suc, ◌+◌, ◌<◌, ◌≤◌, true, None, Some, [], ◌∷◌, ◌++◌, length, get_or, set, Vec, Global, sym, subst, ap, ◌∙◌, arith}
+use Rattle.std.proofs.lemmas.List.{append-nil, get_or_read}
 use Rattle.numbered_offers.specs.declared.link_walk.LinkWalk.TheInside.{Inside}
-use Rattle.numbered_graph.specs.declared.direction.Direction.{Direction}
-use Rattle.numbered_graph.specs.declared.link.Link.{Link}
 use Rattle.numbered_graph.specs.Chains.{IsNextLink}
 use Rattle.numbered_graph.specs.Links.{near_at}
 use Rattle.numbered_graph.specs.Sets.{has}
-use Rattle.numbered_graph.specs.Walks.{shown_links, taken_links, AreFollowed, AreListed, AreTaken, IsDue, IsShowing}
+use Rattle.numbered_graph.specs.Walks.{shown_links, taken_links, AreTaken, IsDue, IsShowing}
 use Rattle.numbered_offers.specs.LinkWalks.{Goes}
 use Rattle.numbered_graph.proofs.SetFacts.{has-within}
 use Rattle.numbered_graph.proofs.WalkFacts.{length-listed-le, AreTaken-passed, AreTaken-more, IsDue-at_cursor, IsShowing-at_end, waiting_room}
@@ -74,28 +72,3 @@ module _ (w : Inside) (h : Goes w) where
           order_room = h.order_room;
           shown_room = h.shown_room;
         }
-
--- no node was reached
-has-none : (n v : ℕ) → has (replicate n false) v ≡ true → ⊥
-has-none zero v h = true≢false (sym h)
-has-none (suc n) zero h = true≢false (sym h)
-has-none (suc n) (suc v) h = has-none n v h
-
-counted-none : (n : ℕ) → 0 ≡ count_by (λ (b : Bool). b) (replicate n false)
-counted-none zero = refl
-counted-none (suc n) = counted-none n
-
-pub AreListed-none : (n : ℕ) → AreListed n (replicate n false) []
-AreListed-none n = record {
-  sized = length-replicate n false;
-  counted = counted-none n;
-  each = λ k d lt. absurd (omega arith);
-  all = λ v h. absurd (has-none n v h);
-}
-
-pub AreFollowed-none : (d : Direction) (links : List Link) (n : ℕ) → AreFollowed d links [] [] (replicate n false)
-AreFollowed-none d links n = record {
-  begins = λ v i. let lt = i.1 in absurd (omega arith);
-  leads = λ v h. absurd (has-none n v h);
-  closed = λ j lt h. absurd (true≢false (sym h));
-}

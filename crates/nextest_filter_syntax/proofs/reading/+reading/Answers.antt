@@ -7,7 +7,8 @@ use Rattle.nextest_filter_syntax.specs.Trees.{set_of}
 use Rattle.nextest_filter_syntax.specs.Grammar.{MoreOf, Reads, joined_of}
 use Rattle.nextest_filter_syntax.specs.Reading.{IsReading, is_wrong}
 use Rattle.nextest_filter_syntax.proofs.OperatorFacts.{close_ends}
-use Rattle.nextest_filter_syntax.proofs.StepFacts.{fault_none, first_only, first_read, goes_after, goes_both, goes_from, last_only, last_read, leaf_read, leaf_spoils, negated_deep, negated_only, negated_read, negated_spoils, nothing_of, operand_is, parens_deep, parens_only, parens_read, parens_spoils, platform_spoils, set_read, spoils_after, stays, step_only, step_patterns, step_read, step_spoiled}
+use Rattle.nextest_filter_leaves.proofs.StepFacts.{goes_both}
+use Rattle.nextest_filter_syntax.proofs.StepFacts.{fault_none, first_only, first_read, goes_after, goes_from_head, last_only, last_read, leaf_read, leaf_spoils, negated_deep, negated_only, negated_read, negated_spoils, nothing_of, operand_is, parens_deep, parens_only, parens_read, parens_spoils, platform_spoils, set_read, spoils_after, stays, step_only, step_patterns, step_read, step_spoiled}
 use Rattle.nextest_filter_syntax.proofs.reading.+reading.Goals as goal
 
 pub operand_from-returns-then-room-eq0-clause-goes_on : goal.operand_from-returns-then-room-eq0-clause-goes_on
@@ -71,7 +72,7 @@ operand_from-named_set_from-requires-clause-boundary n c = c.in-Names.ensures.en
 
 pub operand_from-returns-in_ok-leaf-in-Names-clause-goes_on : goal.operand_from-returns-in_ok-leaf-in-Names-clause-goes_on
 operand_from-returns-in_ok-leaf-in-Names-clause-goes_on n c =
-    goes_from c.args.text.now c.args.at c.skip_blanks-start.result c.in-Names.next c.in_ok-leaf-in-Names.end c.args.faults.now c.named_set_from.new.faults c.skip_blanks-start.ensures.rises c.in-Names.ensures.end.0 c.in_ok-leaf-in-Names.ensures.goes_on
+    goes_from_head c.args.text.now c.args.at c.skip_blanks-start.result c.in-Names.next c.in_ok-leaf-in-Names.end c.args.faults.now c.named_set_from.new.faults c.skip_blanks-start.ensures.rises c.in-Names.ensures.end.0 c.in_ok-leaf-in-Names.ensures.goes_on
 
 pub operand_from-returns-in_ok-leaf-in-Names-clause-spoils : goal.operand_from-returns-in_ok-leaf-in-Names-clause-spoils
 operand_from-returns-in_ok-leaf-in-Names-clause-spoils n c =
@@ -94,7 +95,7 @@ operand_from-platform_set_from-requires-clause-boundary n c = c.in-Platform.ensu
 
 pub operand_from-returns-in_ok-leaf-in-Platform-clause-goes_on : goal.operand_from-returns-in_ok-leaf-in-Platform-clause-goes_on
 operand_from-returns-in_ok-leaf-in-Platform-clause-goes_on n c =
-    goes_from c.args.text.now c.args.at c.skip_blanks-start.result c.in-Platform.next c.in_ok-leaf-in-Platform.end c.args.faults.now c.platform_set_from.new.faults c.skip_blanks-start.ensures.rises c.in-Platform.ensures.end.0 c.in_ok-leaf-in-Platform.ensures.goes_on
+    goes_from_head c.args.text.now c.args.at c.skip_blanks-start.result c.in-Platform.next c.in_ok-leaf-in-Platform.end c.args.faults.now c.platform_set_from.new.faults c.skip_blanks-start.ensures.rises c.in-Platform.ensures.end.0 c.in_ok-leaf-in-Platform.ensures.goes_on
 
 pub operand_from-returns-in_ok-leaf-in-Platform-clause-spoils : goal.operand_from-returns-in_ok-leaf-in-Platform-clause-spoils
 operand_from-returns-in_ok-leaf-in-Platform-clause-spoils n c =
@@ -120,7 +121,7 @@ operand_from-nullary_set_from-requires-clause-boundary n c = c.in-Says.ensures.e
 
 pub operand_from-returns-in_ok-leaf-in-Says-clause-goes_on : goal.operand_from-returns-in_ok-leaf-in-Says-clause-goes_on
 operand_from-returns-in_ok-leaf-in-Says-clause-goes_on n c =
-    goes_from c.args.text.now c.args.at c.skip_blanks-start.result c.in-Says.next c.in_ok-leaf-in-Says.end c.args.faults.now c.nullary_set_from.new.faults c.skip_blanks-start.ensures.rises c.in-Says.ensures.end.0 c.in_ok-leaf-in-Says.ensures.goes_on
+    goes_from_head c.args.text.now c.args.at c.skip_blanks-start.result c.in-Says.next c.in_ok-leaf-in-Says.end c.args.faults.now c.nullary_set_from.new.faults c.skip_blanks-start.ensures.rises c.in-Says.ensures.end.0 c.in_ok-leaf-in-Says.ensures.goes_on
 
 pub operand_from-returns-in_ok-leaf-in-Says-clause-spoils : goal.operand_from-returns-in_ok-leaf-in-Says-clause-spoils
 operand_from-returns-in_ok-leaf-in-Says-clause-spoils n c =
@@ -132,7 +133,7 @@ operand_from-returns-in_ok-leaf-in-Says-clause-as_written n c =
 
 pub operand_from-returns-in_ok-tree-in-Negates-2-clause-goes_on : goal.operand_from-returns-in_ok-tree-in-Negates-2-clause-goes_on
 operand_from-returns-in_ok-tree-in-Negates-2-clause-goes_on n c =
-    goes_from c.args.text.now c.args.at c.skip_blanks-start.result c.in-Negates.next c.in_ok-tree-in-Negates.end c.args.faults.now c.operand_from.new.faults c.skip_blanks-start.ensures.rises c.in-Negates.ensures.end.0 c.in_ok-tree-in-Negates.ensures.goes_on
+    goes_from_head c.args.text.now c.args.at c.skip_blanks-start.result c.in-Negates.next c.in_ok-tree-in-Negates.end c.args.faults.now c.operand_from.new.faults c.skip_blanks-start.ensures.rises c.in-Negates.ensures.end.0 c.in_ok-tree-in-Negates.ensures.goes_on
 
 pub operand_from-returns-in_ok-tree-in-Negates-2-clause-spoils : goal.operand_from-returns-in_ok-tree-in-Negates-2-clause-spoils
 operand_from-returns-in_ok-tree-in-Negates-2-clause-spoils n c =
@@ -144,7 +145,7 @@ operand_from-returns-in_ok-tree-in-Negates-2-clause-as_written n c =
 
 pub operand_from-returns-in_ok-tree-in-Opens-2-clause-goes_on : goal.operand_from-returns-in_ok-tree-in-Opens-2-clause-goes_on
 operand_from-returns-in_ok-tree-in-Opens-2-clause-goes_on n c =
-    goes_from c.args.text.now c.args.at c.skip_blanks-start.result c.in-Opens.next c.in_ok-tree-in-Opens-2.after c.args.faults.now c.closed_parens.new.faults c.skip_blanks-start.ensures.rises c.in-Opens.ensures.end.0 (goes_both c.args.text.now c.in-Opens.next c.in_ok-tree-in-Opens.end c.in_ok-tree-in-Opens-2.after c.args.faults.now c.tree_from.new.faults c.closed_parens.new.faults c.in_ok-tree-in-Opens.ensures.goes_on c.in_ok-tree-in-Opens-2.ensures.goes_on)
+    goes_from_head c.args.text.now c.args.at c.skip_blanks-start.result c.in-Opens.next c.in_ok-tree-in-Opens-2.after c.args.faults.now c.closed_parens.new.faults c.skip_blanks-start.ensures.rises c.in-Opens.ensures.end.0 (goes_both c.args.text.now c.in-Opens.next c.in_ok-tree-in-Opens.end c.in_ok-tree-in-Opens-2.after c.args.faults.now c.tree_from.new.faults c.closed_parens.new.faults c.in_ok-tree-in-Opens.ensures.goes_on c.in_ok-tree-in-Opens-2.ensures.goes_on)
 
 pub operand_from-returns-in_ok-tree-in-Opens-2-clause-spoils : goal.operand_from-returns-in_ok-tree-in-Opens-2-clause-spoils
 operand_from-returns-in_ok-tree-in-Opens-2-clause-spoils n c =

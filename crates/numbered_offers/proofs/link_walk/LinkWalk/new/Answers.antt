@@ -1,8 +1,7 @@
 use Rattle.std.proofs.Common.{◌+◌, ◌<◌, [], None, subst, sym, ap, length, get_or, take, arith}
 use Rattle.std.proofs.lemmas.List.{take_more}
 use Rattle.numbered_graph.specs.Walks.{AreFollowed, AreListed, Shown}
-use Rattle.numbered_graph.proofs.WalkFacts.{AreFollowed-start}
-use Rattle.numbered_offers.proofs.WalkingFacts.{AreFollowed-none, AreListed-none}
+use Rattle.numbered_graph.proofs.WalkFacts.{AreFollowed-none, AreFollowed-start, AreListed-none}
 use Rattle.numbered_offers.proofs.link_walk.LinkWalk.new.Goals as goal
 
 pub loop-node-preserved : goal.loop-node-preserved
