@@ -2,13 +2,16 @@
 use Rattle.std.proofs.Common.{◌≡◌, ◌∙◌, refl, sym, ap, append_assoc, ℕ, ◌+◌, ◌<◌, List, [], ◌∷◌, ◌++◌, drop, get_or, length, ◌&&◌, is_some, Result, Ok, Err}
 use Rattle.std.proofs.lemmas.List.{drop_more}
 use Rattle.std.specs.List.{list_all}
-use Rattle.serde_json.specs.Data.{Data}
+use Rattle.serde_json.specs.Data.{Data, Members, member}
 use Rattle.serde_json.specs.Find.{as_object}
 use Rattle.serde_json.specs.View.{view, items_view}
 use Rattle.serde_json.specs.declared.value.Value.{Value}
+use Rattle.workspace_record.specs.Records.{Text, FeatureEntry}
+use Rattle.cargo_metadata.specs.declared.key.Key.TheVariants as key
 use Rattle.cargo_metadata.specs.Faults.{Fault}
 use Rattle.cargo_metadata.specs.Outcomes.{◌>>=◌}
-use Rattle.cargo_metadata.specs.Values.{each, all_objects}
+use Rattle.cargo_metadata.specs.Packages.{each_feature}
+use Rattle.cargo_metadata.specs.Values.{each, all_objects, texts_of}
 
 -- what is read, behind what was read before
 abbrev pub with_front : {A : Type 0} → List A → Result (List A) Fault → Result (List A) Fault
@@ -32,3 +35,11 @@ each_step read vs i d v x front new lt at is more before =
     let rest = from_value read vs (i + 1) in
     let here : from_value read vs i ≡ (rest >>= λ xs. Ok (x ∷ xs)) = ap (λ ws. each read (items_view ws)) (drop_more vs i d lt) ∙ ap (λ w. read (view w) >>= λ y. rest >>= λ xs. Ok (y ∷ xs)) (sym at) ∙ ap (λ r. r >>= λ y. rest >>= λ xs. Ok (y ∷ xs)) is in
     ap (λ xs. with_front xs rest) more ∙ sym (with_more front x rest) ∙ sym (ap (with_front front) here) ∙ before
+
+-- the first of the features is read too, behind those that were read before
+pub feature_step : (f : FeatureEntry) (name : Text) (d : Data) (ms : Members) (front new : List FeatureEntry) (all : Result (List FeatureEntry) Fault) → f.name ≡ name → texts_of key.Features d ≡ Ok f.enables → new ≡ front ++ f ∷ [] → with_front front (each_feature (member name d ms)) ≡ all → with_front new (each_feature ms) ≡ all
+feature_step f name d ms front new all same is more before =
+    let rest = each_feature ms in
+    let entry : Text → List Text → FeatureEntry = λ n ts. record { name = n; enables = ts } in
+    let here : each_feature (member name d ms) ≡ (rest >>= λ fs. Ok (f ∷ fs)) = ap (λ r. r >>= λ ts. rest >>= λ fs. Ok (entry name ts ∷ fs)) is ∙ ap (λ n. rest >>= λ fs. Ok (entry n f.enables ∷ fs)) (sym same) in
+    ap (λ xs. with_front xs rest) more ∙ sym (with_more front f rest) ∙ sym (ap (with_front front) here) ∙ before

@@ -1,5 +1,5 @@
 -- Listings of packages reversed, as orders in which they build.
-use Rattle.std.proofs.Common.{◌≡◌, ◌≢◌, ◌∙◌, ⊎_elim, ℕ, ◌-◌, ◌<◌, Bool, List, [], ◌∷◌, Some, All, AllPairs, Contains, ap, sym, subst, map, filter, reverse, position, length, get_or, nat_lt, slice_get, arith}
+use Rattle.std.proofs.Common.{◌≡◌, ◌≢◌, ◌∙◌, ⊎_elim, ℕ, ◌+◌, ◌-◌, ◌<◌, Bool, cond, List, [], ◌∷◌, ◌++◌, Some, All, AllPairs, Contains, ap, sym, subst, map, filter, take, reverse, position, length, get_or, nat_lt, slice_get, arith}
 use Rattle.std.specs.Cmp.Lexicographic.{bytes_decides}
 use Rattle.std.specs.Str.{bytes_eq}
 use Rattle.std.proofs.lemmas.Bool.{cases_order, lt-ltb, ltb-true}
@@ -7,6 +7,7 @@ use Rattle.std.proofs.lemmas.List.{get_or-map, get_or-reverse, length-map, lengt
 use Rattle.std.proofs.lemmas.List.Kept.{AllPairs-filter}
 use Rattle.std.proofs.lemmas.List.Quantifiers.{position-Some}
 use Rattle.std.proofs.lemmas.Option.{get_or_from_slice_get, slice_get_cases, slice_get_within}
+use Rattle.list_facts.proofs.Lists.{filter-append, map-take_more}
 use Rattle.list_facts.proofs.Quantifiers.{All-from_Contains}
 use Rattle.list_facts.proofs.Membership.{Contains-filter, Contains-filter_cases, Contains-map, Contains-map_cases}
 use Rattle.numbered_graph.specs.declared.link.Link as numbered
@@ -21,6 +22,12 @@ use Rattle.feature_account.proofs.ConcludedFacts.{concluded_iff}
 use Rattle.package_rules.specs.Kept.{IsPackageId}
 use Rattle.guppy_package_table.specs.Tables.{firm_flags, ids_of, links_among}
 use Rattle.graph_switching.specs.DependencyOrders.{AreBehind, IsDependencyOrder, Leads}
+
+-- one more of those that are mapped, if it is kept
+pub kept_more : {X Y : Type 0} (p : Y → Bool) (f : X → Y) (old new : List Y) (y : Y) (xs : List X) (i : ℕ) (d : X) → i < length xs → y ≡ f (get_or xs i d) → new ≡ old ++ cond (p y) (y ∷ []) [] → old ≡ filter p (map f (take i xs)) → new ≡ filter p (map f (take (i + 1) xs))
+kept_more p f old new y xs i d lt at is before =
+    let all : filter p (map f (take (i + 1) xs)) ≡ filter p (map f (take i xs)) ++ filter p (f (get_or xs i d) ∷ []) = ap (filter p) (map-take_more f xs i d lt) ∙ filter-append p (map f (take i xs)) (f (get_or xs i d) ∷ []) in
+    is ∙ ap (λ ys. ys ++ cond (p y) (y ∷ []) []) before ∙ ap (λ z. filter p (map f (take i xs)) ++ cond (p z) (z ∷ []) []) at ∙ sym all
 
 -- what holds two by two of a list holds the other way round of the list reversed
 pairs-reverse : {X : Type 0} (R : X → X → Type 0) (xs : List X) → AllPairs R xs → AllPairs (λ a b. R b a) (reverse xs)

@@ -12,7 +12,7 @@ use Rattle.json.specs.Find as tree
 use Rattle.json.specs.Value.{value_view, members_view}
 use Rattle.json.specs.declared.value.Value.{Value}
 use Rattle.serde_json.specs.Data.{Num, Data, number, array, object, Items, item, Members, no_members, put}
-use Rattle.serde_json.specs.Find.{get, get_member}
+use Rattle.serde_json.specs.Find.{as_str, get, get_member}
 use Rattle.serde_json.specs.Read.{number_of, of_json, of_items, of_members}
 use Rattle.serde_json.specs.View.{items_of}
 use Rattle.serde_json.proofs.Views.{get_member-put, get_member-put_other}
@@ -99,6 +99,15 @@ value_found name (json.array js) = refl
 value_found name (json.object ms) = sym (member_found name ms no_members ∙ nothing_earlier _)
 
 -- ---- values of a tree
+
+-- a tree that is a text is read as that text
+pub text_seen : (j : json.Json) (t : Text) → Some t ≡ tree.as_str j → as_str (data_of j) ≡ Some t
+text_seen json.null t e = sym e
+text_seen (json.boolean b) t e = sym e
+text_seen (json.number n) t e = sym e
+text_seen (json.string s) t e = sym e
+text_seen (json.array js) t e = sym e
+text_seen (json.object ms) t e = sym e
 
 pub seen_if : (r : Option (Bor (Value Global))) → option_map (λ v. seen v.now) r ≡ option_map data_of (option_map (λ v. value_view v.now) r)
 seen_if None = refl
