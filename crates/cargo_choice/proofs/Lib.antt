@@ -1,2 +1,3 @@
 pub mod WordFacts
 pub mod MeaningFacts
+pub mod PartingFacts

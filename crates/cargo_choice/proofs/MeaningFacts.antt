@@ -19,7 +19,7 @@ no_word = record { ref_ptr = (0, 0); now = [] }
 only : (x y : Text) → Contains (x ∷ []) y → x ≡ y
 only x y h = ⊎_elim (λ e. e) (λ none. absurd (Contains-none y none)) (Contains-cons_cases x [] y h)
 
-words_more : (words : List (Bor Text)) (i : ℕ) (d : Bor Text) → i < length words → map bytes (take (i + 1) words) ≡ map bytes (take i words) ++ (get_or words i d).now ∷ []
+pub words_more : (words : List (Bor Text)) (i : ℕ) (d : Bor Text) → i < length words → map bytes (take (i + 1) words) ≡ map bytes (take i words) ++ (get_or words i d).now ∷ []
 words_more words i d lt = ap (map bytes) (take_more words i d lt) ∙ map-append bytes (take i words) (get_or words i d ∷ [])
 
 words_parted : (words : List (Bor Text)) (i : ℕ) (d : Bor Text) → i < length words → map bytes words ≡ map bytes (take i words) ++ (get_or words i d).now ∷ map bytes (drop (i + 1) words)

@@ -1,1 +1,3 @@
 pub mod MadeFacts
+pub mod SpecFacts
+pub mod SuiteFacts

@@ -1,7 +1,12 @@
 //! Records, tables and choices.
 
-ghost use Rattle.std.specs.Prelude.{IfOk, string_bytes};
+ghost use Rattle.std.specs.Prelude.{◌≡◌, IfErr, IfOk, IfSome, find, option_copied, option_map, string_bytes};
+ghost use Rattle.std.specs.List.{list_any};
+ghost use Rattle.cargo_cfg.specs.Printed.{AreSettings};
+ghost use Rattle.cargo_cfg.specs.TableAnswers.{IsRefusal, specs_of};
+ghost use Rattle.cargo_files.specs.Choices.{IsChoiceFile, IsChoiceOf};
 ghost use Rattle.cargo_files.specs.Made.{IsRecordFile, IsTableFile};
+ghost use Rattle.cargo_files.specs.Refused.{RefusesChoice, RefusesLinks, RefusesMetadata, RefusesPlatform, RefusesTable, RefusesWords, has_spec, is_spec};
 
 use crate::refusal::{Refusal, SpecPlace};
 use cargo_cfg::{CfgSetting, TableError, read_settings, table_of};
@@ -11,11 +16,12 @@ use cargo_record::{Wanted, record_of};
 use record_files::read_record;
 use record_writing::{choice_text, record_text, table_text};
 use std::alloc::{AllocError, Global};
-use workspace_record::{LinkRecord, WorkspaceRecord};
+use workspace_record::{LineRecord, LinkRecord, WorkspaceRecord};
 
 /// The record of what `cargo metadata` printed, of which these members are asked about.
 pub fn record_file(alloc: Global, metadata: &[u8], wanted: Wanted<'_>) -> Result<String, Refusal>
     ensures made { IfOk result (λ text. IsRecordFile metadata.now wanted.entry (string_bytes text)) }
+    ensures refused { IfErr result (RefusesMetadata metadata.now wanted.entry) }
 {
     let metadata = read_metadata(alloc, metadata)?;
     match record_of(alloc, &metadata, wanted) {
@@ -32,7 +38,10 @@ pub fn record_file(alloc: Global, metadata: &[u8], wanted: Wanted<'_>) -> Result
 }
 
 /// The settings of a platform that `rustc --print cfg` printed.
-pub fn settings_file(alloc: Global, printed: &[u8]) -> Result<Vec<CfgSetting>, Refusal> {
+pub fn settings_file(alloc: Global, printed: &[u8]) -> Result<Vec<CfgSetting>, Refusal>
+    ensures read { IfOk result (λ v. AreSettings printed.now 0 v.items) }
+    ensures refused { IfErr result (RefusesPlatform printed.now) }
+{
     Ok(read_settings(alloc, printed)?)
 }
 
@@ -44,6 +53,7 @@ pub fn table_file(
     settings: &[CfgSetting],
 ) -> Result<String, Refusal>
     ensures made { IfOk result (λ text. IsTableFile «record».now triple.now settings.now (string_bytes text)) }
+    ensures refused { IfErr result (RefusesTable «record».now) }
 {
     let record = read_record(alloc, record)?;
     match table_of(alloc, &record, triple, settings) {
@@ -65,16 +75,13 @@ fn table_refusal(
     alloc: Global,
     links: &[LinkRecord],
     error: TableError,
-) -> Result<Refusal, AllocError> {
+) -> Result<Refusal, AllocError>
+    ensures { IfOk result (λ r. IsRefusal (specs_of links.now) error → RefusesLinks links.now r) }
+{
     let TableError::Spec(spec, fault) = error else {
         return Ok(Refusal::Memory);
     };
-    let mut owner = String::new(alloc);
-    let mut dependency = String::new(alloc);
-    if let Some(link) = links.iter().find(|link| has_spec(link, spec.as_str())) {
-        owner.push_str(link.from.as_str())?;
-        dependency.push_str(link.name.as_str())?;
-    }
+    let (owner, dependency) = names_with(alloc, links, spec.as_str())?;
     Ok(Refusal::Spec(SpecPlace {
         owner,
         dependency,
@@ -83,20 +90,62 @@ fn table_refusal(
     }))
 }
 
-fn has_spec(link: &LinkRecord, spec: &str) -> bool {
-    link.lines.iter().any(|line| match &line.spec {
+/// The package and the dependency of the first link that has the spec.
+fn names_with(
+    alloc: Global,
+    links: &[LinkRecord],
+    spec: &str,
+) -> Result<(String, String), AllocError>
+    ensures { IfOk result (λ names. IfSome (find (has_spec spec.now) links.now) (λ l. (string_bytes names.0 ≡ l.from) × (string_bytes names.1 ≡ l.name))) }
+{
+    match link_with(links, spec) {
+        Some(link) => names_of(alloc, link),
+        None => Ok((String::new(alloc), String::new(alloc))),
+    }
+}
+
+fn names_of(alloc: Global, link: &LinkRecord) -> Result<(String, String), AllocError>
+    ensures { IfOk result (λ names. (string_bytes names.0 ≡ link.now.from) × (string_bytes names.1 ≡ link.now.name)) }
+{
+    let from = String::from_str(alloc, link.from.as_str())?;
+    let name = String::from_str(alloc, link.name.as_str())?;
+    Ok((from, name))
+}
+
+/// The first link that has the spec.
+fn link_with<'a>(links: &'a [LinkRecord], spec: &str) -> Option<&'a LinkRecord>
+    ensures { option_copied result ≡ find (has_spec spec.now) links.entry.now }
+{
+    links.iter().find(|link| has_spec(link, spec))
+}
+
+fn has_spec(link: &LinkRecord, spec: &str) -> bool
+    ensures { result ≡ has_spec spec.now link.now }
+{
+    lines_have(&link.lines, spec)
+}
+
+fn lines_have(lines: &[LineRecord], spec: &str) -> bool
+    ensures { result ≡ list_any (λ line. is_spec spec.now line.spec) lines.now }
+{
+    lines.iter().any(|line| is_spec(&line.spec, spec))
+}
+
+fn is_spec(text: &Option<String>, spec: &str) -> bool
+    ensures { result ≡ is_spec spec.now (option_map string_bytes text.now) }
+{
+    match text {
         Some(other) => other.as_str() == spec,
         None => false,
-    })
+    }
 }
 
 /// The choice that Cargo's words mean for a record. Each `--features` gives words that commas or
 /// blanks part.
-pub fn choice_file(
-    alloc: Global,
-    record: &[u8],
-    asked: FeatureWords<'_>,
-) -> Result<String, Refusal> {
+pub fn choice_file(alloc: Global, record: &[u8], asked: FeatureWords<'_>) -> Result<String, Refusal>
+    ensures made { IfOk result (λ text. IsChoiceFile «record».now asked.entry (string_bytes text)) }
+    ensures refused { IfErr result (RefusesChoice «record».now asked.entry) }
+{
     let record = read_record(alloc, record)?;
     let text = choice_text_of(alloc, &record, asked);
     drop(record);
@@ -108,7 +157,10 @@ fn choice_text_of(
     alloc: Global,
     record: &WorkspaceRecord,
     asked: FeatureWords<'_>,
-) -> Result<String, Refusal> {
+) -> Result<String, Refusal>
+    ensures made { IfOk result (λ text. IsChoiceOf «record».now asked.entry (string_bytes text)) }
+    ensures refused { IfErr result (RefusesWords «record».now asked.entry) }
+{
     let features = feature_words(alloc, asked.features)?;
     let words = FeatureWords {
         features: &features,

@@ -1,15 +1,22 @@
 //! Listings of the test binaries of a record.
 
-ghost use Rattle.std.specs.Prelude.{◌≡◌, IfOk, OnOk, bytes_eq, map, option_map, string_bytes};
+ghost use Rattle.std.specs.Prelude.{◌≡◌, ◌++◌, [], IfErr, IfOk, None, OnOk, bytes_eq, false, get_or, map, option_map, string_bytes};
+ghost use Rattle.serde_json.specs.View.{view};
 ghost use Rattle.package_rules.specs.Places.{first_repeat};
+ghost use Rattle.record_rules.specs.Binaries.{binaries};
+ghost use Rattle.record_rules.specs.BinaryView.{binary_view};
 ghost use Rattle.record_writing.specs.Files.{ReadAsListings};
+ghost use Rattle.cargo_listings.specs.Nextest.{suite_tests};
 ghost use Rattle.cargo_files.specs.Added.{IsAdded, listing};
+ghost use Rattle.cargo_files.specs.Listed.{AreIdsIn, AreListed, ArePrinted, AreSuites, MayStand, suite_listing};
+ghost use Rattle.cargo_files.specs.Refused.{NamesRepeated, RefusesFile, RefusesNextest, RefusesPrinted, RefusesSuites, RefusesTests};
+ghost use Rattle.cargo_files.specs.declared.refusal.Refusal.TheVariants.{Memory};
 
 use crate::refusal::Refusal;
 use cargo_listings::{TerseFault, nextest_tests, terse_tests};
 use package_rules::distinct::first_repeated_text;
 use record_files::read_record;
-use record_rules::binaries::binaries;
+use record_rules::binaries::{TestBinary, binaries};
 use record_writing::listings_text;
 use serde_json::Value;
 use std::alloc::{AllocError, Global};
@@ -20,14 +27,26 @@ use workspace_record::WorkspaceRecord;
 pub type Listings = Vec<(String, Vec<String>)>;
 
 /// The ids of the test binaries of a record.
-pub fn binary_ids(alloc: Global, record: &[u8]) -> Result<Vec<String>, Refusal> {
+pub fn binary_ids(alloc: Global, record: &[u8]) -> Result<Vec<String>, Refusal>
+    ensures ids { IfOk result (λ v. AreIdsIn «record».now (map string_bytes v.items)) }
+    ensures refused { IfErr result (RefusesFile «record».now) }
+{
     let record = read_record(alloc, record)?;
-    ids_of(alloc, &record)
+    Ok(ids_of(alloc, &record)?)
 }
 
-fn ids_of(alloc: Global, record: &WorkspaceRecord) -> Result<Vec<String>, Refusal> {
+fn ids_of(alloc: Global, record: &WorkspaceRecord) -> Result<Vec<String>, AllocError>
+    ensures { IfOk result (λ v. map string_bytes v.items ≡ map (λ b. b.id) (binaries «record».now)) }
+{
+    let all = binaries(alloc, record)?;
+    ids_among(alloc, &all)
+}
+
+fn ids_among(alloc: Global, all: &[TestBinary<'_>]) -> Result<Vec<String>, AllocError>
+    ensures { IfOk result (λ v. map string_bytes v.items ≡ map (λ b. b.id) (map binary_view all.now)) }
+{
     let mut ids = Vec::new(alloc);
-    for binary in binaries(alloc, record)? {
+    for binary in all {
         ids.push(String::from_str(alloc, binary.id.as_str())?)?;
     }
     Ok(ids)
@@ -43,6 +62,7 @@ pub fn add_listing(
     built: bool,
 ) -> Result<(), Refusal>
     ensures added { OnOk result (IsAdded id.now (option_map (λ v. map string_bytes v.items) tests) built (map listing listings.old.items) (map listing listings.new.items)) }
+    ensures refused { IfErr result (RefusesTests id.now (option_map (λ v. map string_bytes v.items) tests) built) }
 {
     let Some(tests) = tests else {
         return if built {
@@ -66,7 +86,9 @@ fn first_repeated(alloc: Global, names: &[String]) -> Result<Option<usize>, Allo
     first_repeated_text(alloc, &lent)
 }
 
-fn name_at(names: &[String], place: usize) -> &str {
+fn name_at(names: &[String], place: usize) -> &str
+    ensures { result.now ≡ get_or (map string_bytes names.entry.now) place [] }
+{
     match names.get(place) {
         Some(name) => name.as_str(),
         None => "",
@@ -89,7 +111,10 @@ pub fn nextest_listings(
     printed: &[u8],
     ids: &[String],
     built: bool,
-) -> Result<Listings, Refusal> {
+) -> Result<Listings, Refusal>
+    ensures listed { IfOk result (λ v. AreListed printed.now (map string_bytes ids.now) built (map listing v.items)) }
+    ensures refused { IfErr result (RefusesNextest printed.now (map string_bytes ids.now) built) }
+{
     match Value::from_slice(alloc, printed) {
         Ok(list) => listed_by_nextest(alloc, &list, ids, built),
         Err(error) if error.is_memory() => Err(Refusal::Memory),
@@ -102,27 +127,51 @@ fn listed_by_nextest(
     list: &Value,
     ids: &[String],
     built: bool,
-) -> Result<Listings, Refusal> {
+) -> Result<Listings, Refusal>
+    ensures listed { IfOk result (λ v. AreSuites (view list.now) (map string_bytes ids.now) built (map listing v.items)) }
+    ensures refused { IfErr result (RefusesSuites (view list.now) (map string_bytes ids.now) built) }
+{
     if list.get("rust-suites").is_none() {
         return Err(Refusal::NoSuites);
     }
     let mut listings = Vec::new(alloc);
     for id in ids {
-        let tests = nextest_tests(alloc, list, id.as_str())?;
-        add_listing(alloc, &mut listings, id.as_str(), tests, built)?;
+        add_suite(alloc, &mut listings, list, id.as_str(), built)?;
     }
     Ok(listings)
 }
 
+/// Adds the tests that nextest lists of a binary.
+fn add_suite(
+    alloc: Global,
+    listings: &mut Listings,
+    list: &Value,
+    id: &str,
+    built: bool,
+) -> Result<(), Refusal>
+    ensures stand { OnOk result (MayStand built (suite_tests (view list.now) id.now)) }
+    ensures added { OnOk result (map listing listings.new.items ≡ map listing listings.old.items ++ suite_listing (view list.now) id.now) }
+    ensures refused { IfErr result (RefusesTests id.now (suite_tests (view list.now) id.now) built) }
+{
+    let tests = nextest_tests(alloc, list, id)?;
+    add_listing(alloc, listings, id, tests, built)
+}
+
 /// The tests that the program of a binary printed for `--list --format terse`.
-pub fn tests_printed(alloc: Global, id: &str, printed: &[u8]) -> Result<Vec<String>, Refusal> {
+pub fn tests_printed(alloc: Global, id: &str, printed: &[u8]) -> Result<Vec<String>, Refusal>
+    ensures listed { IfOk result (λ v. ArePrinted printed.now (map string_bytes v.items)) }
+    ensures refused { IfErr result (RefusesPrinted id.now printed.now) }
+{
     match str::from_utf8(printed) {
         Ok(text) => tests_listed(alloc, id, text),
         Err(_) => Err(Refusal::UnreadList(String::from_str(alloc, id)?)),
     }
 }
 
-fn tests_listed(alloc: Global, id: &str, text: &str) -> Result<Vec<String>, Refusal> {
+fn tests_listed(alloc: Global, id: &str, text: &str) -> Result<Vec<String>, Refusal>
+    ensures listed { IfOk result (λ v. ArePrinted text.now (map string_bytes v.items)) }
+    ensures refused { IfErr result (RefusesPrinted id.now text.now) }
+{
     match terse_tests(alloc, text) {
         Ok(tests) => Ok(tests),
         Err(TerseFault::NoTest(place)) => {
@@ -132,11 +181,15 @@ fn tests_listed(alloc: Global, id: &str, text: &str) -> Result<Vec<String>, Refu
     }
 }
 
-fn no_list(alloc: Global, id: &str) -> Result<Refusal, Refusal> {
+fn no_list(alloc: Global, id: &str) -> Result<Refusal, AllocError>
+    ensures { IfOk result (λ r. RefusesTests id.now None false r) }
+{
     Ok(Refusal::NoList(String::from_str(alloc, id)?))
 }
 
-fn repeated(alloc: Global, id: &str, name: &str) -> Result<Refusal, Refusal> {
+fn repeated(alloc: Global, id: &str, name: &str) -> Result<Refusal, AllocError>
+    ensures { IfOk result (λ r. NamesRepeated id.now name.now r) }
+{
     let id = String::from_str(alloc, id)?;
     Ok(Refusal::Repeated(id, String::from_str(alloc, name)?))
 }
@@ -144,6 +197,7 @@ fn repeated(alloc: Global, id: &str, name: &str) -> Result<Refusal, Refusal> {
 /// The file of listings.
 pub fn listings_file(alloc: Global, listings: &Listings) -> Result<String, Refusal>
     ensures reads { IfOk result (λ text. ReadAsListings (map listing listings.now.items) (string_bytes text)) }
+    ensures memory { IfErr result (λ e. e ≡ Memory) }
 {
     Ok(listings_text(alloc, listings)?)
 }

@@ -132,42 +132,77 @@ impl fmt::Display for RefusedFile<'_> {
 }
 
 impl From<MetadataError> for Refusal {
+    ghost use Rattle.std.specs.Prelude.{◌≡◌};
+    ghost use Rattle.cargo_files.specs.declared.refusal.Refusal.TheVariants.{Metadata};
+
+    ghost from_gives = { λ e r. r ≡ Metadata e };
+
     fn from(error: MetadataError) -> Refusal {
         Refusal::Metadata(error)
     }
 }
 
 impl From<RecordFault> for Refusal {
+    ghost use Rattle.std.specs.Prelude.{◌≡◌};
+    ghost use Rattle.cargo_files.specs.declared.refusal.Refusal.TheVariants.{Record};
+
+    ghost from_gives = { λ e r. r ≡ Record e };
+
     fn from(fault: RecordFault) -> Refusal {
         Refusal::Record(fault)
     }
 }
 
 impl From<SettingsError> for Refusal {
+    ghost use Rattle.std.specs.Prelude.{◌≡◌};
+    ghost use Rattle.cargo_files.specs.declared.refusal.Refusal.TheVariants.{Settings};
+
+    ghost from_gives = { λ e r. r ≡ Settings e };
+
     fn from(error: SettingsError) -> Refusal {
         Refusal::Settings(error)
     }
 }
 
 impl From<ChoiceFault> for Refusal {
+    ghost use Rattle.std.specs.Prelude.{◌≡◌};
+    ghost use Rattle.cargo_files.specs.declared.refusal.Refusal.TheVariants.{Choice};
+
+    ghost from_gives = { λ e r. r ≡ Choice e };
+
     fn from(fault: ChoiceFault) -> Refusal {
         Refusal::Choice(fault)
     }
 }
 
 impl From<ReadError> for Refusal {
+    ghost use Rattle.std.specs.Prelude.{◌≡◌};
+    ghost use Rattle.cargo_files.specs.declared.refusal.Refusal.TheVariants.{File};
+
+    ghost from_gives = { λ e r. r ≡ File e };
+
     fn from(error: ReadError) -> Refusal {
         Refusal::File(error)
     }
 }
 
 impl From<AllocError> for Refusal {
+    ghost use Rattle.std.specs.Prelude.{◌≡◌};
+    ghost use Rattle.cargo_files.specs.declared.refusal.Refusal.TheVariants.{Memory};
+
+    ghost from_gives = { λ _ r. r ≡ Memory };
+
     fn from(_: AllocError) -> Refusal {
         Refusal::Memory
     }
 }
 
 impl<T: Drop> From<AllocFailed<T>> for Refusal {
+    ghost use Rattle.std.specs.Prelude.{◌≡◌};
+    ghost use Rattle.cargo_files.specs.declared.refusal.Refusal.TheVariants.{Memory};
+
+    ghost from_gives = { λ _ r. r ≡ Memory };
+
     fn from(_: AllocFailed<T>) -> Refusal {
         Refusal::Memory
     }

@@ -1,10 +1,18 @@
 //! The links of the record, with their lines.
 
-ghost use Rattle.std.specs.Prelude.{◌<◌, ◌≡◌, ◌↔◌, Contains, IfOk, IfSome, IsTrue, OnOk, [], ◌∷◌, length, nat_eq};
+ghost use Rattle.std.specs.Prelude.{◌<◌, ◌≡◌, ◌↔◌, Contains, IfErr, IfOk, IfSome, IsTrue, List, OnOk, Some, [], ◌∷◌, false, length, nat_eq, slice_get, string_bytes, true};
+ghost use Rattle.std.specs.List.{list_any};
 ghost use Rattle.workspace_record.specs.Kinds.{line_kind_index};
+ghost use Rattle.workspace_record.specs.Records.{Target, Workspace};
 ghost use Rattle.workspace_record.specs.declared.kinds.LineKind.TheVariants as kind;
-ghost use Rattle.cargo_metadata.specs.Dependencies.{name_of};
+ghost use Rattle.record_index.specs.Packages.{is_member};
+ghost use Rattle.cargo_metadata.specs.Dependencies.{Declared, name_of};
+ghost use Rattle.cargo_metadata.specs.Packages.{Declaring};
+ghost use Rattle.cargo_metadata.specs.Resolved.{Entry};
+ghost use Rattle.cargo_record.specs.Fitting.{IsResolution, fits};
+ghost use Rattle.cargo_record.specs.Kept.{is_feature};
 ghost use Rattle.cargo_record.specs.Lines.{AreLines, AreLinesOf, IsLink, IsLinkAt, IsOneMore, IsPushed, TakesUp, counts, line_rows, row_of};
+ghost use Rattle.cargo_record.specs.Refused.{HasNoLine, RefusesLinks, RefusesOne, RefusesPackages, RefusesTargets};
 
 use crate::fault::RecordFault;
 use crate::fitting::{Resolution, resolved_to};
@@ -21,7 +29,8 @@ pub(crate) fn links_of(
     rows: &WorkspaceRecord,
     metadata: &Metadata,
 ) -> Result<Vec<LinkRecord>, RecordFault>
-    ensures { IfOk result (λ links. AreLinesOf rows.now metadata.now (line_rows links.items)) }
+    ensures lines { IfOk result (λ links. AreLinesOf rows.now metadata.now (line_rows links.items)) }
+    ensures refused { IfErr result (RefusesLinks rows.now metadata.now) }
 {
     let Some(nodes) = &metadata.nodes else {
         return Err(RecordFault::NoResolve);
@@ -37,7 +46,8 @@ fn all_links(
     packages: &[DeclaringPackage],
     nodes: &[ResolvedPackage],
 ) -> Result<Vec<LinkRecord>, RecordFault>
-    ensures { IfOk result (λ links. AreLines index.now packages.now nodes.now (line_rows links.items)) }
+    ensures lines { IfOk result (λ links. AreLines index.now packages.now nodes.now (line_rows links.items)) }
+    ensures refused { IfErr result (RefusesPackages index.now packages.now nodes.now) }
 {
     let mut links = Vec::new(alloc);
     for (place, package) in packages.iter().enumerate() {
@@ -55,7 +65,8 @@ fn node_at<'a>(
     place: usize,
     package: &DeclaringPackage,
 ) -> Result<&'a ResolvedPackage, RecordFault>
-    ensures { IfOk result (λ n. Contains nodes.entry.now n.now × (n.now.id ≡ «package».now.row.id)) }
+    ensures node { IfOk result (λ n. Contains nodes.entry.now n.now × (n.now.id ≡ «package».now.row.id)) }
+    ensures refused { IfErr result (λ e. (w : Workspace) (packages : List Declaring) → slice_get packages place ≡ Some «package».now → RefusesPackages w packages nodes.entry.now e) }
 {
     let id = package.row.id.as_str();
     match nodes.get(place) {
@@ -69,16 +80,46 @@ fn check_targets(
     alloc: Global,
     index: &RecordIndex<'_>,
     package: &DeclaringPackage,
-) -> Result<(), RecordFault> {
-    if !index.is_member(package.row.id.as_str()) {
+) -> Result<(), RecordFault>
+    ensures { IfErr result (λ e. (is_member index.now «package».now.row.id ≡ true) × RefusesTargets «package».now e) }
+{
+    if !index.is_member(id_of(package)) {
         return Ok(());
     }
-    for target in &package.row.targets {
-        if let Some(feature) = foreign_feature(&package.row.features, target) {
-            return Err(foreign(alloc, package.row.id.as_str(), target, feature)?);
-        }
+    check_each_target(alloc, package, targets_of(package))
+}
+
+fn targets_of(package: &DeclaringPackage) -> &[TargetRecord]
+    ensures { result.now ≡ «package».entry.now.row.targets }
+{
+    &package.row.targets
+}
+
+/// The same for these targets of a package.
+fn check_each_target(
+    alloc: Global,
+    package: &DeclaringPackage,
+    targets: &[TargetRecord],
+) -> Result<(), RecordFault>
+    ensures { IfErr result (λ e. ((t : Target) → Contains targets.now t → Contains «package».now.row.targets t) → RefusesTargets «package».now e) }
+{
+    for target in targets {
+        check_target(alloc, package, target)?;
     }
     Ok(())
+}
+
+fn check_target(
+    alloc: Global,
+    package: &DeclaringPackage,
+    target: &TargetRecord,
+) -> Result<(), RecordFault>
+    ensures { IfErr result (λ e. Contains «package».now.row.targets target.now → RefusesTargets «package».now e) }
+{
+    match foreign_feature(&package.row.features, &target.required_features) {
+        Some(feature) => Err(foreign(alloc, id_of(package), target, feature)?),
+        None => Ok(()),
+    }
 }
 
 fn foreign(
@@ -86,7 +127,9 @@ fn foreign(
     id: &str,
     target: &TargetRecord,
     feature: &str,
-) -> Result<RecordFault, AllocError> {
+) -> Result<RecordFault, AllocError>
+    ensures { IfOk result (λ e. (p : Declaring) → id.now ≡ p.row.id → Contains p.row.targets target.now → Contains target.now.required_features feature.now → is_feature p.row.features feature.now ≡ false → RefusesTargets p e) }
+{
     let id = String::from_str(alloc, id)?;
     let name = String::from_str(alloc, target.name.as_str())?;
     let feature = String::from_str(alloc, feature)?;
@@ -101,7 +144,8 @@ fn push_links(
     package: &DeclaringPackage,
     node: &ResolvedPackage,
 ) -> Result<(), RecordFault>
-    ensures { OnOk result (TakesUp index.now «package».now node.now «package».now.dependencies (line_rows links.old.items) (line_rows links.new.items)) }
+    ensures taken { OnOk result (TakesUp index.now «package».now node.now «package».now.dependencies (line_rows links.old.items) (line_rows links.new.items)) }
+    ensures refused { IfErr result (RefusesOne index.now «package».now.row.id node.now.dependencies «package».now.dependencies) }
 {
     push_each(alloc, links, index, package, node, &package.dependencies)?;
     Ok(())
@@ -116,7 +160,8 @@ fn push_each(
     node: &ResolvedPackage,
     dependencies: &[Dependency],
 ) -> Result<(), RecordFault>
-    ensures { OnOk result (TakesUp index.now «package».now node.now dependencies.now (line_rows links.old.items) (line_rows links.new.items)) }
+    ensures taken { OnOk result (TakesUp index.now «package».now node.now dependencies.now (line_rows links.old.items) (line_rows links.new.items)) }
+    ensures refused { IfErr result (RefusesOne index.now «package».now.row.id node.now.dependencies dependencies.now) }
 {
     let start = links.len();
     for dependency in dependencies {
@@ -135,7 +180,8 @@ fn push_dependency(
     node: &ResolvedPackage,
     dependency: &Dependency,
 ) -> Result<(), RecordFault>
-    ensures { OnOk result (TakesUp index.now «package».now node.now (dependency.now ∷ []) (line_rows links.old.items) (line_rows links.new.items)) }
+    ensures taken { OnOk result (TakesUp index.now «package».now node.now (dependency.now ∷ []) (line_rows links.old.items) (line_rows links.new.items)) }
+    ensures refused { IfErr result (λ e. (counts index.now «package».now.row.id dependency.now ≡ true) × HasNoLine index.now «package».now.row.id node.now.dependencies dependency.now e) }
 {
     let id = id_of(package);
     if !counts(index, id, dependency) {
@@ -175,7 +221,8 @@ fn push_resolved(
     dependency: &Dependency,
     found: Resolution<'_>,
 ) -> Result<(), RecordFault>
-    ensures { OnOk result (IsPushed index.now id.now dependency.now found.entry (line_rows links.old.items) (line_rows links.new.items)) }
+    ensures pushed { OnOk result (IsPushed index.now id.now dependency.now found.entry (line_rows links.old.items) (line_rows links.new.items)) }
+    ensures refused { IfErr result (λ e. (entries : List Entry) → IsResolution index.now dependency.now entries found.entry → HasNoLine index.now id.now entries dependency.now e) }
 {
     match found {
         Resolution::To(to) => Ok(push_line(alloc, links, start, id, to, dependency)?),
@@ -196,21 +243,27 @@ fn is_optional(dependency: &Dependency) -> bool
     dependency.line.optional
 }
 
-fn ambiguous(alloc: Global, id: &str, name: &str) -> RecordFault {
+fn ambiguous(alloc: Global, id: &str, name: &str) -> RecordFault
+    ensures { (w : Workspace) (entries : List Entry) (d : Declared) → name.now ≡ name_of d → list_any (fits w d) entries ≡ true → HasNoLine w id.now entries d result }
+{
     match copies(alloc, id, name) {
         Ok((id, name)) => RecordFault::Ambiguous(id, name),
         Err(_) => RecordFault::Memory,
     }
 }
 
-fn no_dependency(alloc: Global, id: &str, name: &str) -> RecordFault {
+fn no_dependency(alloc: Global, id: &str, name: &str) -> RecordFault
+    ensures { (w : Workspace) (entries : List Entry) (d : Declared) → name.now ≡ name_of d → d.line.optional ≡ false → list_any (fits w d) entries ≡ false → HasNoLine w id.now entries d result }
+{
     match copies(alloc, id, name) {
         Ok((id, name)) => RecordFault::NoDependency(id, name),
         Err(_) => RecordFault::Memory,
     }
 }
 
-fn no_optional(alloc: Global, id: &str, name: &str) -> RecordFault {
+fn no_optional(alloc: Global, id: &str, name: &str) -> RecordFault
+    ensures { (w : Workspace) (entries : List Entry) (d : Declared) → name.now ≡ name_of d → d.line.optional ≡ true → is_member w id.now ≡ true → list_any (fits w d) entries ≡ false → HasNoLine w id.now entries d result }
+{
     match copies(alloc, id, name) {
         Ok((id, name)) => RecordFault::NoOptional(id, name),
         Err(_) => RecordFault::Memory,
@@ -218,7 +271,9 @@ fn no_optional(alloc: Global, id: &str, name: &str) -> RecordFault {
 }
 
 /// The id of a package and the name of its dependency, in memory of their own.
-fn copies(alloc: Global, id: &str, name: &str) -> Result<(String, String), AllocError> {
+fn copies(alloc: Global, id: &str, name: &str) -> Result<(String, String), AllocError>
+    ensures { IfOk result (λ t. (string_bytes t.0 ≡ id.now) × (string_bytes t.1 ≡ name.now)) }
+{
     let id = String::from_str(alloc, id)?;
     let name = String::from_str(alloc, name)?;
     Ok((id, name))

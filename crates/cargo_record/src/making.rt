@@ -1,9 +1,11 @@
 //! The whole record.
 
-ghost use Rattle.std.specs.Prelude.{◌≡◌, [], IfOk, None, Some, map, true};
+ghost use Rattle.std.specs.Prelude.{◌≡◌, [], IfErr, IfOk, None, Some, map, true};
 ghost use Rattle.cargo_record.specs.Kept as spec;
 ghost use Rattle.cargo_record.specs.Lines.{AreLinesOf, line_rows, unlinked};
 ghost use Rattle.cargo_record.specs.Members.{IsWorkspaceOf, are_names};
+ghost use Rattle.cargo_record.specs.Refused.{RefusesLinks, RefusesRecord};
+ghost use Rattle.cargo_record.specs.declared.fault.RecordFault.TheVariants.{Format};
 
 use crate::fault::RecordFault;
 use crate::lines::links_of;
@@ -25,6 +27,7 @@ pub fn record_of(
     ensures workspace { IfOk result (λ w. IsWorkspaceOf metadata.now wanted.entry w.workspace) }
     ensures lines { IfOk result (λ w. AreLinesOf (unlinked w) metadata.now (line_rows w.links)) }
     ensures rest { IfOk result (λ w. (w.groups ≡ []) × (w.default_filter ≡ None)) }
+    ensures refused { IfErr result (RefusesRecord metadata.now wanted.entry) }
     ensures askable { IfOk result (λ _. (metadata.now.format ≡ Some 1) × (are_names metadata.now wanted.entry ≡ true)) }
 {
     check_format(metadata)?;
@@ -34,7 +37,8 @@ pub fn record_of(
 }
 
 fn check_format(metadata: &Metadata) -> Result<(), RecordFault>
-    ensures { IfOk result (λ _. metadata.now.format ≡ Some 1) }
+    ensures format { IfOk result (λ _. metadata.now.format ≡ Some 1) }
+    ensures refused { IfErr result (λ e. (e ≡ Format) × (metadata.now.format ≡ Some 1 → ⊥)) }
 {
     if metadata.format == Some(1) {
         Ok(())
@@ -72,6 +76,7 @@ fn with_links(
     ensures workspace { IfOk result (λ w. w.workspace ≡ rows.workspace) }
     ensures rest { IfOk result (λ w. (w.groups ≡ rows.groups) × (w.default_filter ≡ rows.default_filter)) }
     ensures lines { IfOk result (λ w. AreLinesOf (unlinked w) metadata.now (line_rows w.links)) }
+    ensures refused { IfErr result (RefusesLinks rows metadata.now) }
 {
     let links = links_of(alloc, &rows, metadata)?;
     Ok(linked(rows, links))

@@ -1,8 +1,11 @@
 //! The members that are asked about.
 
-ghost use Rattle.std.specs.Prelude.{◌≡◌, ◌&&◌, IfOk, Some, bytes_eq, filter, find, map, option_copied, option_map, string_bytes, true};
+ghost use Rattle.std.specs.Prelude.{◌≡◌, ◌&&◌, Contains, IfErr, IfNone, IfOk, IfSome, Some, bytes_eq, false, filter, find, map, option_copied, option_map, string_bytes, true};
 ghost use Rattle.std.specs.List.{list_all, list_any};
+ghost use Rattle.workspace_record.specs.Records.{Text};
 ghost use Rattle.cargo_record.specs.Members as spec;
+ghost use Rattle.cargo_record.specs.Refused.{AsksFor, RefusesMembers};
+ghost use Rattle.cargo_record.specs.declared.members.Wanted.{Wanted};
 
 use crate::fault::RecordFault;
 use cargo_metadata::{DeclaringPackage, Metadata, WorkspaceNames, folder_of};
@@ -28,10 +31,17 @@ pub(crate) fn workspace_of(
 ) -> Result<WorkspaceInfo, RecordFault>
     ensures names { IfOk result (λ _. spec.are_names metadata.now wanted.entry ≡ true) }
     ensures is { IfOk result (λ w. spec.IsWorkspaceOf metadata.now wanted.entry w) }
+    ensures refused { IfErr result (RefusesMembers metadata.now wanted.entry) }
 {
     check_names(alloc, metadata, wanted)?;
-    let members = members_of(alloc, metadata, wanted, &metadata.workspace.members)?;
+    let members = members_of(alloc, metadata, wanted, member_ids(metadata))?;
     Ok(workspace_named(alloc, &metadata.workspace, members)?)
+}
+
+fn member_ids(metadata: &Metadata) -> &[String]
+    ensures { map string_bytes result.now ≡ metadata.entry.now.workspace.members }
+{
+    &metadata.workspace.members
 }
 
 fn workspace_named(
@@ -75,7 +85,8 @@ fn members_of(
     wanted: Wanted<'_>,
     ids: &[String],
 ) -> Result<Vec<MemberRecord>, RecordFault>
-    ensures { IfOk result (λ v. v.items ≡ map (spec.member_with metadata.now) (filter (spec.is_asked metadata.now wanted.entry) (map string_bytes ids.now))) }
+    ensures members { IfOk result (λ v. v.items ≡ map (spec.member_with metadata.now) (filter (spec.is_asked metadata.now wanted.entry) (map string_bytes ids.now))) }
+    ensures refused { IfErr result (λ e. ((id : Text) → Contains (map string_bytes ids.now) id → Contains metadata.now.workspace.members id) → RefusesMembers metadata.now wanted.entry e) }
 {
     let mut members = Vec::new(alloc);
     for id in ids {
@@ -98,7 +109,8 @@ fn member_package<'a>(
     metadata: &'a Metadata,
     id: &str,
 ) -> Result<&'a DeclaringPackage, RecordFault>
-    ensures { IfOk result (λ p. spec.package_with metadata.entry.now id.now ≡ Some p.now) }
+    ensures package { IfOk result (λ p. spec.package_with metadata.entry.now id.now ≡ Some p.now) }
+    ensures refused { IfErr result (λ e. (asked : Wanted) → Contains metadata.entry.now.workspace.members id.now → RefusesMembers metadata.entry.now asked e) }
 {
     match package_with(metadata, id) {
         Some(package) => Ok(package),
@@ -238,7 +250,8 @@ fn has_id(members: &[MemberRecord], id: &str) -> bool
 
 /// Refuses a name that is asked for and that no member has.
 fn check_names(alloc: Global, metadata: &Metadata, wanted: Wanted<'_>) -> Result<(), RecordFault>
-    ensures { IfOk result (λ _. spec.are_names metadata.now wanted.entry ≡ true) }
+    ensures names { IfOk result (λ _. spec.are_names metadata.now wanted.entry ≡ true) }
+    ensures refused { IfErr result (RefusesMembers metadata.now wanted.entry) }
 {
     match wanted {
         Wanted::Named(names) => check_each(alloc, metadata, names),
@@ -247,20 +260,26 @@ fn check_names(alloc: Global, metadata: &Metadata, wanted: Wanted<'_>) -> Result
 }
 
 fn check_each(alloc: Global, metadata: &Metadata, names: &[&str]) -> Result<(), RecordFault>
-    ensures { IfOk result (λ _. list_all (λ name. spec.is_member_name metadata.now name.now) names.now ≡ true) }
+    ensures names { IfOk result (λ _. list_all (λ name. spec.is_member_name metadata.now name.now) names.now ≡ true) }
+    ensures refused { IfErr result (λ e. (asked : Wanted) → ((name : Text) → Contains (map (λ t. t.now) names.now) name → AsksFor asked name) → RefusesMembers metadata.now asked e) }
 {
-    if are_names(metadata, names) {
-        return Ok(());
+    match unknown_name(metadata, names) {
+        Some(name) => Err(RecordFault::NoMember(String::from_str(alloc, name)?)),
+        None => Ok(()),
     }
-    let unknown = names.iter().find(|name| !is_member_name(metadata, name));
-    let name = unknown.copied().unwrap_or_default();
-    Err(RecordFault::NoMember(String::from_str(alloc, name)?))
 }
 
-fn are_names(metadata: &Metadata, names: &[&str]) -> bool
-    ensures { result ≡ list_all (λ name. spec.is_member_name metadata.now name.now) names.now }
+/// The first name that no member has.
+fn unknown_name<'a>(metadata: &Metadata, names: &[&'a str]) -> Option<&'a str>
+    ensures none { IfNone result (list_all (λ name. spec.is_member_name metadata.now name.now) names.entry.now ≡ true) }
+    ensures some { IfSome result (λ name. Contains (map (λ t. t.now) names.entry.now) name.now × (spec.is_member_name metadata.now name.now ≡ false)) }
 {
-    names.iter().all(|name| is_member_name(metadata, name))
+    for name in names {
+        if !is_member_name(metadata, name) {
+            return Some(name);
+        }
+    }
+    None
 }
 
 /// Whether a member of the workspace has the name.

@@ -1,6 +1,6 @@
 //! The packages of the record.
 
-ghost use Rattle.std.specs.Prelude.{◌≡◌, IfOk, filter, map, string_bytes};
+ghost use Rattle.std.specs.Prelude.{◌≡◌, Contains, IfOk, IfSome, false, filter, map, string_bytes};
 ghost use Rattle.std.specs.List.{list_all};
 ghost use Rattle.cargo_record.specs.Kept as spec;
 
@@ -72,12 +72,14 @@ fn are_features(features: &[FeatureRecord], names: &[String]) -> bool
     names.iter().all(|name| is_feature(features, name.as_str()))
 }
 
-/// The first required feature of a target that is none of these.
+/// The first of these features that a target requires which is none of the package's.
 pub(crate) fn foreign_feature<'a>(
     features: &[FeatureRecord],
-    target: &'a TargetRecord,
-) -> Option<&'a str> {
-    for name in &target.required_features {
+    required: &'a [String],
+) -> Option<&'a str>
+    ensures { IfSome result (λ name. Contains (map string_bytes required.entry.now) name.now × (spec.is_feature features.now name.now ≡ false)) }
+{
+    for name in required {
         if !is_feature(features, name.as_str()) {
             return Some(name.as_str());
         }

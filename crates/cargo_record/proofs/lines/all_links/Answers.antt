@@ -1,3 +1,8 @@
+use Rattle.std.proofs.Common.{Some, ap, ◌∙◌}
+use Rattle.std.proofs.lemmas.Option.{slice_get-get_or}
+use Rattle.std.proofs.Common.{inl, inr, sym}
+use Rattle.cargo_record.proofs.RefusalFacts.{package_refuses}
+use Rattle.std.proofs.lemmas.Result.{err_from_is_err_and}
 use Rattle.std.proofs.Common.{◌≡◌, Contains, subst}
 use Rattle.cargo_record.specs.Lines.{TakesUp, line_rows}
 use Rattle.cargo_record.proofs.LineFacts.{lines_all, lines_next, no_lines}
@@ -11,8 +16,23 @@ loop-place-preserved c =
     let mid = line_rows c.loop-place.links.items in
     let new = line_rows c.push_links.new.links.items in
     let node = c.in_ok-node.node.now in
-    lines_next c.args.index.now c.args.nodes.now c.args.packages.now c.loop-place.place c.index-packages-place.result node mid new c.loop-place-test.true c.loop-place.invariant (subst (λ x. TakesUp c.args.index.now x node x.dependencies mid new) c.index-packages-place.is c.in_ok-push_links.ensures) (subst (λ x. Contains c.args.nodes.now node × (node.id ≡ x.row.id)) c.index-packages-place.is c.in_ok-node.ensures)
+    lines_next c.args.index.now c.args.nodes.now c.args.packages.now c.loop-place.place c.index-packages-place.result node mid new c.loop-place-test.true c.loop-place.invariant (subst (λ x. TakesUp c.args.index.now x node x.dependencies mid new) c.index-packages-place.is c.in_ok-push_links.ensures.taken) (subst (λ x. Contains c.args.nodes.now node × (node.id ≡ x.row.id)) c.index-packages-place.is c.in_ok-node.ensures.node)
 
-pub returns : goal.returns
-returns c =
+pub returns-clause-lines : goal.returns-clause-lines
+returns-clause-lines c =
     lines_all c.args.index.now c.args.nodes.now c.args.packages.now c.loop-place.place (line_rows c.loop-place.links.items) c.loop-place-test.false c.loop-place.invariant
+
+pub returns-in_err-check_targets-clause-refused : goal.returns-in_err-check_targets-clause-refused
+returns-in_err-check_targets-clause-refused c =
+    let p = err_from_is_err_and c.from_residual.result c.from_residual.ensures.1 in
+    rw (p.1, p.2) (package_refuses c.args.index.now c.args.packages.now c.args.nodes.now c.index-packages-place.result _ (c.loop-place.place, c.loop-place-test.true, sym c.index-packages-place.is) (inl c.in_err-check_targets.ensures))
+
+pub returns-in_err-node-clause-refused : goal.returns-in_err-node-clause-refused
+returns-in_err-node-clause-refused c =
+    let p = err_from_is_err_and c.from_residual-in_err-node.result c.from_residual-in_err-node.ensures.1 in
+    rw (p.1, p.2) (c.in_err-node.ensures.refused c.args.index.now c.args.packages.now (slice_get-get_or c.args.packages.now c.loop-place.place c.index-packages-place.result c.loop-place-test.true ∙ ap Some (sym c.index-packages-place.is)))
+
+pub returns-in_err-push_links-clause-refused : goal.returns-in_err-push_links-clause-refused
+returns-in_err-push_links-clause-refused c =
+    let p = err_from_is_err_and c.from_residual-in_err-push_links.result c.from_residual-in_err-push_links.ensures.1 in
+    rw (p.1, p.2) (package_refuses c.args.index.now c.args.packages.now c.args.nodes.now c.index-packages-place.result _ (c.loop-place.place, c.loop-place-test.true, sym c.index-packages-place.is) (inr (c.in_ok-node.node.now, c.in_ok-node.ensures.node.0, c.in_ok-node.ensures.node.1, c.in_err-push_links.ensures.refused)))

@@ -6,7 +6,7 @@ use Rattle.cargo_record.proofs.making.with_links.Goals as goal
 
 pub returns-clause-lines : goal.returns-clause-lines
 returns-clause-lines c =
-    let lines = c.in_ok-links.ensures in
+    let lines = c.in_ok-links.ensures.lines in
     let bare : unlinked c.linked.result ≡ c.args.rows = ap unlinked c.linked.ensures ∙ sym (ap (λ (l : List Link). record c.args.rows { links = l }) c.requires) in
     let links : line_rows c.linked.result.links ≡ line_rows c.in_ok-links.links.items = ap (λ w. line_rows w.links) c.linked.ensures in
     (lines.0, lines.1, same_lines c.args.rows (unlinked c.linked.result) c.args.metadata.now.packages lines.0 (line_rows c.in_ok-links.links.items) (line_rows c.linked.result.links) bare links lines.2)
