@@ -3,7 +3,7 @@ use Rattle.std.proofs.Common.{◌≡◌, ℕ, suc, ◌+◌, Bool, true, false, c
 use Rattle.cargo_cfg.specs.Bytes.{after}
 use Rattle.cargo_cfg.specs.Heads.{head_at}
 use Rattle.cargo_cfg.specs.Settings.{Setting}
-use Rattle.cargo_cfg.specs.Expressions.{Cfg, constant_of, name_of, pair_of, not_of, both_of, either_of, joined_of, says}
+use Rattle.cargo_cfg.specs.Expressions.{Cfg, constant_of, name_of, pair_of, not_of, joined_of, says}
 use Rattle.cargo_cfg.specs.Grammar.{Reads, ReadsEach, constant, name, pair, negated, group, closed, one, next_place}
 use Rattle.cargo_cfg.specs.declared.head.Head.{Head}
 use Rattle.cargo_cfg.specs.declared.head.Head.TheVariants.{Group, Not, Constant, Name, Pair, Wrong}

@@ -1,11 +1,10 @@
 -- What an answer says of a spec.
-use Rattle.std.proofs.Common.{◌≡◌, Bool, true, false, ◌&&◌, ◌||◌, not, ◌↔◌, ◌⊎◌, inl, inr, List, Result, Ok, Err, IfOk, IsOkAnd, IsTrue, bytes_eq, refl, sym, subst, ◌∙◌, ap}
+use Rattle.std.proofs.Common.{◌≡◌, Bool, true, false, ◌&&◌, ◌||◌, not, ◌↔◌, inl, inr, List, Result, Ok, Err, IfOk, IsOkAnd, IsTrue, refl, sym, subst, ◌∙◌}
 use Rattle.std.proofs.lemmas.Bool.{and_parts, or_cases, false≢true}
-use Rattle.std.proofs.lemmas.Slice.Eq.{bytes_eq-Decides}
 use Rattle.workspace_record.specs.Records.{Text}
 use Rattle.cargo_cfg.specs.Settings.{Setting}
 use Rattle.cargo_cfg.specs.Expressions.{Cfg, CfgHolds, constant_of, name_of, pair_of, not_of, both_of, either_of, says}
-use Rattle.cargo_cfg.specs.Specs.{IsCfg, IsSpec, IsTriple, Spec, SpecHolds, cfg_spec, is_expression, triple_spec}
+use Rattle.cargo_cfg.specs.Specs.{IsCfg, IsSpec, Spec, SpecHolds, cfg_spec, is_expression, triple_spec}
 
 not_true : (b : Bool) → (b ≡ true → ⊥) → not b ≡ true
 not_true true h = absurd (h refl)

@@ -1,6 +1,6 @@
 -- The grammar of specs, between two places of a text.
-use Rattle.std.specs.Prelude.{◌≡◌, ℕ, suc, ◌+◌, Bool, true, false, ◌&&◌, ◌||◌, List, length, take, All, IsTrue, bytes_eq, codes, slice_range, Option, Some, None}
-use Rattle.cargo_cfg.specs.Bytes.{after, passes}
+use Rattle.std.specs.Prelude.{◌≡◌, ℕ, suc, ◌+◌, Bool, List, slice_range, Option, Some, None}
+use Rattle.cargo_cfg.specs.Bytes.{after}
 use Rattle.cargo_cfg.specs.Heads.{head_at}
 use Rattle.cargo_cfg.specs.Expressions.{Cfg, constant_of, name_of, pair_of, not_of, joined_of}
 use Rattle.cargo_cfg.specs.declared.head.Head.TheVariants.{Group, Not, Constant, Name, Pair}

@@ -1,5 +1,5 @@
 -- What an expression begins with, by its places.
-use Rattle.std.specs.Prelude.{ℕ, ◌+◌, ◌≤◌, ◌<◌, Bool, true, false, ◌&&◌, ◌||◌, List, length, nat_eq, nat_lt, nat_le, bytes_eq, codes, slice_index_or, slice_range, Option, Some, None, if◌then◌else◌}
+use Rattle.std.specs.Prelude.{ℕ, ◌≤◌, ◌<◌, Bool, true, false, ◌&&◌, ◌||◌, List, length, nat_eq, nat_lt, nat_le, bytes_eq, codes, slice_index_or, slice_range, Option, Some, None, if◌then◌else◌}
 use Rattle.cargo_cfg.specs.Bytes.{after, run_end}
 use Rattle.cargo_cfg.specs.declared.bytes.Run.TheVariants.{Blanks, Word, Quoted}
 use Rattle.cargo_cfg.specs.declared.fault.Wanted.{Wanted}

@@ -1,5 +1,6 @@
 -- The settings of a platform as they are printed, a line for each.
-use Rattle.std.specs.Prelude.{◌≡◌, ◌<◌, ◌≤◌, ℕ, ◌+◌, List, [], ◌∷◌, ◌++◌, length, nat_eq, slice_range, Option, Some, None, option_map, if◌then◌else◌}
+use Rattle.std.specs.Prelude.{◌≡◌, ◌⊎◌, ◌<◌, ◌≤◌, ℕ, ◌+◌, List, [], ◌∷◌, ◌++◌, length, nat_eq, slice_range, Option, Some, None, IsSomeAnd, option_map, if◌then◌else◌}
+use Rattle.std.specs.Str.{IsUtf8}
 use Rattle.workspace_record.specs.Records.{Text}
 use Rattle.cargo_cfg.specs.Bytes.{run_end}
 use Rattle.cargo_cfg.specs.Heads.{head_at}
@@ -32,20 +33,34 @@ pub data AreSettings (text : List ℕ) : ℕ → List Setting → Type 0 where
   ended : {i : ℕ} → length text ≤ i → AreSettings text i []
   lines : {i : ℕ} {xs ys : List Setting} → i < length text → settings_in (slice_range text i (run_end run.Line text i)) ≡ Some xs → AreSettings text (run_end run.Line text i + 1) ys → AreSettings text i (xs ++ ys)
 
--- what is refused for a line is none of what it should be; want of memory says nothing of it
-abbrev pub RefusesLine : {X : Type 0} → Option X → ℕ → SettingsError → Type 0
-RefusesLine said at (Line i) = (i ≡ at) × (said ≡ None)
-RefusesLine said at NotText = Unit {0}
-RefusesLine said at Memory = Unit {0}
+-- the line that begins at the place
+abbrev pub line_at : List ℕ → ℕ → Text
+line_at text i = slice_range text i (run_end run.Line text i)
 
--- what is refused, but for no line
-abbrev pub IsOfNoLine : SettingsError → Type 0
-IsOfNoLine (Line i) = ⊥
-IsOfNoLine NotText = Unit {0}
-IsOfNoLine Memory = Unit {0}
+-- a line begins at the place
+pub data BeginsLine (text : List ℕ) : ℕ → Type 0 where
+  first : BeginsLine text 0
+  next : {i : ℕ} → i < length text → BeginsLine text i → BeginsLine text (run_end run.Line text i + 1)
 
--- a text that is refused for a line has no settings
+-- the name of the setting is no text, or its value is none
+abbrev pub HasNoText : Setting → Type 0
+HasNoText s = (IsUtf8 s.name → ⊥) ⊎ IsSomeAnd s.value (λ value. IsUtf8 value → ⊥)
+
+-- the bytes are no text; or memory ran out
+abbrev pub RefusesText : List ℕ → SettingsError → Type 0
+RefusesText bytes (Line i) = ⊥
+RefusesText bytes NotText = IsUtf8 bytes → ⊥
+RefusesText bytes Memory = Unit {0}
+
+-- the line at the place is no setting, or one that is no text; or memory ran out
+abbrev pub RefusesLine : Text → ℕ → SettingsError → Type 0
+RefusesLine line at (Line i) = (i ≡ at) × (setting_in line ≡ None)
+RefusesLine line at NotText = (s : Setting) × (setting_in line ≡ Some s) × HasNoText s
+RefusesLine line at Memory = Unit {0}
+
+-- a line that is neither blank nor a setting is told by its place, so the text has no settings; or a line is a setting that is no text
 abbrev pub RefusesSettings : List ℕ → SettingsError → Type 0
-RefusesSettings text (Line i) = (xs : List Setting) → AreSettings text 0 xs → ⊥
-RefusesSettings text NotText = Unit {0}
+RefusesSettings text (Line i) =
+    BeginsLine text i × (0 < length (line_at text i)) × (setting_in (line_at text i) ≡ None) × ((xs : List Setting) → AreSettings text 0 xs → ⊥)
+RefusesSettings text NotText = (i : ℕ) × BeginsLine text i × ((s : Setting) × (setting_in (line_at text i) ≡ Some s) × HasNoText s)
 RefusesSettings text Memory = Unit {0}

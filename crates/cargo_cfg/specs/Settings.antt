@@ -1,5 +1,5 @@
 -- The settings of a platform.
-use Rattle.std.specs.Prelude.{Bool, true, false, ◌&&◌, bytes_eq, is_none, Option, Some, None}
+use Rattle.std.specs.Prelude.{Bool, false, ◌&&◌, bytes_eq, is_none, Option, Some, None}
 use Rattle.workspace_record.specs.Records.{Text}
 
 -- of a `CfgSetting`

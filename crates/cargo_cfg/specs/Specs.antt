@@ -1,5 +1,5 @@
 -- Whole specs: which texts are such, and which platforms they name.
-use Rattle.std.specs.Prelude.{◌≡◌, ◌<◌, ℕ, Bool, true, false, ◌&&◌, List, take, length, nat_le, bytes_eq, codes, Some, IsTrue}
+use Rattle.std.specs.Prelude.{◌≡◌, ◌<◌, ℕ, Bool, true, false, ◌&&◌, List, take, length, nat_le, bytes_eq, codes, Some}
 use Rattle.workspace_record.specs.Records.{Text}
 use Rattle.cargo_cfg.specs.Bytes.{after, run_end}
 use Rattle.cargo_cfg.specs.Settings.{Setting}

@@ -1,6 +1,6 @@
 -- The answers of a table to the specs of a record.
 use Rattle.std.specs.Prelude.{◌≡◌, ◌↔◌, Bool, List, [], ◌∷◌, flat_map, Contains, Option, Some, None, IsTrue, string_bytes}
-use Rattle.workspace_record.specs.Records.{Text, Line, Link}
+use Rattle.workspace_record.specs.Records.{Text, Link}
 use Rattle.cargo_cfg.specs.Settings.{Setting}
 use Rattle.cargo_cfg.specs.Specs.{IsSpec, Spec, SpecHolds}
 use Rattle.cargo_cfg.specs.declared.table.TableError.{TableError}

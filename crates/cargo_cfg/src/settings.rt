@@ -1,5 +1,5 @@
-ghost use Rattle.std.specs.Prelude.{◌≡◌, ◌++◌, List, Some, IfErr, IfOk, string_bytes};
-ghost use Rattle.cargo_cfg.specs.Printed.{AreSettings, IsOfNoLine, RefusesLine, RefusesSettings, setting_in, settings_in};
+ghost use Rattle.std.specs.Prelude.{◌≡◌, ◌<◌, ◌++◌, List, Some, IfErr, IfOk, length, string_bytes};
+ghost use Rattle.cargo_cfg.specs.Printed.{AreSettings, RefusesLine, RefusesSettings, RefusesText, setting_in, settings_in};
 ghost use Rattle.cargo_cfg.specs.Settings.{Setting};
 
 use crate::bytes::{Run, run_end};
@@ -57,7 +57,7 @@ impl<T: Drop> From<AllocFailed<T>> for SettingsError {
 /// on each line that is not blank.
 pub fn read_settings(alloc: Global, text: &[u8]) -> Result<Vec<CfgSetting>, SettingsError>
     ensures read { IfOk result (λ v. AreSettings text.now 0 v.items) }
-    ensures refused { IfErr result (λ e. RefusesSettings text.now e) }
+    ensures refused { IfErr result (RefusesSettings text.now) }
 {
     let mut settings = Vec::new(alloc);
     let mut at = 0;
@@ -77,7 +77,7 @@ fn push_setting(
     at: usize,
 ) -> Result<(), SettingsError>
     ensures pushed { IfOk result (λ _. (more : List Setting) × (settings.new.items ≡ settings.old.items ++ more) × (settings_in line.now ≡ Some more)) }
-    ensures refused { IfErr result (λ e. RefusesLine (settings_in line.now) at e) }
+    ensures refused { IfErr result (λ e. (0 < length line.now) × RefusesLine line.now at e) }
 {
     if line.is_empty() {
         return Ok(());
@@ -90,7 +90,7 @@ fn push_setting(
 #[tactic(auto, unfolding(crate::specs::Printed::setting_in))]
 fn setting_of(alloc: Global, line: &[u8], at: usize) -> Result<CfgSetting, SettingsError>
     ensures ok { IfOk result (λ s. setting_in line.now ≡ Some s) }
-    ensures refused { IfErr result (λ e. RefusesLine (setting_in line.now) at e) }
+    ensures refused { IfErr result (RefusesLine line.now at) }
 {
     match head_of(line, 0) {
         Head::Name(start, end) if end == line.len() => {
@@ -109,7 +109,7 @@ fn setting_of(alloc: Global, line: &[u8], at: usize) -> Result<CfgSetting, Setti
 /// The text of some bytes.
 fn text_of(alloc: Global, bytes: &[u8]) -> Result<String, SettingsError>
     ensures ok { IfOk result (λ s. string_bytes s ≡ bytes.now) }
-    ensures err { IfErr result IsOfNoLine }
+    ensures refused { IfErr result (RefusesText bytes.now) }
 {
     match str::from_utf8(bytes) {
         Ok(text) => Ok(String::from_str(alloc, text)?),

@@ -1,7 +1,7 @@
-use Rattle.std.proofs.Common.{◌≡◌, ◌∙◌, sym, ap, subst, refl, suc, None, Some, not, slice_range, arith}
+use Rattle.std.proofs.Common.{◌≡◌, ◌∙◌, sym, ap, subst, suc, None, not, slice_range, arith}
 use Rattle.cargo_cfg.specs.Bytes.{after}
 use Rattle.cargo_cfg.specs.Expressions.{constant_of, name_of, pair_of, not_of, joined_of, says}
-use Rattle.cargo_cfg.specs.Grammar.{Reads, ReadsEach, constant, name, pair, negated, group, closed, one, next_place}
+use Rattle.cargo_cfg.specs.Grammar.{Reads, constant, name, pair, negated, group, closed, one}
 use Rattle.cargo_cfg.proofs.ReadingFacts.{closes, closes_nothing, closes_there, follows_nothing, gathers_more, goes_on, group_inside, negation_inside}
 use Rattle.cargo_cfg.proofs.reading.+reading.Goals as goal
 

@@ -1,5 +1,5 @@
-use Rattle.std.proofs.Common.{◌≡◌, ℕ, ◌+◌, ◌-◌, ◌*◌, ◌≤◌, length}
-use Rattle.cargo_cfg.specs.Expressions.{Cfg, says}
+use Rattle.std.proofs.Common.{ℕ, ◌+◌, ◌-◌, ◌*◌, ◌≤◌, length}
+use Rattle.cargo_cfg.specs.Expressions.{Cfg}
 use Rattle.cargo_cfg.specs.Grammar.{ReadsEach}
 use Rattle.cargo_cfg.proofs.ReadingFacts.{Gathers}
 use Rattle.cargo_cfg.proofs.reading.+reading.Given as goal

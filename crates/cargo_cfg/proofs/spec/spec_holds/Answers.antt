@@ -1,4 +1,4 @@
-use Rattle.std.proofs.Common.{◌≡◌, ◌∙◌, sym, true, false, refl, IfOk, IsTrue}
+use Rattle.std.proofs.Common.{◌≡◌, ◌∙◌, sym, true, false, refl}
 use Rattle.cargo_cfg.specs.Expressions.{Cfg}
 use Rattle.cargo_cfg.specs.Specs.{IsCfg, IsSpec, IsTriple, Spec, cfg_spec, is_expression, triple_spec}
 use Rattle.cargo_cfg.proofs.SpecFacts.{cfg_answers, if_ok_so}
