@@ -1,5 +1,6 @@
 pub mod Texts
 pub mod RefusalFacts
 pub mod RowFacts
+pub mod FittingFacts
 pub mod LineFacts
 pub mod PathFacts

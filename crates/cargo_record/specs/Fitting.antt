@@ -1,5 +1,5 @@
 -- Which entries of a resolve fit a dependency.
-use Rattle.std.specs.Prelude.{◌≡◌, ◌&&◌, Bool, true, false, List, bytes_eq, nat_eq, Option, Some, None}
+use Rattle.std.specs.Prelude.{◌≡◌, ◌&&◌, Bool, true, false, not, List, bytes_eq, nat_eq, Option, Some, None}
 use Rattle.std.specs.List.{list_any}
 use Rattle.workspace_record.specs.Kinds.{line_kind_index}
 use Rattle.workspace_record.specs.Records.{Text, Line, Package, Workspace}
@@ -36,8 +36,16 @@ fits w d e = list_any (is_kind d.line) e.kinds && is_named w e.package_id d.pack
 abbrev pub fits_to : Workspace → Declared → Text → Entry → Bool
 fits_to w d id e = bytes_eq e.package_id id && fits w d e
 
--- what a dependency was resolved to by these entries: a package of one that fits, or nothing where none does
+-- such an entry of another package than that with the id
+abbrev pub fits_another : Workspace → Declared → Text → Entry → Bool
+fits_another w d id e = not (bytes_eq e.package_id id) && fits w d e
+
+-- entries of more than one package fit
+abbrev pub several_fit : Workspace → Declared → List Entry → Bool
+several_fit w d entries = list_any (λ e. fits w d e && list_any (fits_another w d e.package_id) entries) entries
+
+-- what a dependency was resolved to by these entries: a package of one that fits, nothing where none does, or one of several that fit
 abbrev pub IsResolution : Workspace → Declared → List Entry → Resolution → Type 0
 IsResolution w d entries Nothing = list_any (fits w d) entries ≡ false
 IsResolution w d entries (To id) = list_any (fits_to w d id.now) entries ≡ true
-IsResolution w d entries Several = list_any (fits w d) entries ≡ true
+IsResolution w d entries Several = several_fit w d entries ≡ true

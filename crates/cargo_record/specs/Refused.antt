@@ -7,7 +7,7 @@ use Rattle.cargo_metadata.specs.Dependencies.{Declared, name_of}
 use Rattle.cargo_metadata.specs.Metadata.{Metadata}
 use Rattle.cargo_metadata.specs.Packages.{Declaring}
 use Rattle.cargo_metadata.specs.Resolved.{Entry, Node}
-use Rattle.cargo_record.specs.Fitting.{fits}
+use Rattle.cargo_record.specs.Fitting.{fits, several_fit}
 use Rattle.cargo_record.specs.Kept.{is_feature, kept_row}
 use Rattle.cargo_record.specs.Lines.{counts}
 use Rattle.cargo_record.specs.Members.{IsWorkspaceOf, is_member_name, package_with}
@@ -33,13 +33,13 @@ RefusesMembers m asked _ = ⊥
 abbrev pub AreNames : Text → Text → Text → Declared → Type 0
 AreNames id name owner d = (id ≡ owner) × (name ≡ name_of d)
 
--- a dependency of the package with the id has no line: nothing fits it that has to, or more than one may be meant
+-- a dependency of the package with the id has no line: nothing fits it that has to, or several packages do
 abbrev pub HasNoLine : Workspace → Text → List Entry → Declared → RecordFault → Type 0
 HasNoLine w owner entries d (NoDependency id name) =
     AreNames (string_bytes id) (string_bytes name) owner d × (d.line.optional ≡ false) × (list_any (fits w d) entries ≡ false)
 HasNoLine w owner entries d (NoOptional id name) =
     AreNames (string_bytes id) (string_bytes name) owner d × (d.line.optional ≡ true) × (is_member w owner ≡ true) × (list_any (fits w d) entries ≡ false)
-HasNoLine w owner entries d (Ambiguous id name) = AreNames (string_bytes id) (string_bytes name) owner d × (list_any (fits w d) entries ≡ true)
+HasNoLine w owner entries d (Ambiguous id name) = AreNames (string_bytes id) (string_bytes name) owner d × (several_fit w d entries ≡ true)
 HasNoLine w owner entries d Memory = Unit {0}
 HasNoLine w owner entries d _ = ⊥
 

@@ -1,6 +1,6 @@
 //! What a dependency was resolved to.
 
-ghost use Rattle.std.specs.Prelude.{◌≡◌, ◌&&◌, false, true, bytes_eq, IfOk, string_bytes, option_map};
+ghost use Rattle.std.specs.Prelude.{◌≡◌, ◌&&◌, IfNone, IfSome, false, true, bytes_eq, IfOk, string_bytes, option_map};
 ghost use Rattle.std.specs.List.{list_any};
 ghost use Rattle.cargo_record.specs.Fitting as spec;
 
@@ -29,25 +29,60 @@ pub(crate) fn resolved_to<'a>(
 ) -> Result<Resolution<'a>, AllocError>
     ensures { IfOk result (λ r. spec.IsResolution index.now dependency.now entries.entry.now r) }
 {
-    if !some_fits(index, dependency, entries) {
+    let Some(first) = first_fitting(index, dependency, entries) else {
         return Ok(Resolution::Nothing);
-    }
+    };
     let fitting = fitting(alloc, index, dependency, entries)?;
     match meant(alloc, index, dependency, fitting)? {
         // What was chosen is looked at once more, so that it fits however it was chosen.
         Some(id) if some_fits_to(index, dependency, entries, id) => Ok(Resolution::To(id)),
-        _ => Ok(Resolution::Several),
+        _ if several_fit(index, dependency, entries) => Ok(Resolution::Several),
+        _ => Ok(Resolution::To(first)),
     }
 }
 
-fn some_fits(
+/// The package of the first entry that fits a dependency.
+fn first_fitting<'a>(
+    index: &RecordIndex<'_>,
+    dependency: &Dependency,
+    entries: &'a [ResolvedDependency],
+) -> Option<&'a str>
+    ensures none { IfNone result (list_any (spec.fits index.now dependency.now) entries.entry.now ≡ false) }
+    ensures some { IfSome result (λ id. list_any (spec.fits_to index.now dependency.now id.now) entries.entry.now ≡ true) }
+{
+    for entry in entries {
+        if fits(index, dependency, entry) {
+            return Some(entry.package_id.as_str());
+        }
+    }
+    None
+}
+
+/// Whether entries of more than one package fit a dependency.
+fn several_fit(
     index: &RecordIndex<'_>,
     dependency: &Dependency,
     entries: &[ResolvedDependency],
 ) -> bool
-    ensures { result ≡ list_any (spec.fits index.now dependency.now) entries.now }
+    ensures { result ≡ spec.several_fit index.now dependency.now entries.now }
 {
-    entries.iter().any(|entry| fits(index, dependency, entry))
+    entries.iter().any(|entry| {
+        fits(index, dependency, entry)
+            && another_fits(index, dependency, entries, entry.package_id.as_str())
+    })
+}
+
+fn another_fits(
+    index: &RecordIndex<'_>,
+    dependency: &Dependency,
+    entries: &[ResolvedDependency],
+    id: &str,
+) -> bool
+    ensures { result ≡ list_any (spec.fits_another index.now dependency.now id.now) entries.now }
+{
+    entries
+        .iter()
+        .any(|entry| entry.package_id.as_str() != id && fits(index, dependency, entry))
 }
 
 fn some_fits_to(

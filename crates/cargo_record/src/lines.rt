@@ -9,7 +9,7 @@ ghost use Rattle.record_index.specs.Packages.{is_member};
 ghost use Rattle.cargo_metadata.specs.Dependencies.{Declared, name_of};
 ghost use Rattle.cargo_metadata.specs.Packages.{Declaring};
 ghost use Rattle.cargo_metadata.specs.Resolved.{Entry};
-ghost use Rattle.cargo_record.specs.Fitting.{IsResolution, fits};
+ghost use Rattle.cargo_record.specs.Fitting.{IsResolution, fits, several_fit};
 ghost use Rattle.cargo_record.specs.Kept.{is_feature};
 ghost use Rattle.cargo_record.specs.Lines.{AreLines, AreLinesOf, IsLink, IsLinkAt, IsOneMore, IsPushed, TakesUp, counts, line_rows, row_of};
 ghost use Rattle.cargo_record.specs.Refused.{HasNoLine, RefusesLinks, RefusesOne, RefusesPackages, RefusesTargets};
@@ -244,7 +244,7 @@ fn is_optional(dependency: &Dependency) -> bool
 }
 
 fn ambiguous(alloc: Global, id: &str, name: &str) -> RecordFault
-    ensures { (w : Workspace) (entries : List Entry) (d : Declared) → name.now ≡ name_of d → list_any (fits w d) entries ≡ true → HasNoLine w id.now entries d result }
+    ensures { (w : Workspace) (entries : List Entry) (d : Declared) → name.now ≡ name_of d → several_fit w d entries ≡ true → HasNoLine w id.now entries d result }
 {
     match copies(alloc, id, name) {
         Ok((id, name)) => RecordFault::Ambiguous(id, name),
