@@ -1,9 +1,10 @@
 -- Which test binaries a record has, and which tests are listed of them.
-use Rattle.std.specs.Prelude.{◌≡◌, ℕ, Bool, true, List, [], ◌∷◌, map, flat_map, Contains, Option, Some, None, Ok, bytes_eq}
+use Rattle.std.specs.Prelude.{◌≡◌, ℕ, Bool, true, List, [], ◌∷◌, map, flat_map, Contains, Option, Some, None, Ok, bytes_eq, codes}
 use Rattle.std.specs.Option.{option_map_or}
 use Rattle.std.specs.Str.{IsUtf8}
 use Rattle.std.specs.Str.Lines.{lines}
 use Rattle.serde_json.specs.Data.{Data}
+use Rattle.serde_json.specs.Find.{get}
 use Rattle.serde_json.specs.Read.{read}
 use Rattle.workspace_record.specs.Records.{Text, Workspace}
 use Rattle.package_rules.specs.Places.{first_repeat}
@@ -39,6 +40,10 @@ pub record AreSuites (list : Data) (ids : List Text) (built : Bool) (listings : 
   pub listed : listings ≡ flat_map (suite_listing list) ids
   pub stand : (id : Text) → Contains ids id → MayStand built (suite_tests list id)
 
--- the same for what nextest printed
+-- the value has suites
+abbrev pub HasSuites : Data → Type 0
+HasSuites list = get (codes "rust-suites") list ≡ None → ⊥
+
+-- the same for what nextest printed, which has suites
 abbrev pub AreListed : List ℕ → List Text → Bool → List (Text × List Text) → Type 0
-AreListed printed ids built listings = (list : Data) × IsNextestList printed list × AreSuites list ids built listings
+AreListed printed ids built listings = (list : Data) × IsNextestList printed list × HasSuites list × AreSuites list ids built listings

@@ -1,6 +1,6 @@
 //! Listings of the test binaries of a record.
 
-ghost use Rattle.std.specs.Prelude.{◌≡◌, ◌++◌, [], IfErr, IfOk, None, OnOk, bytes_eq, false, get_or, map, option_map, string_bytes};
+ghost use Rattle.std.specs.Prelude.{◌≡◌, ◌++◌, [], IfErr, IfOk, None, OnErr, OnOk, bytes_eq, false, get_or, map, option_map, string_bytes};
 ghost use Rattle.serde_json.specs.View.{view};
 ghost use Rattle.package_rules.specs.Places.{first_repeat};
 ghost use Rattle.record_rules.specs.Binaries.{binaries};
@@ -8,7 +8,7 @@ ghost use Rattle.record_rules.specs.BinaryView.{binary_view};
 ghost use Rattle.record_writing.specs.Files.{ReadAsListings};
 ghost use Rattle.cargo_listings.specs.Nextest.{suite_tests};
 ghost use Rattle.cargo_files.specs.Added.{IsAdded, listing};
-ghost use Rattle.cargo_files.specs.Listed.{AreIdsIn, AreListed, ArePrinted, AreSuites, MayStand, suite_listing};
+ghost use Rattle.cargo_files.specs.Listed.{AreIdsIn, AreListed, ArePrinted, AreSuites, HasSuites, MayStand, suite_listing};
 ghost use Rattle.cargo_files.specs.Refused.{NamesRepeated, RefusesFile, RefusesNextest, RefusesPrinted, RefusesSuites, RefusesTests};
 ghost use Rattle.cargo_files.specs.declared.refusal.Refusal.TheVariants.{Memory};
 
@@ -63,6 +63,7 @@ pub fn add_listing(
 ) -> Result<(), Refusal>
     ensures added { OnOk result (IsAdded id.now (option_map (λ v. map string_bytes v.items) tests) built (map listing listings.old.items) (map listing listings.new.items)) }
     ensures refused { IfErr result (RefusesTests id.now (option_map (λ v. map string_bytes v.items) tests) built) }
+    ensures kept { OnErr result (listings.new.items ≡ listings.old.items) }
 {
     let Some(tests) = tests else {
         return if built {
@@ -128,6 +129,7 @@ fn listed_by_nextest(
     ids: &[String],
     built: bool,
 ) -> Result<Listings, Refusal>
+    ensures suites { IfOk result (λ _. HasSuites (view list.now)) }
     ensures listed { IfOk result (λ v. AreSuites (view list.now) (map string_bytes ids.now) built (map listing v.items)) }
     ensures refused { IfErr result (RefusesSuites (view list.now) (map string_bytes ids.now) built) }
 {

@@ -80,9 +80,7 @@ fn another_fits(
 ) -> bool
     ensures { result ≡ list_any (spec.fits_another index.now dependency.now id.now) entries.now }
 {
-    entries
-        .iter()
-        .any(|entry| entry.package_id.as_str() != id && fits(index, dependency, entry))
+    entries.iter().any(|entry| entry.package_id.as_str() != id && fits(index, dependency, entry))
 }
 
 fn some_fits_to(
