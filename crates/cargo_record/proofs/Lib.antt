@@ -3,4 +3,5 @@ pub mod RefusalFacts
 pub mod RowFacts
 pub mod FittingFacts
 pub mod LineFacts
+pub mod OwnFacts
 pub mod PathFacts

@@ -1,7 +1,7 @@
 //! The links of the record, with their lines.
 
 ghost use Rattle.std.specs.Prelude.{◌<◌, ◌≡◌, ◌↔◌, Contains, IfErr, IfOk, IfSome, IsTrue, List, OnOk, Some, [], ◌∷◌, false, length, nat_eq, slice_get, string_bytes, true};
-ghost use Rattle.std.specs.List.{list_any};
+ghost use Rattle.std.specs.List.{list_all, list_any};
 ghost use Rattle.workspace_record.specs.Kinds.{line_kind_index};
 ghost use Rattle.workspace_record.specs.Records.{Target, Workspace};
 ghost use Rattle.workspace_record.specs.declared.kinds.LineKind.TheVariants as kind;
@@ -10,7 +10,7 @@ ghost use Rattle.cargo_metadata.specs.Dependencies.{Declared, name_of};
 ghost use Rattle.cargo_metadata.specs.Packages.{Declaring};
 ghost use Rattle.cargo_metadata.specs.Resolved.{Entry};
 ghost use Rattle.cargo_record.specs.Fitting.{IsResolution, fits, several_fit};
-ghost use Rattle.cargo_record.specs.Kept.{is_feature};
+ghost use Rattle.cargo_record.specs.Kept.{is_feature, owns_targets, requires_own};
 ghost use Rattle.cargo_record.specs.Lines.{AreLines, AreLinesOf, IsLink, IsLinkAt, IsOneMore, IsPushed, TakesUp, counts, line_rows, row_of};
 ghost use Rattle.cargo_record.specs.Refused.{HasNoLine, RefusesLinks, RefusesOne, RefusesPackages, RefusesTargets};
 
@@ -30,6 +30,7 @@ pub(crate) fn links_of(
     metadata: &Metadata,
 ) -> Result<Vec<LinkRecord>, RecordFault>
     ensures lines { IfOk result (λ links. AreLinesOf rows.now metadata.now (line_rows links.items)) }
+    ensures own { IfOk result (λ _. list_all (owns_targets rows.now) metadata.now.packages ≡ true) }
     ensures refused { IfErr result (RefusesLinks rows.now metadata.now) }
 {
     let Some(nodes) = &metadata.nodes else {
@@ -47,6 +48,7 @@ fn all_links(
     nodes: &[ResolvedPackage],
 ) -> Result<Vec<LinkRecord>, RecordFault>
     ensures lines { IfOk result (λ links. AreLines index.now packages.now nodes.now (line_rows links.items)) }
+    ensures own { IfOk result (λ _. list_all (owns_targets index.now) packages.now ≡ true) }
     ensures refused { IfErr result (RefusesPackages index.now packages.now nodes.now) }
 {
     let mut links = Vec::new(alloc);
@@ -81,7 +83,8 @@ fn check_targets(
     index: &RecordIndex<'_>,
     package: &DeclaringPackage,
 ) -> Result<(), RecordFault>
-    ensures { IfErr result (λ e. (is_member index.now «package».now.row.id ≡ true) × RefusesTargets «package».now e) }
+    ensures own { IfOk result (λ _. owns_targets index.now «package».now ≡ true) }
+    ensures refused { IfErr result (λ e. (is_member index.now «package».now.row.id ≡ true) × RefusesTargets «package».now e) }
 {
     if !index.is_member(id_of(package)) {
         return Ok(());
@@ -101,7 +104,8 @@ fn check_each_target(
     package: &DeclaringPackage,
     targets: &[TargetRecord],
 ) -> Result<(), RecordFault>
-    ensures { IfErr result (λ e. ((t : Target) → Contains targets.now t → Contains «package».now.row.targets t) → RefusesTargets «package».now e) }
+    ensures own { IfOk result (λ _. list_all (requires_own «package».now.row.features) targets.now ≡ true) }
+    ensures refused { IfErr result (λ e. ((t : Target) → Contains targets.now t → Contains «package».now.row.targets t) → RefusesTargets «package».now e) }
 {
     for target in targets {
         check_target(alloc, package, target)?;
@@ -114,7 +118,8 @@ fn check_target(
     package: &DeclaringPackage,
     target: &TargetRecord,
 ) -> Result<(), RecordFault>
-    ensures { IfErr result (λ e. Contains «package».now.row.targets target.now → RefusesTargets «package».now e) }
+    ensures own { IfOk result (λ _. requires_own «package».now.row.features target.now ≡ true) }
+    ensures refused { IfErr result (λ e. Contains «package».now.row.targets target.now → RefusesTargets «package».now e) }
 {
     match foreign_feature(&package.row.features, &target.required_features) {
         Some(feature) => Err(foreign(alloc, id_of(package), target, feature)?),

@@ -1,6 +1,7 @@
 //! The whole record.
 
 ghost use Rattle.std.specs.Prelude.{◌≡◌, [], IfErr, IfOk, None, Some, map, true};
+ghost use Rattle.std.specs.List.{list_all};
 ghost use Rattle.cargo_record.specs.Kept as spec;
 ghost use Rattle.cargo_record.specs.Lines.{AreLinesOf, line_rows, unlinked};
 ghost use Rattle.cargo_record.specs.Members.{IsWorkspaceOf, are_names};
@@ -26,6 +27,7 @@ pub fn record_of(
     ensures packages { IfOk result (λ w. w.packages ≡ map spec.kept_row metadata.now.packages) }
     ensures workspace { IfOk result (λ w. IsWorkspaceOf metadata.now wanted.entry w.workspace) }
     ensures lines { IfOk result (λ w. AreLinesOf (unlinked w) metadata.now (line_rows w.links)) }
+    ensures own { IfOk result (λ w. list_all (spec.owns_targets (unlinked w)) metadata.now.packages ≡ true) }
     ensures rest { IfOk result (λ w. (w.groups ≡ []) × (w.default_filter ≡ None)) }
     ensures refused { IfErr result (RefusesRecord metadata.now wanted.entry) }
     ensures askable { IfOk result (λ _. (metadata.now.format ≡ Some 1) × (are_names metadata.now wanted.entry ≡ true)) }
@@ -76,6 +78,7 @@ fn with_links(
     ensures workspace { IfOk result (λ w. w.workspace ≡ rows.workspace) }
     ensures rest { IfOk result (λ w. (w.groups ≡ rows.groups) × (w.default_filter ≡ rows.default_filter)) }
     ensures lines { IfOk result (λ w. AreLinesOf (unlinked w) metadata.now (line_rows w.links)) }
+    ensures own { IfOk result (λ w. list_all (spec.owns_targets (unlinked w)) metadata.now.packages ≡ true) }
     ensures refused { IfErr result (RefusesLinks rows metadata.now) }
 {
     let links = links_of(alloc, &rows, metadata)?;

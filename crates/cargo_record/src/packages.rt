@@ -1,6 +1,6 @@
 //! The packages of the record.
 
-ghost use Rattle.std.specs.Prelude.{◌≡◌, Contains, IfOk, IfSome, false, filter, map, string_bytes};
+ghost use Rattle.std.specs.Prelude.{◌≡◌, Contains, IfNone, IfOk, IfSome, false, filter, map, string_bytes, true};
 ghost use Rattle.std.specs.List.{list_all};
 ghost use Rattle.cargo_record.specs.Kept as spec;
 
@@ -77,7 +77,8 @@ pub(crate) fn foreign_feature<'a>(
     features: &[FeatureRecord],
     required: &'a [String],
 ) -> Option<&'a str>
-    ensures { IfSome result (λ name. Contains (map string_bytes required.entry.now) name.now × (spec.is_feature features.now name.now ≡ false)) }
+    ensures none { IfNone result (list_all (spec.is_feature features.now) (map string_bytes required.entry.now) ≡ true) }
+    ensures some { IfSome result (λ name. Contains (map string_bytes required.entry.now) name.now × (spec.is_feature features.now name.now ≡ false)) }
 {
     for name in required {
         if !is_feature(features, name.as_str()) {

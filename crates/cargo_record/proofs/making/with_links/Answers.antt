@@ -1,4 +1,6 @@
-use Rattle.std.proofs.Common.{◌≡◌, ◌∙◌, sym, ap, List}
+use Rattle.std.proofs.Common.{◌≡◌, ◌∙◌, sym, ap, List, subst, true}
+use Rattle.std.specs.List.{list_all}
+use Rattle.cargo_record.specs.Kept.{owns_targets}
 use Rattle.workspace_record.specs.Records.{Link}
 use Rattle.cargo_record.specs.Lines.{line_rows, unlinked}
 use Rattle.cargo_record.proofs.LineFacts.{same_lines}
@@ -10,3 +12,8 @@ returns-clause-lines c =
     let bare : unlinked c.linked.result ≡ c.args.rows = ap unlinked c.linked.ensures ∙ sym (ap (λ (l : List Link). record c.args.rows { links = l }) c.requires) in
     let links : line_rows c.linked.result.links ≡ line_rows c.in_ok-links.links.items = ap (λ w. line_rows w.links) c.linked.ensures in
     (lines.0, lines.1, same_lines c.args.rows (unlinked c.linked.result) c.args.metadata.now.packages lines.0 (line_rows c.in_ok-links.links.items) (line_rows c.linked.result.links) bare links lines.2)
+
+pub returns-clause-own : goal.returns-clause-own
+returns-clause-own c =
+    let bare : unlinked c.linked.result ≡ c.args.rows = ap unlinked c.linked.ensures ∙ sym (ap (λ (l : List Link). record c.args.rows { links = l }) c.requires) in
+    subst (λ w. list_all (owns_targets w) c.args.metadata.now.packages ≡ true) (sym bare) c.in_ok-links.ensures.own
