@@ -1,4 +1,4 @@
-//! What the programs of rows share: rows read from a file, each run, and what differs told.
+//! What the program of rows stands on: rows read from a file, each run, and what differs told.
 //!
 //! A file of rows is a JSON list. A row is an object with a `name`, what it is run on, and what is
 //! wanted. An object with a list `rows` is a group: each of its rows says what the group says, but

@@ -1,5 +1,0 @@
-use Rattle.library_rows.proofs.numbers.graphs.walked.walk_over.Given as goal
-
--- the ledger of the blank
-abbrev pub ghosts-walk_with_blank : goal.ghosts-walk_with_blank
-ghosts-walk_with_blank a = record { name = a.blank.name; parts = a.blank.parts }

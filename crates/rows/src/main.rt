@@ -1,0 +1,124 @@
+//! Rows of wanted answers, each compared with what comes: of graphs over numbers, of packages, of features and
+//! of filters; of files of every kind, and what Cargo and rustc print, turned into such files; of selections
+//! over records, choices, tables and listings; and of runs of the program `test_select` on files and words,
+//! those of `examples/cargo_workspace` too.
+#![tactic(auto)]
+
+mod features;
+mod files;
+mod filters;
+mod ids;
+mod numbers;
+mod packages;
+mod records;
+mod runs;
+mod selections;
+
+use crate::files::{CargoRows, FileRows, ReasonRows};
+use crate::runs::ProgramRows;
+use crate::selections::SelectionRows;
+use row_program::run_file;
+use std::io::{self, Write};
+use std::process::ExitCode;
+
+fn main(rt: HostRuntime) -> io::Result<ExitCode> {
+    let mut out = rt.stdout();
+    let libraries = run_libraries(&rt, &mut out)?;
+    let files = run_files(&rt, &mut out)?;
+    let selections = run_selections(&rt, &mut out)?;
+    let same = libraries && files && selections;
+    Ok(ExitCode::from(if same { 0 } else { 1 }))
+}
+
+fn run_libraries<W: Write>(rt: &HostRuntime, out: &mut W) -> io::Result<bool> {
+    let numbers = run_numbers(rt, out)?;
+    let packages = run_packages(rt, out)?;
+    let features = run_features(rt, out)?;
+    let filters = run_filters(rt, out)?;
+    Ok(numbers && packages && features && filters)
+}
+
+fn run_numbers<W: Write>(rt: &HostRuntime, out: &mut W) -> io::Result<bool> {
+    let graphs = run_file(
+        rt,
+        "number graphs",
+        "number_graphs.json",
+        &mut numbers::GraphRows,
+        out,
+    )?;
+    let offers = run_file(rt, "offers", "offers.json", &mut numbers::OfferRows, out)?;
+    Ok(graphs && offers)
+}
+
+fn run_packages<W: Write>(rt: &HostRuntime, out: &mut W) -> io::Result<bool> {
+    let parts = run_file(rt, "parts", "parts.json", &mut packages::PartRows, out)?;
+    let rules = run_file(rt, "rules", "rules.json", &mut packages::RuleRows, out)?;
+    let graphs = run_file(
+        rt,
+        "package graphs",
+        "package_graphs.json",
+        &mut packages::GraphRows,
+        out,
+    )?;
+    Ok(parts && rules && graphs)
+}
+
+fn run_features<W: Write>(rt: &HostRuntime, out: &mut W) -> io::Result<bool> {
+    let nodes = run_file(rt, "nodes", "nodes.json", &mut features::NodeRows, out)?;
+    let graphs = run_file(
+        rt,
+        "feature graphs",
+        "feature_graphs.json",
+        &mut features::GraphRows,
+        out,
+    )?;
+    let accounts = run_file(
+        rt,
+        "accounts",
+        "accounts.json",
+        &mut features::AccountRows,
+        out,
+    )?;
+    Ok(nodes && graphs && accounts)
+}
+
+fn run_filters<W: Write>(rt: &HostRuntime, out: &mut W) -> io::Result<bool> {
+    let matchers = run_file(
+        rt,
+        "matchers",
+        "matchers.json",
+        &mut filters::MatcherRows,
+        out,
+    )?;
+    let texts = run_file(rt, "texts", "texts.json", &mut filters::PlaceRows, out)?;
+    let syntax = run_file(rt, "syntax", "syntax.json", &mut filters::FilterRows, out)?;
+    let compiled = run_file(
+        rt,
+        "compiled",
+        "compiled.json",
+        &mut filters::CompiledRows,
+        out,
+    )?;
+    Ok(matchers && texts && syntax && compiled)
+}
+
+fn run_files<W: Write>(rt: &HostRuntime, out: &mut W) -> io::Result<bool> {
+    let files = run_file(rt, "files", "files.json", &mut FileRows, out)?;
+    let reasons = run_file(rt, "reasons", "reasons.json", &mut ReasonRows, out)?;
+    let cargo = run_file(rt, "cargo", "cargo.json", &mut CargoRows, out)?;
+    let example = run_file(
+        rt,
+        "cargo example",
+        "cargo_example.json",
+        &mut CargoRows,
+        out,
+    )?;
+    Ok(files && reasons && cargo && example)
+}
+
+fn run_selections<W: Write>(rt: &HostRuntime, out: &mut W) -> io::Result<bool> {
+    let selections = run_file(rt, "selections", "selections.json", &mut SelectionRows, out)?;
+    let runs = run_file(rt, "runs", "runs.json", &mut ProgramRows, out)?;
+    let example = run_file(rt, "example", "example.json", &mut ProgramRows, out)?;
+    Ok(selections && runs && example)
+}
