@@ -1,15 +1,10 @@
 pub mod ChoosingFacts
-pub mod ExplainingFacts
-pub mod FoundFacts
 pub mod KeptFacts
 pub mod ListingFacts
 pub mod MayFacts
 pub mod PassFacts
 pub mod PlanFacts
 pub mod ReadingFacts
-pub mod ReasonFacts
-pub mod ReasonLaws
 pub mod SelectingFacts
-pub mod TellingFacts
 pub mod WantedFacts
 pub mod AscendingFacts

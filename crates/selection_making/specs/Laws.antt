@@ -5,12 +5,7 @@ use Rattle.nextest_filtering.specs.SameFilters.{AreBytes}
 use Rattle.feature_account.specs.RuleList.{named_of}
 use Rattle.selection_making.specs.Questions.{IsFeatureOn, Question}
 use Rattle.selection_making.specs.Readings.{AreReadings, Readings}
-use Rattle.selection_making.specs.Explaining.{IsReasonOfBinaryIn, IsReasonOfTestIn}
-use Rattle.selection_making.specs.Reasons.{is_asked, is_chosen}
-use Rattle.selection_making.specs.Selecting.{IsAnswered, IsAsked, IsAvailableBinary, IsChosen, IsLetThrough, IsReport}
-use Rattle.selection_making.specs.declared.reason.TestReason.{TestReason}
-use Rattle.selection_making.specs.declared.reason.BinaryReason.{BinaryReason}
-use Rattle.record_rules.specs.Binaries.{Binary}
+use Rattle.selection_making.specs.Selecting.{IsAsked, IsChosen, IsReport}
 use Rattle.selection_making.specs.declared.asked_binaries.AskedBinaries.{AskedBinaries}
 
 -- the names of packages, targets and groups are made of bytes, as each text of a program is
@@ -57,13 +52,3 @@ ReportsAgree =
     → IsReport q r listing_of pairs
     → IsReport (record q { asks = asks }) s listing_of others
     → pairs ≡ others
-
--- of an available binary of a question that is answered, the reason of a test is that of a chosen one exactly where it is chosen, and the reason of the binary that of an asked one exactly where it is let through
-pub record SayWhatIsSelected (q : Question) (r : Readings) (b : Binary) : Type 0 where
-  pub tests : (listing_of : Text → Option (List Text)) (names : List Text) (name : Text) → listing_of b.id ≡ Some names → (why : TestReason) → IsReasonOfTestIn q r b names name why → IsTrue (is_chosen why) ↔ IsChosen q r listing_of (b.id, name)
-  pub itself : (why : BinaryReason) → IsReasonOfBinaryIn q r b why → IsTrue (is_asked why) ↔ IsLetThrough q r b
-
--- reasons say what a selection chooses and asks
-abbrev pub ReasonsSayWhatIsSelected : Type 0
-ReasonsSayWhatIsSelected =
-    (q : Question) (r : Readings) (b : Binary) → IsAnswered q r → IsAvailableBinary q b → SayWhatIsSelected q r b

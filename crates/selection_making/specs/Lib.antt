@@ -1,14 +1,9 @@
 pub mod Choosing
-pub mod CompiledReasons
-pub mod Explaining
 pub mod Kept
 pub mod Laws
 pub mod Passing
 pub mod Plans
 pub mod Questions
 pub mod Readings
-pub mod ReasonTexts
-pub mod Reasons
 pub mod Selecting
 pub mod Selections
-pub mod Telling

@@ -4,18 +4,13 @@
 mod ascending_pairs;
 mod asked_binaries;
 mod asking;
-mod explaining;
-mod finding;
 pub mod laws;
 mod plan;
-mod reason;
 mod report;
 mod selecting;
 mod selection;
 
 pub use crate::asked_binaries::AskedBinaries;
-pub use crate::explaining::{why, why_shared};
-pub use crate::reason::{BinaryReason, Reason, TestReason};
 pub use crate::report::write_report;
 pub use crate::selecting::{select, select_plain, select_shared};
 pub use crate::selection::Selection;

@@ -3,12 +3,12 @@ use Rattle.std.specs.Prelude.{List, Option, Result}
 use Rattle.workspace_record.specs.Records.{Text}
 use Rattle.test_lister.specs.Listers.{Shown}
 use Rattle.record_checks.specs.declared.select_error.SelectError.{SelectError}
-use Rattle.selection_making.specs.Explaining.{Explains}
+use Rattle.selection_reasons.specs.Explaining.{Explains}
 use Rattle.selection_making.specs.Selecting.{Answers}
 use Rattle.selection_making.specs.Selections.{Selected}
 use Rattle.selection_making.specs.declared.asked_binaries.AskedBinaries.{AskedBinaries}
 use Rattle.selection_making.specs.declared.asked_binaries.AskedBinaries.TheVariants.{LetThrough}
-use Rattle.selection_making.specs.declared.reason.Reason.{Reason}
+use Rattle.selection_reasons.specs.declared.reason.Reason.{Reason}
 use Rattle.question_files.specs.declared.inputs.FeatureQuestion.{FeatureQuestion}
 use Rattle.question_filters.specs.declared.scope.LinkScope.{LinkScope}
 

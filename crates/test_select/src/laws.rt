@@ -19,6 +19,6 @@ pub use selection_laws::laws::{
     served_questions_are_answered, switched_dependencies_are_declared,
 };
 pub use selection_making::laws::{
-    readings_say_the_same, reasons_say_what_is_selected, reports_agree,
-    unasked_binaries_have_no_chosen_test,
+    readings_say_the_same, reports_agree, unasked_binaries_have_no_chosen_test,
 };
+pub use selection_reasons::laws::reasons_say_what_is_selected;

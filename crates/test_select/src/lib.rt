@@ -39,9 +39,8 @@ pub use record_files::{
     AccountFile, Field, Key, ReadError, read_account, read_choice, read_listings, read_record,
     read_table,
 };
-pub use selection_making::{
-    BinaryReason, Reason, Selection, TestReason, select, select_plain, why, write_report,
-};
+pub use selection_making::{Selection, select, select_plain, write_report};
+pub use selection_reasons::{BinaryReason, Reason, TestReason, why};
 pub use test_lister::{
     BinaryInfo, BuildPlatform, FileLister, ListFault, Listing, ListingFault, TestLister,
 };

@@ -11,7 +11,7 @@ use clap::ArgMatches;
 use question_files::{FeatureQuestion, FileSource, RunFailure, named_files};
 use question_filters::LinkScope;
 use record_checks::SelectError;
-use selection_making::{Reason, why_shared};
+use selection_reasons::{Reason, why_shared};
 use std::alloc::Global;
 use std::io::{self, Write};
 use test_lister::TestLister;
