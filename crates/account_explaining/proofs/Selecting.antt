@@ -5,11 +5,11 @@ use Rattle.std.proofs.lemmas.Bool.{and_parts, and_from, or_cases, or_left, or_ri
 use Rattle.std.proofs.lemmas.List.{take_more, take-append-drop}
 use Rattle.workspace_record.specs.Features.{FeatureValue, feature_eq, features_decide}
 use Rattle.feature_account.specs.Accounts.{concludes, MayStand, IsSoundAfter, IsSound}
-use Rattle.feature_account.specs.Closed.{FeatureSet, has_premises, is_premise}
+use Rattle.feature_rules.specs.Closed.{FeatureSet, has_premises, is_premise}
 use Rattle.feature_account.specs.Explanations.{EndsIn, needs, EachIsUsed, IsExplanation, IsSublist}
-use Rattle.feature_account.specs.declared.rule.Premises.{Premises}
-use Rattle.feature_account.specs.declared.rule.Premises.TheVariants as premises
-use Rattle.feature_account.specs.declared.rule.Rule.{Rule}
+use Rattle.feature_rules.specs.declared.rule.Premises.{Premises}
+use Rattle.feature_rules.specs.declared.rule.Premises.TheVariants as premises
+use Rattle.feature_rules.specs.declared.rule.Rule.{Rule}
 use Rattle.feature_account.proofs.ClosedSets.{IsWithin}
 use Rattle.feature_account.proofs.ExplanationFacts.{needs-cons, is_used-known}
 use Rattle.feature_account.proofs.Conclusions.{same_feature, concludes-append, concludes-cons, ends_in-concludes, not_again, within_push, within_both}

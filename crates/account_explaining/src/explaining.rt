@@ -4,9 +4,9 @@ ghost use Rattle.std.specs.Prelude.{◌≡◌, ◌≢◌, ◌↔◌, [], false, 
 ghost use Rattle.feature_account.specs.Accounts.{concludes, IsSound};
 ghost use Rattle.feature_account.specs.Explanations.{IsExplanation, IsSublist};
 
-use feature_account::found::{contains, insert, insert_premises};
 use feature_account::soundness::rule_of;
 use feature_account::{LentFeature, LentRule, Rule, lend_rules};
+use feature_rules::found::{contains, insert, insert_premises};
 use indexmap::IndexSet;
 use std::alloc::{AllocError, Global};
 use workspace_record::Feature;

@@ -5,10 +5,10 @@ use Rattle.list_facts.proofs.Membership.{Contains-append_left, Contains-append_r
 use Rattle.list_facts.proofs.Counting.{length-filter-lt}
 use Rattle.workspace_record.specs.Features.{FeatureValue}
 use Rattle.feature_account.specs.Accounts.{concluded_set, concludes, MayStand, IsSound, IsFirstOpen}
-use Rattle.feature_account.specs.Closed.{FeatureSet, has_premises, is_open}
-use Rattle.feature_account.specs.declared.rule.Premises.{Premises}
-use Rattle.feature_account.specs.declared.rule.Premises.TheVariants as premises
-use Rattle.feature_account.specs.declared.rule.Rule.{Rule}
+use Rattle.feature_rules.specs.Closed.{FeatureSet, has_premises, is_open}
+use Rattle.feature_rules.specs.declared.rule.Premises.{Premises}
+use Rattle.feature_rules.specs.declared.rule.Premises.TheVariants as premises
+use Rattle.feature_rules.specs.declared.rule.Rule.{Rule}
 use Rattle.feature_account.proofs.ConcludedFacts.{concluded_iff}
 use Rattle.feature_account.proofs.AccountFacts.{IsSoundAfter-push, Contains-slice_get}
 use Rattle.account_making.specs.Lowest.{IsLowestAfter}

@@ -3,7 +3,7 @@ use Rattle.std.proofs.Common.{◌≡◌, ◌∙◌, ◌||◌, ℕ, false, Vec, G
 use Rattle.indexmap.specs.IndexMap.{IndexMap}
 use Rattle.indexmap.specs.IndexSet.{IndexSet}
 use Rattle.workspace_record.specs.Features.{FeatureValue, feature_eq}
-use Rattle.feature_account.specs.Found.{found_set}
+use Rattle.feature_rules.specs.Found.{found_set}
 use Rattle.account_making.specs.Waiting.{IsWith, waiting_at}
 use Rattle.account_making.specs.declared.ready.Ready.{Ready}
 

@@ -3,8 +3,8 @@ use Rattle.std.proofs.Common.{◌≡◌, ℕ, ◌<◌, ◌≤◌, ⊎_elim, List
 use Rattle.std.proofs.lemmas.Bool.{cases_lt}
 use Rattle.std.proofs.lemmas.Option.{slice_get_within, get_or_from_slice_get}
 use Rattle.feature_account.specs.Accounts.{concludes, IsFirstOpen}
-use Rattle.feature_account.specs.Closed.{FeatureSet, IsClosed}
-use Rattle.feature_account.specs.declared.rule.Rule.{Rule}
+use Rattle.feature_rules.specs.Closed.{FeatureSet, IsClosed}
+use Rattle.feature_rules.specs.declared.rule.Rule.{Rule}
 use Rattle.feature_account.proofs.AccountFacts.{Contains-slice_get}
 use Rattle.account_making.specs.Lowest.{IsLowestAfter}
 

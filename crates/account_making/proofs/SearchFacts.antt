@@ -15,14 +15,14 @@ use Rattle.list_facts.proofs.Tests.{and_not_parts}
 use Rattle.workspace_record.specs.Equality.{equivalence}
 use Rattle.workspace_record.specs.Features.{FeatureValue, feature_eq, features_decide}
 use Rattle.feature_account.specs.Accounts.{conclusions, concluded_set, concludes, IsSound, IsFirstOpen}
-use Rattle.feature_account.specs.Closed.{FeatureSet, has_premises, is_open, IsClosed, IsOn}
-use Rattle.feature_account.specs.declared.rule.Premises.{Premises}
-use Rattle.feature_account.specs.declared.rule.Premises.TheVariants as premises
-use Rattle.feature_account.specs.declared.rule.Rule.{Rule}
+use Rattle.feature_rules.specs.Closed.{FeatureSet, has_premises, is_open, IsClosed, IsOn}
+use Rattle.feature_rules.specs.declared.rule.Premises.{Premises}
+use Rattle.feature_rules.specs.declared.rule.Premises.TheVariants as premises
+use Rattle.feature_rules.specs.declared.rule.Rule.{Rule}
 use Rattle.feature_account.proofs.AccountFacts.{concludes-push, conclusions-push}
 use Rattle.feature_account.proofs.ClosedSets.{concludes_iff}
 use Rattle.account_making.specs.Lowest.{IsLowestAfter, IsLowestAccount, IsLooksOf}
-use Rattle.feature_account.specs.Found.{found_set}
+use Rattle.feature_rules.specs.Found.{found_set}
 use Rattle.account_making.specs.Waiting.{is_premise, waiting_at, IsWaiting, has, size, IsEach, IsReady, IsTakenLeast, IsWith}
 use Rattle.account_making.specs.declared.ready.Ready.{Ready}
 use Rattle.account_making.proofs.Concluding.{sound-push, lowest-push, left_out, left_out-falls, same_open}

@@ -10,10 +10,10 @@ use Rattle.std.proofs.lemmas.Option.{slice_get_within}
 use Rattle.std.specs.Map.{lookup}
 use Rattle.indexmap.specs.IndexMap.{IndexMap, Updates, get}
 use Rattle.workspace_record.specs.Features.{FeatureValue, feature_eq, features_decide}
-use Rattle.feature_account.specs.LentPremises.{lent_premises_view}
-use Rattle.feature_account.specs.declared.lent_rule.LentPremises.{LentPremises}
-use Rattle.feature_account.specs.declared.rule.Rule.{Rule}
-use Rattle.feature_account.proofs.FoundFacts.{lent, lent_eq, same_either_way}
+use Rattle.feature_rules.specs.LentPremises.{lent_premises_view}
+use Rattle.feature_rules.specs.declared.lent_rule.LentPremises.{LentPremises}
+use Rattle.feature_rules.specs.declared.rule.Rule.{Rule}
+use Rattle.feature_rules.proofs.FoundFacts.{lent, lent_eq, same_either_way}
 use Rattle.account_making.specs.Waiting.{is_premise, waiting_at, IsWaiting}
 
 -- the map with a number more for one feature

@@ -1,6 +1,6 @@
 -- The laws of accounts.
 use Rattle.std.specs.Prelude.{◌≡◌, ℕ, List}
-use Rattle.feature_account.specs.declared.rule.Rule.{Rule}
+use Rattle.feature_rules.specs.declared.rule.Rule.{Rule}
 use Rattle.account_making.specs.Lowest.{IsLowestAccount}
 
 -- a list of rules has one lowest account only

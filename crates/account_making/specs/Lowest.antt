@@ -1,7 +1,7 @@
 -- Accounts whose entries are the lowest that may stand, and how often rules are looked at for them.
 use Rattle.std.specs.Prelude.{ℕ, ◌+◌, ◌*◌, ◌≤◌, List, [], ◌∷◌, ◌++◌, length}
 use Rattle.feature_account.specs.Accounts.{concludes, IsFirstOpen, IsValidAccount}
-use Rattle.feature_account.specs.declared.rule.Rule.{Rule}
+use Rattle.feature_rules.specs.declared.rule.Rule.{Rule}
 
 -- each of the entries is the lowest rule that is open after the earlier ones and those before it
 abbrev pub IsLowestAfter : List Rule → List ℕ → List ℕ → Type 0

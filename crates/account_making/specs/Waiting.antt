@@ -1,5 +1,5 @@
 -- What a search over rules keeps: which rules wait for a feature, and which are to be looked at.
-pub use Rattle.feature_account.specs.Closed.{is_premise}
+pub use Rattle.feature_rules.specs.Closed.{is_premise}
 use Rattle.std.specs.Prelude.{◌≡◌, ℕ, ◌+◌, ◌-◌, ◌<◌, ◌≤◌, Bool, true, ◌&&◌, ◌||◌, not, List, [], Some, length, slice_get, Vec, nat_eq, nat_lt}
 use Rattle.std.specs.BTreeSet as set
 use Rattle.std.specs.BTreeSet.{btree_set_len}
@@ -10,7 +10,7 @@ use Rattle.std.specs.Option.{option_map_or}
 use Rattle.std.specs.Ordering.{nat_cmp}
 use Rattle.indexmap.specs.IndexMap.{IndexMap, get_by}
 use Rattle.workspace_record.specs.Features.{FeatureValue, feature_eq}
-use Rattle.feature_account.specs.declared.rule.Rule.{Rule}
+use Rattle.feature_rules.specs.declared.rule.Rule.{Rule}
 use Rattle.account_making.specs.declared.ready.Ready.{Ready}
 
 -- the numbers that the map has for a feature

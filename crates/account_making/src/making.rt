@@ -3,15 +3,15 @@
 ghost use Rattle.std.specs.Prelude.{◌≡◌, ◌↔◌, [], IfOk, IsTrue, length};
 ghost use Rattle.workspace_record.specs.Features.{FeatureValue};
 ghost use Rattle.feature_account.specs.Accounts.{concludes};
-ghost use Rattle.feature_account.specs.Closed.{IsOn};
+ghost use Rattle.feature_rules.specs.Closed.{IsOn};
 ghost use Rattle.account_making.specs.Lowest.{IsLowestAccount, IsLooksOf};
 ghost use Rattle.account_making.specs.Waiting.{IsEach, IsWaiting};
 
 use crate::account::Account;
 use crate::ready::Ready;
 use crate::waiting::waiting_rules;
-use feature_account::found::{insert, is_open};
 use feature_account::{LentFeature, LentRule, Rule, lend_rules};
+use feature_rules::found::{insert, is_open};
 use indexmap::{IndexMap, IndexSet};
 use std::alloc::{AllocError, Global};
 

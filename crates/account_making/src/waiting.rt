@@ -2,7 +2,7 @@
 
 ghost use Rattle.std.specs.Prelude.{◌≡◌, [], ◌∷◌, ◌++◌, OnOk, IfOk, ◌||◌, if◌then◌else◌};
 ghost use Rattle.workspace_record.specs.Features.{FeatureValue, feature_eq};
-ghost use Rattle.feature_account.specs.LentPremises.{lent_premises_view};
+ghost use Rattle.feature_rules.specs.LentPremises.{lent_premises_view};
 ghost use Rattle.account_making.specs.Waiting.{is_premise, waiting_at, IsWaiting};
 
 use feature_account::{LentFeature, LentPremises, LentRule};

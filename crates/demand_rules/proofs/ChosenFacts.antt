@@ -6,11 +6,11 @@ use Rattle.workspace_record.specs.Records.{Workspace}
 use Rattle.workspace_record.specs.Choices.{Choice}
 use Rattle.workspace_record.specs.Features.{feature_eq, features_decide}
 use Rattle.workspace_record.specs.declared.choice.PlatformTable.{PlatformTable}
-use Rattle.feature_account.specs.Closed.{FeatureSet, IsClosed, has_premises}
-use Rattle.feature_account.specs.RuleList.{chosen_features, given, rule_list}
-use Rattle.feature_account.specs.declared.rule.Premises.{Premises}
-use Rattle.feature_account.specs.declared.rule.Premises.TheVariants.{None, One, Two}
-use Rattle.feature_account.specs.declared.rule.Rule.{Rule}
+use Rattle.feature_rules.specs.Closed.{FeatureSet, IsClosed, has_premises}
+use Rattle.feature_rules.specs.RuleList.{chosen_features, given, rule_list}
+use Rattle.feature_rules.specs.declared.rule.Premises.{Premises}
+use Rattle.feature_rules.specs.declared.rule.Premises.TheVariants.{None, One, Two}
+use Rattle.feature_rules.specs.declared.rule.Rule.{Rule}
 use Rattle.demand_rules.specs.Rules.{AreRulesClosed, HasChosen, is_among, standing_rules}
 use Rattle.demand_rules.proofs.StandingFacts.{first_rules, from_first, to_first}
 

@@ -11,10 +11,10 @@ use Rattle.workspace_record.specs.Features.{FeatureValue}
 use Rattle.workspace_record.specs.declared.choice.PlatformTable.{PlatformTable}
 use Rattle.package_rules.specs.Kept.{IsPackageId}
 use Rattle.record_index.proofs.PackageFacts.{some-find}
-use Rattle.feature_account.specs.IsRule.{Counts}
-use Rattle.feature_account.specs.Lines.{counts, counts_for, is_in_force, is_member, is_workspace_package}
+use Rattle.feature_rules.specs.IsRule.{Counts}
+use Rattle.counting_lines.specs.Lines.{counts, counts_for, is_in_force, is_member, is_workspace_package}
 use Rattle.feature_account.proofs.AccountFacts.{Contains-slice_get}
-use Rattle.feature_account.proofs.LineFacts.{counting_lines_iff}
+use Rattle.feature_rules.proofs.LineFacts.{counting_lines_iff}
 use Rattle.guppy_package_parts.specs.Lines.{line_at}
 use Rattle.guppy_package_table.specs.Tables.{member_of}
 use Rattle.guppy_feature_demands.specs.Nodes.{base_of, nodes_of, number_of}

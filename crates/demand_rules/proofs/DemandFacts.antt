@@ -6,9 +6,9 @@ use Rattle.std.specs.Str.{bytes_eq}
 use Rattle.list_facts.proofs.Membership.{Contains-none, Contains-append_cases, Contains-cons_cases, Contains-map_cases, Contains-filter_cases, Contains-flat_map_cases}
 use Rattle.workspace_record.specs.Records.{Text, Line, Link, Package}
 use Rattle.workspace_record.specs.Features.{FeatureValue}
-use Rattle.feature_account.specs.Entries as account
-use Rattle.feature_account.specs.IsEntry.{IsEntry}
-use Rattle.feature_account.specs.IsRule.{HasEntry}
+use Rattle.feature_rules.specs.Entries as account
+use Rattle.feature_rules.specs.IsEntry.{IsEntry}
+use Rattle.feature_rules.specs.IsRule.{HasEntry}
 use Rattle.guppy_feature_demands.specs.Demands.{DemandValue, FormValue, FeatureToBase, NamedFeature, NamedFeatureDepColon, StrongSlash, WeakSlash, DependenciesSection, base_demands, demands_of, dependency_demands, entry_demands, feature_demands, leads, leads_by, line_demands, line_start, line_targets, link_demands, package_demands, same_name, slash_demands}
 use Rattle.guppy_feature_demands.specs.Entries.{EntryValue, OwnFeature, Dependency, Strong, Weak, entry_value}
 use Rattle.guppy_feature_demands.specs.Nodes.{base_of, dep_of, first_of_each, is_node, named_of, nodes_of}

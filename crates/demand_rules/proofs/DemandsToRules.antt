@@ -9,13 +9,13 @@ use Rattle.workspace_record.specs.Records.{Text, Line, Link, Package, Workspace}
 use Rattle.workspace_record.specs.Features.{LabelValue, Base, Named, Dep, FeatureValue, feature_eq, features_decide}
 use Rattle.workspace_record.specs.declared.choice.PlatformTable.{PlatformTable}
 use Rattle.package_rules.specs.Kept.{IsPackageId}
-use Rattle.feature_account.specs.Closed.{FeatureSet, has_premises}
-use Rattle.feature_account.specs.Entries as account
-use Rattle.feature_account.specs.IsEntry.{IsEntry}
-use Rattle.feature_account.specs.IsRule.{Counts, HasEntry, IsFound, IsRule, LeadsTo, TargetHas, member_base, member_default, member_named, member_dep, extra, named_base, dep_base, own_entry, dependency_entry, strong_feature, strong_dependency, strong_name, weak_required, weak_optional, line_base, line_default, line_feature}
-use Rattle.feature_account.specs.RuleList.{default_name}
-use Rattle.feature_account.specs.declared.rule.Premises.TheVariants.{None}
-use Rattle.feature_account.specs.declared.rule.Rule.{Rule}
+use Rattle.feature_rules.specs.Closed.{FeatureSet, has_premises}
+use Rattle.feature_rules.specs.Entries as account
+use Rattle.feature_rules.specs.IsEntry.{IsEntry}
+use Rattle.feature_rules.specs.IsRule.{Counts, HasEntry, IsFound, IsRule, LeadsTo, TargetHas, member_base, member_default, member_named, member_dep, extra, named_base, dep_base, own_entry, dependency_entry, strong_feature, strong_dependency, strong_name, weak_required, weak_optional, line_base, line_default, line_feature}
+use Rattle.feature_rules.specs.RuleList.{default_name}
+use Rattle.feature_rules.specs.declared.rule.Premises.TheVariants.{None}
+use Rattle.feature_rules.specs.declared.rule.Rule.{Rule}
 use Rattle.guppy_feature_demands.specs.Demands.{DemandValue, FormValue, FeatureToBase, NamedFeature, NamedFeatureDepColon, StrongSlash, WeakSlash, DependenciesSection, default_of, demands_of, kept_demands, leads, leads_by, line_start, line_targets, with_numbers}
 use Rattle.guppy_feature_demands.specs.Nodes.{base_of, dep_of, is_node, named_of, nodes_of, number_of}
 use Rattle.guppy_feature_nodes.specs.GraphEdges.{waits_for}

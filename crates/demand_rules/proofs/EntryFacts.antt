@@ -2,9 +2,9 @@
 use Rattle.std.proofs.Common.{◌≡◌, Bool, true, false, cond, ◌-◌, length, take, drop, nat_eq, codes, refl, sym, subst}
 use Rattle.std.specs.List.{list_any, starts_with, ends_with, before_first, after_first}
 use Rattle.workspace_record.specs.Records.{Text}
-use Rattle.feature_account.specs.Entries as account
-use Rattle.feature_account.specs.IsEntry.{IsEntry}
-use Rattle.feature_account.proofs.EntryReading.{entry_reads}
+use Rattle.feature_rules.specs.Entries as account
+use Rattle.feature_rules.specs.IsEntry.{IsEntry}
+use Rattle.feature_rules.proofs.EntryReading.{entry_reads}
 use Rattle.guppy_feature_demands.specs.Entries.{EntryValue, OwnFeature, Dependency, Strong, Weak, entry_value, is_slash}
 
 -- what an entry of the graph says to the rules

@@ -8,10 +8,10 @@ use Rattle.list_facts.proofs.Membership.{Contains-none, Contains-append_left, Co
 use Rattle.workspace_record.specs.Equality.{texts_decide}
 use Rattle.workspace_record.specs.Records.{Text, FeatureEntry, Line, Link, Package}
 use Rattle.workspace_record.specs.Features.{FeatureValue}
-use Rattle.feature_account.specs.Entries as account
-use Rattle.feature_account.specs.IsEntry.{IsEntry}
-use Rattle.feature_account.specs.IsRule.{HasEntry}
-use Rattle.feature_account.proofs.EntryReading.{entry_unique}
+use Rattle.feature_rules.specs.Entries as account
+use Rattle.feature_rules.specs.IsEntry.{IsEntry}
+use Rattle.feature_rules.specs.IsRule.{HasEntry}
+use Rattle.feature_rules.proofs.EntryReading.{entry_unique}
 use Rattle.guppy_feature_demands.specs.Demands.{DemandValue, FormValue, FeatureToBase, NamedFeature, NamedFeatureDepColon, StrongSlash, WeakSlash, DependenciesSection, base_demands, demands_of, dependency_demands, entry_demands, feature_demands, leads, leads_by, line_demands, line_start, line_targets, link_demands, package_demands, same_name, slash_demands}
 use Rattle.guppy_feature_demands.specs.Entries.{EntryValue, OwnFeature, Dependency, Strong, Weak, entry_value}
 use Rattle.guppy_feature_demands.specs.NamedRows.{same_name_equivalence}

@@ -4,7 +4,7 @@ use Rattle.std.proofs.lemmas.List.Elements.{Contains-get_or}
 use Rattle.list_facts.proofs.Membership.{Contains-append_left, Contains-append_right, Contains-append_cases, Contains-cons_cases, Contains-first, Contains-rest, Contains-map, Contains-map_cases, Contains-flat_map, Contains-flat_map_cases}
 use Rattle.workspace_record.specs.Records.{FeatureEntry, Package}
 use Rattle.workspace_record.specs.Features.{LabelValue, Base, Named, Dep, FeatureValue, feature_eq, features_decide}
-use Rattle.feature_account.specs.IsRule.{HasFeature}
+use Rattle.feature_rules.specs.IsRule.{HasFeature}
 use Rattle.guppy_feature_demands.specs.Nodes.{base_of, dep_of, named_of, features_of, nodes_of, number_of}
 use Rattle.guppy_feature_nodes.proofs.DistinctFacts.{at_number, first_of_each-has}
 use Rattle.guppy_feature_nodes.proofs.EdgeFacts.{first_of_each-among}

@@ -6,13 +6,13 @@ use Rattle.list_facts.proofs.Quantifiers.{list_any_cases}
 use Rattle.workspace_record.specs.Records.{Text, Line, Link, Package, Workspace}
 use Rattle.workspace_record.specs.Features.{LabelValue, Base, Named, Dep, FeatureValue, feature_eq, features_decide}
 use Rattle.workspace_record.specs.declared.choice.PlatformTable.{PlatformTable}
-use Rattle.feature_account.specs.Closed.{FeatureSet}
-use Rattle.feature_account.specs.Entries.{Weak}
-use Rattle.feature_account.specs.IsEntry.{IsEntry}
-use Rattle.feature_account.specs.IsRule as rules
-use Rattle.feature_account.specs.IsRule.{Counts, HasEntry, IsFound, IsRule, LeadsTo, TargetHas}
-use Rattle.feature_account.specs.Lines.{package_of}
-use Rattle.feature_account.specs.RuleList.{both_imply, implies}
+use Rattle.feature_rules.specs.Closed.{FeatureSet}
+use Rattle.feature_rules.specs.Entries.{Weak}
+use Rattle.feature_rules.specs.IsEntry.{IsEntry}
+use Rattle.feature_rules.specs.IsRule as rules
+use Rattle.feature_rules.specs.IsRule.{Counts, HasEntry, IsFound, IsRule, LeadsTo, TargetHas}
+use Rattle.counting_lines.specs.Lines.{package_of}
+use Rattle.feature_rules.specs.RuleList.{both_imply, implies}
 use Rattle.feature_account.proofs.AccountFacts.{Contains-slice_get}
 use Rattle.guppy_feature_demands.specs.Demands.{DemandValue, NumberedValue, WeakSlash, default_of, demands_of, kept_demands, line_start, line_targets, with_numbers}
 use Rattle.guppy_feature_demands.specs.Nodes.{base_of, dep_of, named_of, nodes_of, number_of}

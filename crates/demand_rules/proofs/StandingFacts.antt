@@ -10,14 +10,14 @@ use Rattle.workspace_record.specs.Features.{FeatureValue}
 use Rattle.workspace_record.specs.Choices.{Choice}
 use Rattle.workspace_record.specs.declared.choice.PlatformTable.{PlatformTable}
 use Rattle.workspace_record.specs.declared.kinds.Standard.TheVariants as standard
-use Rattle.feature_account.specs.Entries.{EntryValue, OwnFeature, Dependency, Strong, Weak, entry_value}
-use Rattle.feature_account.specs.IsRule.{IsFound, IsRule}
-use Rattle.feature_account.specs.Lines.{package_of, first_of_each, counting_lines}
-use Rattle.feature_account.specs.RuleList.{base_of, base_rules, both_imply, chosen_features, dep_of, entry_rules, feature_rules, given, has_feature, has_optional, implies, line_features, line_rules, line_start, link_rules, named_of, own_features, rules_of_entry, slash_lines, strong_features, weak_rule, weak_rules}
-use Rattle.feature_account.specs.declared.rule.Premises.TheVariants as premises
-use Rattle.feature_account.specs.declared.rule.Rule.{Rule}
-use Rattle.feature_account.proofs.LineFacts.{Contains-first_of_each, finds-first_of_each}
-use Rattle.feature_account.proofs.RuleFacts.{rule_list_iff}
+use Rattle.feature_rules.specs.Entries.{EntryValue, OwnFeature, Dependency, Strong, Weak, entry_value}
+use Rattle.feature_rules.specs.IsRule.{IsFound, IsRule}
+use Rattle.counting_lines.specs.Lines.{package_of, first_of_each, counting_lines}
+use Rattle.feature_rules.specs.RuleList.{base_of, base_rules, both_imply, chosen_features, dep_of, entry_rules, feature_rules, given, has_feature, has_optional, implies, line_features, line_rules, line_start, link_rules, named_of, own_features, rules_of_entry, slash_lines, strong_features, weak_rule, weak_rules}
+use Rattle.feature_rules.specs.declared.rule.Premises.TheVariants as premises
+use Rattle.feature_rules.specs.declared.rule.Rule.{Rule}
+use Rattle.feature_rules.proofs.LineFacts.{Contains-first_of_each, finds-first_of_each}
+use Rattle.feature_rules.proofs.RuleFacts.{rule_list_iff}
 use Rattle.demand_rules.specs.Rules.{standing_rules}
 use Rattle.demand_rules.proofs.RecordFacts.{same_by_name}
 

@@ -3,7 +3,7 @@ use Rattle.std.specs.Prelude.{◌≡◌, ℕ, ◌<◌, Bool, true, false, length
 use Rattle.workspace_record.specs.Records.{Line, Text}
 use Rattle.workspace_record.specs.Features.{FeatureValue}
 use Rattle.workspace_record.specs.declared.choice.PlatformTable.{PlatformTable}
-use Rattle.feature_account.specs.Lines.{counts_for, is_in_force}
+use Rattle.counting_lines.specs.Lines.{counts_for, is_in_force}
 use Rattle.guppy_package_parts.specs.Lines.{line_at}
 use Rattle.guppy_package_table.specs.Tables.{member_of}
 use Rattle.guppy_feature_demands.specs.Demands.{FormValue, FeatureToBase, NamedFeature, NamedFeatureDepColon, StrongSlash, WeakSlash, DependenciesSection, NumberedValue}

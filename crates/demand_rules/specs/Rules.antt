@@ -5,11 +5,11 @@ use Rattle.workspace_record.specs.Records.{Workspace}
 use Rattle.workspace_record.specs.Choices.{Choice}
 use Rattle.workspace_record.specs.Features.{FeatureValue, feature_eq}
 use Rattle.workspace_record.specs.declared.choice.PlatformTable.{PlatformTable}
-use Rattle.feature_account.specs.Closed.{FeatureSet, has_premises}
-use Rattle.feature_account.specs.RuleList.{base_rules, chosen_features, entry_rules, link_rules}
-use Rattle.feature_account.specs.declared.rule.Premises.{Premises}
-use Rattle.feature_account.specs.declared.rule.Premises.TheVariants.{None, One, Two}
-use Rattle.feature_account.specs.declared.rule.Rule.{Rule}
+use Rattle.feature_rules.specs.Closed.{FeatureSet, has_premises}
+use Rattle.feature_rules.specs.RuleList.{base_rules, chosen_features, entry_rules, link_rules}
+use Rattle.feature_rules.specs.declared.rule.Premises.{Premises}
+use Rattle.feature_rules.specs.declared.rule.Premises.TheVariants.{None, One, Two}
+use Rattle.feature_rules.specs.declared.rule.Rule.{Rule}
 
 -- the rules that hold under each choice
 abbrev pub standing_rules : Workspace → PlatformTable → List Rule

@@ -2,12 +2,5 @@ pub mod AccountFacts
 pub mod ClosedSets
 pub mod ConcludedFacts
 pub mod Conclusions
-pub mod EntryFacts
-pub mod EntryReading
 pub mod ExplanationFacts
-pub mod FoundFacts
 pub mod Irreducible
-pub mod KeptLinks
-pub mod LineFacts
-pub mod PushFacts
-pub mod RuleFacts

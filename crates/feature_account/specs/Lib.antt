@@ -1,14 +1,4 @@
-pub mod Lines
-pub mod Entries
-pub mod EntryView
-pub mod RuleList
-pub mod Closed
 pub mod Accounts
 pub mod Explanations
-pub mod Found
-pub mod IsEntry
-pub mod IsRule
 pub mod Laws
 pub mod VerdictTexts
-pub mod LentLabels
-pub mod LentPremises

@@ -2,17 +2,15 @@
 //! the rules and the account, entry by entry.
 
 ghost use Rattle.std.specs.Prelude.{◌≡◌, [], ◌↔◌, IfOk, IfNone, IfSome};
-ghost use Rattle.feature_account.specs.Closed.{IsClosed};
-ghost use Rattle.feature_account.specs.Found.{found_set};
+ghost use Rattle.feature_rules.specs.Closed.{IsClosed};
+ghost use Rattle.feature_rules.specs.Found.{found_set};
 ghost use Rattle.feature_account.specs.Accounts.{IsFirstOpen, IsValidAccount, IsVerdict};
-ghost use Rattle.feature_account.specs.RuleList.{rule_list};
+ghost use Rattle.feature_rules.specs.RuleList.{rule_list};
 
-use crate::found::is_open;
-use crate::lent_feature::LentFeature;
-use crate::lent_rule::LentRule;
-use crate::rule_list::lent_rules;
 use crate::soundness::first_fault;
 use crate::verdict::Verdict;
+use feature_rules::found::is_open;
+use feature_rules::{LentFeature, LentRule, lent_rules};
 use indexmap::IndexSet;
 use record_index::RecordIndex;
 use std::alloc::{AllocError, Global};

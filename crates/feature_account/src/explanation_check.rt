@@ -3,14 +3,12 @@
 ghost use Rattle.std.specs.Prelude.{◌≡◌, [], ◌↔◌, IfOk, IsTrue, MatchOption};
 ghost use Rattle.feature_account.specs.Accounts.{IsSound};
 ghost use Rattle.feature_account.specs.Explanations.{EachIsUsed, EndsIn, IsExplanation, IsExplanationVerdict, IsFirstUnused};
-ghost use Rattle.feature_account.specs.RuleList.{rule_list};
+ghost use Rattle.feature_rules.specs.RuleList.{rule_list};
 
-use crate::found::{contains, insert_premises};
-use crate::lent_feature::LentFeature;
-use crate::lent_rule::LentRule;
-use crate::rule_list::lent_rules;
 use crate::soundness::{first_fault, rule_of};
 use crate::verdict::Verdict;
+use feature_rules::found::{contains, insert_premises};
+use feature_rules::{LentFeature, LentRule, lent_rules};
 use indexmap::IndexSet;
 use record_index::RecordIndex;
 use std::alloc::{AllocError, Global};

@@ -2,12 +2,11 @@
 
 ghost use Rattle.std.specs.Prelude.{◌≡◌, ◌<◌, [], length, slice_get, IfOk, IfNone, IfSome};
 ghost use Rattle.feature_account.specs.Accounts.{concludes, IsFault, IsSound};
-ghost use Rattle.feature_account.specs.Found.{found_set};
+ghost use Rattle.feature_rules.specs.Found.{found_set};
 
-use crate::found::{contains, has_premises, insert};
-use crate::lent_feature::LentFeature;
-use crate::lent_rule::LentRule;
 use crate::verdict::Verdict;
+use feature_rules::found::{contains, has_premises, insert};
+use feature_rules::{LentFeature, LentRule};
 use indexmap::IndexSet;
 use std::alloc::AllocError;
 

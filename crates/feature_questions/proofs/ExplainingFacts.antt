@@ -6,10 +6,10 @@ use Rattle.workspace_record.specs.Features.{FeatureValue}
 use Rattle.workspace_record.specs.Choices.{Choice}
 use Rattle.workspace_record.specs.declared.choice.PlatformTable.{PlatformTable}
 use Rattle.feature_account.specs.Accounts.{concludes}
-use Rattle.feature_account.specs.Closed.{IsOn}
+use Rattle.feature_rules.specs.Closed.{IsOn}
 use Rattle.feature_account.specs.Explanations.{IsExplanation, IsSublist}
-use Rattle.feature_account.specs.RuleList.{rule_list}
-use Rattle.feature_account.specs.declared.rule.Rule.{Rule}
+use Rattle.feature_rules.specs.RuleList.{rule_list}
+use Rattle.feature_rules.specs.declared.rule.Rule.{Rule}
 use Rattle.account_making.specs.Lowest.{IsLowestAccount}
 use Rattle.feature_questions.specs.Explaining.{IsExplained}
 

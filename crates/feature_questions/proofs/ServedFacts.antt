@@ -5,8 +5,8 @@ use Rattle.workspace_record.specs.Records.{Workspace}
 use Rattle.workspace_record.specs.Choices.{Choice}
 use Rattle.workspace_record.specs.Features.{FeatureValue, feature_cmp}
 use Rattle.workspace_record.specs.declared.choice.PlatformTable.{PlatformTable}
-use Rattle.feature_account.specs.Closed.{IsOn}
-use Rattle.feature_account.specs.RuleList.{rule_list}
+use Rattle.feature_rules.specs.Closed.{IsOn}
+use Rattle.feature_rules.specs.RuleList.{rule_list}
 use Rattle.feature_resolving.specs.Known.{is_known_extra}
 use Rattle.kept_records.proofs.KeptFacts.{each_passes}
 use Rattle.feature_questions.specs.Switching.{AreOn, IsServed, unknown_extra}

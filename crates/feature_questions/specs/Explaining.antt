@@ -5,9 +5,9 @@ use Rattle.workspace_record.specs.Records.{Workspace}
 use Rattle.workspace_record.specs.Features.{FeatureValue}
 use Rattle.workspace_record.specs.Choices.{Choice}
 use Rattle.workspace_record.specs.declared.choice.PlatformTable.{PlatformTable}
-use Rattle.feature_account.specs.Closed.{IsOn}
+use Rattle.feature_rules.specs.Closed.{IsOn}
 use Rattle.feature_account.specs.Explanations.{IsExplanation, IsSublist}
-use Rattle.feature_account.specs.RuleList.{rule_list}
+use Rattle.feature_rules.specs.RuleList.{rule_list}
 use Rattle.account_making.specs.Lowest.{IsLowestAccount}
 use Rattle.feature_questions.specs.Switching.{IsServed, AnswersOrRefuses}
 use Rattle.record_checks.specs.declared.select_error.SelectError.{SelectError}

@@ -6,8 +6,8 @@ use Rattle.workspace_record.specs.Features.{FeatureValue, feature_cmp}
 use Rattle.workspace_record.specs.Choices.{Choice}
 use Rattle.workspace_record.specs.declared.choice.PlatformTable.{PlatformTable}
 use Rattle.feature_account.specs.Accounts.{concludes}
-use Rattle.feature_account.specs.Closed.{IsOn}
-use Rattle.feature_account.specs.RuleList.{rule_list}
+use Rattle.feature_rules.specs.Closed.{IsOn}
+use Rattle.feature_rules.specs.RuleList.{rule_list}
 use Rattle.account_making.specs.Lowest.{IsLowestAccount, IsLooksOf}
 use Rattle.account_making.specs.declared.account.Account.{Account}
 use Rattle.feature_resolving.specs.Known.{is_known_extra}

@@ -3,8 +3,8 @@
 ghost use Rattle.std.specs.Prelude.{◌≡◌, ◌↔◌, None, IfOk, IsTrue};
 ghost use Rattle.workspace_record.specs.Features.{FeatureValue};
 ghost use Rattle.feature_account.specs.Accounts.{concludes};
-ghost use Rattle.feature_account.specs.Closed.{IsOn};
-ghost use Rattle.feature_account.specs.RuleList.{rule_list};
+ghost use Rattle.feature_rules.specs.Closed.{IsOn};
+ghost use Rattle.feature_rules.specs.RuleList.{rule_list};
 ghost use Rattle.account_making.specs.Lowest.{IsLowestAccount, IsLooksOf};
 ghost use Rattle.feature_questions.specs.Switching.{Accounts, AreOn, SwitchesOn, unknown_extra};
 

@@ -5,8 +5,8 @@ use Rattle.std.proofs.lemmas.List.{take_more}
 use Rattle.std.proofs.lemmas.List.Elements.{filter_map-append}
 use Rattle.workspace_record.specs.Features.{FeatureValue}
 use Rattle.feature_account.specs.Accounts.{concludes, conclusions}
-use Rattle.feature_account.specs.Closed.{IsOn}
-use Rattle.feature_account.specs.declared.rule.Rule.{Rule}
+use Rattle.feature_rules.specs.Closed.{IsOn}
+use Rattle.feature_rules.specs.declared.rule.Rule.{Rule}
 use Rattle.feature_account.proofs.ConcludedFacts.{concluded_iff}
 
 -- what one entry more concludes

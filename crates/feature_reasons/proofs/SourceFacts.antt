@@ -4,10 +4,10 @@ use Rattle.std.proofs.lemmas.List.{map-append}
 use Rattle.workspace_record.specs.Records.{FeatureEntry, Package, Workspace}
 use Rattle.workspace_record.specs.Choices.{Choice}
 use Rattle.workspace_record.specs.declared.choice.PlatformTable.{PlatformTable}
-use Rattle.feature_account.specs.Entries.{entry_value}
-use Rattle.feature_account.specs.Lines.{first_of_each}
-use Rattle.feature_account.specs.RuleList.{base_rules, chosen_features, entry_rules, feature_rules, given, link_rules, named_of, rule_list, rules_of_entry}
-use Rattle.feature_account.specs.declared.rule.Rule.{Rule}
+use Rattle.feature_rules.specs.Entries.{entry_value}
+use Rattle.counting_lines.specs.Lines.{first_of_each}
+use Rattle.feature_rules.specs.RuleList.{base_rules, chosen_features, entry_rules, feature_rules, given, link_rules, named_of, rule_list, rules_of_entry}
+use Rattle.feature_rules.specs.declared.rule.Rule.{Rule}
 use Rattle.feature_reasons.specs.Sources.{Source, Sourced, Chosen, OfPackage, OfEntry, OfLine, from_source, sourced_entries, sourced_entry, sourced_feature, sourced_link, sourced_package, sourced_rules}
 
 abbrev rule_in : Sourced → Rule

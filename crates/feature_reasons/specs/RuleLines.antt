@@ -3,9 +3,9 @@ use Rattle.std.specs.Prelude.{ℕ, ◌+◌, List, [], ◌∷◌, ◌++◌, codes
 use Rattle.std.specs.List.{flat_map}
 use Rattle.std.specs.Option.{option_map_or}
 use Rattle.workspace_record.specs.Records.{Text}
-use Rattle.feature_account.specs.declared.rule.Premises.{Premises}
-use Rattle.feature_account.specs.declared.rule.Premises.TheVariants as premises
-use Rattle.feature_account.specs.declared.rule.Rule.{Rule}
+use Rattle.feature_rules.specs.declared.rule.Premises.{Premises}
+use Rattle.feature_rules.specs.declared.rule.Premises.TheVariants as premises
+use Rattle.feature_rules.specs.declared.rule.Rule.{Rule}
 use Rattle.guppy_feature_ids.specs.Printing.{feature_text}
 use Rattle.feature_reasons.specs.Sources.{Source, Sourced, Chosen, OfPackage, OfEntry, OfLine}
 

@@ -4,10 +4,10 @@ use Rattle.std.specs.List.{flat_map}
 use Rattle.workspace_record.specs.Records.{Text, FeatureEntry, Package, Link, Workspace}
 use Rattle.workspace_record.specs.Choices.{Choice}
 use Rattle.workspace_record.specs.declared.choice.PlatformTable.{PlatformTable}
-use Rattle.feature_account.specs.Entries.{entry_value}
-use Rattle.feature_account.specs.Lines.{first_of_each}
-use Rattle.feature_account.specs.RuleList.{base_rules, chosen_features, given, link_rules, named_of, rules_of_entry}
-use Rattle.feature_account.specs.declared.rule.Rule.{Rule}
+use Rattle.feature_rules.specs.Entries.{entry_value}
+use Rattle.counting_lines.specs.Lines.{first_of_each}
+use Rattle.feature_rules.specs.RuleList.{base_rules, chosen_features, given, link_rules, named_of, rules_of_entry}
+use Rattle.feature_rules.specs.declared.rule.Rule.{Rule}
 
 pub data Source : Type 0 where
   -- the choice of features

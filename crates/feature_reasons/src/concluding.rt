@@ -4,9 +4,9 @@ ghost use Rattle.std.specs.Prelude.{◌≡◌, ◌↔◌, [], ◌∷◌, ◌++�
 ghost use Rattle.std.specs.List.Sorted.{IsStrictlySortedBy};
 ghost use Rattle.workspace_record.specs.Features.{FeatureValue, feature_cmp};
 ghost use Rattle.feature_account.specs.Accounts.{conclusions};
-ghost use Rattle.feature_account.specs.Closed.{IsOn};
+ghost use Rattle.feature_rules.specs.Closed.{IsOn};
 ghost use Rattle.feature_account.specs.Explanations.{IsExplanation};
-ghost use Rattle.feature_account.specs.RuleList.{rule_list};
+ghost use Rattle.feature_rules.specs.RuleList.{rule_list};
 ghost use Rattle.account_making.specs.Lowest.{IsLowestAccount};
 
 use account_explaining::explanation_of;

@@ -1,14 +1,14 @@
 //! The rules of a record, a choice and a table, each with what it comes from.
 
 ghost use Rattle.std.specs.Prelude.{◌≡◌, ◌++◌, [], IfOk, OnOk, flat_map, map, string_bytes};
-ghost use Rattle.feature_account.specs.RuleList.{given};
+ghost use Rattle.feature_rules.specs.RuleList.{given};
 ghost use Rattle.feature_reasons.specs.SourceViews.{source_view, sourced_view};
 ghost use Rattle.feature_reasons.specs.Sources.{Chosen, from_source, sourced_entries, sourced_entry, sourced_feature, sourced_link, sourced_package, sourced_rules};
 
 use crate::rule_source::RuleSource;
 use crate::sourced_rule::SourcedRule;
-use feature_account::parts::{entry_rules, given_rule, link_rules, package_rules};
 use feature_account::{Rule, chosen_features};
+use feature_rules::parts::{entry_rules, given_rule, link_rules, package_rules};
 use record_index::{PackageIndex, RecordIndex};
 use std::alloc::{AllocError, Global};
 use workspace_record::{

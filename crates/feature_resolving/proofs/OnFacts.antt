@@ -4,8 +4,8 @@ use Rattle.workspace_record.specs.Records.{Workspace}
 use Rattle.workspace_record.specs.Choices.{Choice}
 use Rattle.workspace_record.specs.Features.{FeatureValue}
 use Rattle.workspace_record.specs.declared.choice.PlatformTable.{PlatformTable}
-use Rattle.feature_account.specs.Closed.{IsOn}
-use Rattle.feature_account.specs.RuleList.{rule_list}
+use Rattle.feature_rules.specs.Closed.{IsOn}
+use Rattle.feature_rules.specs.RuleList.{rule_list}
 use Rattle.record_rules.specs.RecordRules.{fault_of}
 use Rattle.guppy_package_table.specs.Tables.{IsTableOf, TableValue}
 use Rattle.guppy_feature_nodes.specs.Graphs.{FeatureGraphValue, IsFeatureGraph}

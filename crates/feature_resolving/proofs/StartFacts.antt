@@ -24,11 +24,11 @@ use Rattle.workspace_record.specs.Choices.{Choice}
 use Rattle.workspace_record.specs.Features.{FeatureValue, LabelValue, Base, Named, Dep, feature_eq, features_decide}
 use Rattle.workspace_record.specs.declared.kinds.Standard.{Standard}
 use Rattle.workspace_record.specs.declared.kinds.Standard.TheVariants as chosen
-use Rattle.feature_account.specs.Closed.{FeatureSet}
-use Rattle.feature_account.specs.IsRule.{HasFeature}
-use Rattle.feature_account.specs.Lines.{first_of_each, is_member, is_workspace_package, package_of}
-use Rattle.feature_account.specs.RuleList.{base_of, chosen_features, default_features, default_name, dep_of, has_feature, has_optional, member_features, named_of, own_features, standard_features}
-use Rattle.feature_account.proofs.LineFacts.{Contains-first_of_each, finds-first_of_each, named-Decides}
+use Rattle.feature_rules.specs.Closed.{FeatureSet}
+use Rattle.feature_rules.specs.IsRule.{HasFeature}
+use Rattle.counting_lines.specs.Lines.{first_of_each, is_member, is_workspace_package, package_of}
+use Rattle.feature_rules.specs.RuleList.{base_of, chosen_features, default_features, default_name, dep_of, has_feature, has_optional, member_features, named_of, own_features, standard_features}
+use Rattle.feature_rules.proofs.LineFacts.{Contains-first_of_each, finds-first_of_each, named-Decides}
 use Rattle.guppy_package_table.specs.Tables.{ids_of, place_among}
 use Rattle.guppy_package_table.proofs.Places.{ends_before}
 use Rattle.guppy_package_graph.specs.Finding.{IsAt}

@@ -3,8 +3,8 @@ use Rattle.std.specs.Prelude.{Bool, true, false, ◌&&◌}
 use Rattle.std.specs.Option.{option_map_or}
 use Rattle.workspace_record.specs.Records.{Package, Workspace}
 use Rattle.workspace_record.specs.Features.{LabelValue, Base, Named, Dep, FeatureValue}
-use Rattle.feature_account.specs.Lines.{is_workspace_package, package_of}
-use Rattle.feature_account.specs.RuleList.{has_feature, has_optional}
+use Rattle.counting_lines.specs.Lines.{is_workspace_package, package_of}
+use Rattle.feature_rules.specs.RuleList.{has_feature, has_optional}
 
 -- the package has a feature of this label
 abbrev pub has_label : Package → LabelValue → Bool

@@ -6,7 +6,7 @@ use Rattle.numbered_offers.specs.declared.offer.Offer.{Offer}
 use Rattle.numbered_offers.specs.Least.{IsClosed as AreEdgesClosed, IsLeast}
 use Rattle.workspace_record.specs.Features.{FeatureValue}
 use Rattle.workspace_record.specs.declared.choice.PlatformTable.{PlatformTable}
-use Rattle.feature_account.specs.Closed.{FeatureSet}
+use Rattle.feature_rules.specs.Closed.{FeatureSet}
 use Rattle.guppy_package_graph.specs.Directions.{direction_of}
 use Rattle.guppy_feature_nodes.specs.Graphs.{FeatureGraphValue, feature_at}
 use Rattle.guppy_feature_nodes.specs.Offering.{offers_of}

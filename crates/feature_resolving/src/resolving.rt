@@ -3,8 +3,8 @@
 ghost use Rattle.std.specs.Prelude.{◌≡◌, ◌↔◌, None, true, All, Contains, IfOk};
 ghost use Rattle.std.specs.List.Sorted.{IsStrictlySortedBy};
 ghost use Rattle.workspace_record.specs.Features.{FeatureValue, feature_cmp};
-ghost use Rattle.feature_account.specs.Closed.{IsOn};
-ghost use Rattle.feature_account.specs.RuleList.{rule_list};
+ghost use Rattle.feature_rules.specs.Closed.{IsOn};
+ghost use Rattle.feature_rules.specs.RuleList.{rule_list};
 ghost use Rattle.record_rules.specs.RecordRules.{fault_of};
 ghost use Rattle.guppy_row_parts.specs.declared.dependency_direction.DependencyDirection.TheVariants.{Forward};
 ghost use Rattle.guppy_package_table.specs.Tables.{IsTableOf};

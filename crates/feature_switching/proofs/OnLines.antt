@@ -9,7 +9,7 @@ use Rattle.list_facts.proofs.Quantifiers.{All-from_Contains}
 use Rattle.workspace_record.specs.Records.{Text, Target}
 use Rattle.workspace_record.specs.Features.{FeatureValue}
 use Rattle.feature_account.specs.Accounts.{concluded_set}
-use Rattle.feature_account.specs.RuleList.{named_of}
+use Rattle.feature_rules.specs.RuleList.{named_of}
 use Rattle.feature_switching.specs.OnLines.{HasRequired}
 use Rattle.feature_account.proofs.ConcludedFacts.{concluded_iff}
 

@@ -3,8 +3,8 @@ use Rattle.std.specs.Prelude.{◌≡◌, true, Contains}
 use Rattle.workspace_record.specs.Records.{Text, Line, Link, Target, Workspace}
 use Rattle.workspace_record.specs.Features.{FeatureValue}
 use Rattle.workspace_record.specs.declared.choice.PlatformTable.{PlatformTable}
-use Rattle.feature_account.specs.Lines.{counts}
-use Rattle.feature_account.specs.RuleList.{line_start, named_of}
+use Rattle.counting_lines.specs.Lines.{counts}
+use Rattle.feature_rules.specs.RuleList.{line_start, named_of}
 use Rattle.record_rules.specs.Binaries.{Binary}
 
 -- a line is on where it counts and its start is: its source, or the optional dependency

@@ -3,7 +3,7 @@
 ghost use Rattle.std.specs.Prelude.{◌≡◌, ◌↔◌, IsTrue, Contains, string_bytes};
 ghost use Rattle.std.specs.List.{list_all};
 ghost use Rattle.feature_account.specs.Accounts.{concluded_set};
-ghost use Rattle.feature_account.specs.RuleList.{named_of};
+ghost use Rattle.feature_rules.specs.RuleList.{named_of};
 ghost use Rattle.feature_switching.specs.OnLines.{HasRequired};
 
 use crate::features::FeaturesOn;

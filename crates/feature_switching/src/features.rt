@@ -5,7 +5,7 @@ ghost use Rattle.std.specs.List.Sorted.{IsStrictlySortedBy};
 ghost use Rattle.list_facts.specs.Ascending.{IsAscendingOf};
 ghost use Rattle.workspace_record.specs.Features.{FeatureValue, feature_cmp};
 ghost use Rattle.feature_account.specs.Accounts.{concluded_set};
-ghost use Rattle.feature_account.specs.RuleList.{base_of, named_of, dep_of};
+ghost use Rattle.feature_rules.specs.RuleList.{base_of, named_of, dep_of};
 ghost use Rattle.feature_switching.specs.Digits.{digits};
 
 use crate::search::{finds, finds_counted};

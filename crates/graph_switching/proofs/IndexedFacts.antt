@@ -3,7 +3,7 @@ use Rattle.std.proofs.Common.{◌≡◌, Bool, true, false, ◌&&◌, refl}
 use Rattle.std.specs.Str.{bytes_eq}
 use Rattle.workspace_record.specs.Features.{feature_eq}
 use Rattle.workspace_record.specs.Records.{Text}
-use Rattle.feature_account.specs.RuleList.{base_of}
+use Rattle.feature_rules.specs.RuleList.{base_of}
 
 both_true : (b : Bool) → b ≡ (b && true)
 both_true true = refl

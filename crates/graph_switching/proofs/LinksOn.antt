@@ -9,7 +9,7 @@ use Rattle.list_facts.proofs.Quantifiers.{list_any_cases}
 use Rattle.workspace_record.specs.Records.{Link}
 use Rattle.workspace_record.specs.Features.{FeatureValue}
 use Rattle.workspace_record.specs.declared.choice.PlatformTable.{PlatformTable}
-use Rattle.feature_account.specs.Lines.{is_workspace_package}
+use Rattle.counting_lines.specs.Lines.{is_workspace_package}
 use Rattle.package_rules.specs.Kept.{AreKept, IsPackageId, IsRequirement}
 use Rattle.package_rules.specs.Rules.{link_key}
 use Rattle.guppy_package_table.specs.Tables.{TableValue}

@@ -8,7 +8,7 @@ use Rattle.workspace_record.specs.Records.{Link}
 use Rattle.workspace_record.specs.Features.{FeatureValue}
 use Rattle.workspace_record.specs.declared.choice.PlatformTable.{PlatformTable}
 use Rattle.workspace_record.specs.declared.kinds.LineKind.TheVariants.{Dev}
-use Rattle.feature_account.specs.Lines.{is_workspace_package}
+use Rattle.counting_lines.specs.Lines.{is_workspace_package}
 use Rattle.numbered_graph.specs.Links.{AreWithin, link_at, near_at}
 use Rattle.numbered_graph.specs.declared.direction.Direction.TheVariants.{Forward, Reverse}
 use Rattle.numbered_graph.specs.declared.link.Link as numbered

@@ -7,7 +7,7 @@ use Rattle.std.proofs.lemmas.List.{get_or-map}
 use Rattle.std.proofs.lemmas.Option.{get_or_from_slice_get, same_Some, slice_get_within}
 use Rattle.workspace_record.specs.Records.{Link, Package, Text}
 use Rattle.record_index.proofs.PackageFacts.{some-find}
-use Rattle.feature_account.specs.Lines.{is_workspace_package}
+use Rattle.counting_lines.specs.Lines.{is_workspace_package}
 use Rattle.numbered_graph.specs.Links.{link_at}
 use Rattle.package_rules.specs.Kept.{IsPackageId}
 use Rattle.package_rules.proofs.KeptFacts.{known_iff}

@@ -5,7 +5,7 @@ use Rattle.numbered_graph.specs.Paths.{Reaches, any_link}
 use Rattle.numbered_graph.specs.Sets.{has}
 use Rattle.workspace_record.specs.Records.{Link, Package, Text}
 use Rattle.workspace_record.specs.Features.{FeatureValue}
-use Rattle.feature_account.specs.RuleList.{base_of}
+use Rattle.feature_rules.specs.RuleList.{base_of}
 use Rattle.package_rules.specs.Kept.{IsPackageId}
 use Rattle.guppy_package_table.specs.Tables.{firm_flags, ids_of, links_among}
 

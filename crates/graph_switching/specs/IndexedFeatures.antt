@@ -6,7 +6,7 @@ use Rattle.workspace_record.specs.Features.{FeatureValue}
 use Rattle.workspace_record.specs.Records.{Text}
 use Rattle.record_index.specs.TextSets.{has_text}
 use Rattle.feature_account.specs.Accounts.{concluded_set}
-use Rattle.feature_account.specs.RuleList.{base_of}
+use Rattle.feature_rules.specs.RuleList.{base_of}
 
 -- the set has the ids of the packages whose bases are among the features
 abbrev pub FindsPackages : {S : Type 0} → List FeatureValue → IndexSet (Bor Text) S → Type 0

@@ -5,8 +5,8 @@ use Rattle.workspace_record.specs.Records.{Line, Link, Workspace}
 use Rattle.workspace_record.specs.Features.{FeatureValue}
 use Rattle.workspace_record.specs.declared.choice.PlatformTable.{PlatformTable}
 use Rattle.feature_account.specs.Accounts.{concluded_set}
-use Rattle.feature_account.specs.Lines.{counts_for, is_in_force, is_workspace_package}
-use Rattle.feature_account.specs.RuleList.{line_start}
+use Rattle.counting_lines.specs.Lines.{counts_for, is_in_force, is_workspace_package}
+use Rattle.feature_rules.specs.RuleList.{line_start}
 use Rattle.guppy_package_table.specs.Tables.{TableValue}
 
 -- the rows of a graph as a record, without groups

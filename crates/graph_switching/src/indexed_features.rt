@@ -5,7 +5,7 @@ ghost use Rattle.workspace_record.specs.Features.{feature_eq};
 ghost use Rattle.workspace_record.specs.Records.{Text};
 ghost use Rattle.record_index.specs.TextSets.{has_text};
 ghost use Rattle.feature_account.specs.Accounts.{concluded_set};
-ghost use Rattle.feature_account.specs.RuleList.{base_of, dep_of};
+ghost use Rattle.feature_rules.specs.RuleList.{base_of, dep_of};
 ghost use Rattle.graph_switching.specs.IndexedFeatures.{FindsPackages};
 
 use feature_switching::FeaturesOn;

@@ -5,14 +5,14 @@ ghost use Rattle.std.specs.List.{list_any};
 ghost use Rattle.std.specs.List.Sorted.{IsStrictlyIncreasing};
 ghost use Rattle.workspace_record.specs.LinesAt.{lines_at};
 ghost use Rattle.feature_account.specs.Accounts.{concluded_set};
-ghost use Rattle.feature_account.specs.Lines.{counts_for};
-ghost use Rattle.feature_account.specs.RuleList.{line_start};
+ghost use Rattle.counting_lines.specs.Lines.{counts_for};
+ghost use Rattle.feature_rules.specs.RuleList.{line_start};
 ghost use Rattle.workspace_record.specs.declared.kinds.LineKind.TheVariants.{Dev};
 ghost use Rattle.guppy_package_parts.specs.Lines.{is_kind};
 ghost use Rattle.graph_switching.specs.LinesOn.{line_is_on};
 
 use crate::indexed_features::IndexedFeatures;
-use feature_account::lines::is_in_force;
+use counting_lines::is_in_force;
 use std::alloc::{AllocError, Global};
 use workspace_record::{LineKind, LineRecord, LinkRecord, PlatformTable};
 

@@ -3,7 +3,7 @@
 ghost use Rattle.std.specs.Prelude.{◌≡◌, ◌++◌, ◌<◌, ℕ, List, [], ◌∷◌, All, IfOk, OnOk, filter, length, map, nat_lt, reverse, slice_index_or, if◌then◌else◌};
 ghost use Rattle.list_facts.specs.Texts.{texts};
 ghost use Rattle.feature_account.specs.Accounts.{concluded_set};
-ghost use Rattle.feature_account.specs.RuleList.{base_of};
+ghost use Rattle.feature_rules.specs.RuleList.{base_of};
 ghost use Rattle.numbered_graph.specs.Links.{AreWithin};
 ghost use Rattle.numbered_graph.specs.Listings.{IsListing};
 ghost use Rattle.numbered_graph.specs.Sets.{has};

@@ -4,12 +4,12 @@ use Rattle.list_facts.proofs.Membership.{Contains-filter}
 use Rattle.workspace_record.specs.Records.{Text, Line, Link, Package, Workspace}
 use Rattle.workspace_record.specs.Choices.{Choice}
 use Rattle.workspace_record.specs.declared.choice.PlatformTable.{PlatformTable}
-use Rattle.feature_account.specs.Closed.{IsOn}
-use Rattle.feature_account.specs.IsRule.{Counts, IsFound, dep_base, line_base}
-use Rattle.feature_account.specs.Lines.{counts}
-use Rattle.feature_account.specs.RuleList.{base_of, dep_of, implies, line_start, rule_list}
-use Rattle.feature_account.proofs.LineFacts.{counting_lines_iff}
-use Rattle.feature_account.proofs.RuleFacts.{rule_list_iff}
+use Rattle.feature_rules.specs.Closed.{IsOn}
+use Rattle.feature_rules.specs.IsRule.{Counts, IsFound, dep_base, line_base}
+use Rattle.counting_lines.specs.Lines.{counts}
+use Rattle.feature_rules.specs.RuleList.{base_of, dep_of, implies, line_start, rule_list}
+use Rattle.feature_rules.proofs.LineFacts.{counting_lines_iff}
+use Rattle.feature_rules.proofs.RuleFacts.{rule_list_iff}
 use Rattle.package_rules.specs.Kept.{IsPackageId}
 use Rattle.record_rules.specs.RecordRules.{fault_of}
 use Rattle.feature_switching.specs.OnLines.{LineIsOn}

@@ -4,12 +4,12 @@ use Rattle.workspace_record.specs.Records.{FeatureEntry, Text, Line, Link, Packa
 use Rattle.workspace_record.specs.Choices.{Choice}
 use Rattle.workspace_record.specs.Features.{FeatureValue}
 use Rattle.workspace_record.specs.declared.choice.PlatformTable.{PlatformTable}
-use Rattle.feature_account.specs.Closed.{IsOn}
-use Rattle.feature_account.specs.IsRule.{Counts, HasEntry, HasFeature, IsFound, IsInForce, IsInWorkspace, IsMember, IsRule, LeadsTo, TargetHas, member_base, member_default, member_named, member_dep, extra, named_base, dep_base, own_entry, dependency_entry, strong_feature, strong_dependency, strong_name, weak_required, weak_optional, line_base, line_default, line_feature}
-use Rattle.feature_account.specs.Lines.{package_of}
-use Rattle.feature_account.specs.RuleList.{base_of, both_imply, default_name, dep_of, given, implies, line_start, named_of, rule_list}
-use Rattle.feature_account.specs.declared.rule.Rule.{Rule}
-use Rattle.feature_account.proofs.RuleFacts.{rule_list_iff}
+use Rattle.feature_rules.specs.Closed.{IsOn}
+use Rattle.feature_rules.specs.IsRule.{Counts, HasEntry, HasFeature, IsFound, IsInForce, IsInWorkspace, IsMember, IsRule, LeadsTo, TargetHas, member_base, member_default, member_named, member_dep, extra, named_base, dep_base, own_entry, dependency_entry, strong_feature, strong_dependency, strong_name, weak_required, weak_optional, line_base, line_default, line_feature}
+use Rattle.counting_lines.specs.Lines.{package_of}
+use Rattle.feature_rules.specs.RuleList.{base_of, both_imply, default_name, dep_of, given, implies, line_start, named_of, rule_list}
+use Rattle.feature_rules.specs.declared.rule.Rule.{Rule}
+use Rattle.feature_rules.proofs.RuleFacts.{rule_list_iff}
 use Rattle.demand_rules.proofs.StandingFacts.{found_alone, found_cases}
 use Rattle.kept_records.specs.Laws.{HaveAlike, IsFeatureReordered, IsLineReordered, IsLinkReordered, IsPackageReordered, IsReordered}
 

@@ -7,9 +7,9 @@ use Rattle.workspace_record.specs.Records.{FeatureEntry, Line, Link, Package, Wo
 use Rattle.workspace_record.specs.Choices.{Choice}
 use Rattle.workspace_record.specs.Features.{FeatureValue}
 use Rattle.workspace_record.specs.declared.choice.PlatformTable.{PlatformTable}
-use Rattle.feature_account.specs.Closed.{FeatureSet, IsOn}
-use Rattle.feature_account.specs.IsRule.{IsMember}
-use Rattle.feature_account.specs.RuleList.{base_of, rule_list}
+use Rattle.feature_rules.specs.Closed.{FeatureSet, IsOn}
+use Rattle.feature_rules.specs.IsRule.{IsMember}
+use Rattle.feature_rules.specs.RuleList.{base_of, rule_list}
 use Rattle.feature_switching.specs.OnLines.{LineIsOn}
 use Rattle.guppy_feature_nodes.specs.Graphs.{FeatureGraphValue, IsFeatureGraph, feature_at}
 use Rattle.guppy_feature_nodes.specs.Offering.{offers_of}

@@ -14,7 +14,7 @@ use Rattle.numbered_offers.specs.Least.{IsClosed}
 use Rattle.workspace_record.specs.Records.{Text}
 use Rattle.workspace_record.specs.Features.{FeatureValue}
 use Rattle.workspace_record.specs.declared.choice.PlatformTable.{PlatformTable}
-use Rattle.feature_account.specs.Lines.{counts_for}
+use Rattle.counting_lines.specs.Lines.{counts_for}
 use Rattle.guppy_package_table.specs.Tables.{member_of}
 use Rattle.guppy_feature_demands.specs.Demands.{FormValue, FeatureToBase, NamedFeature, NamedFeatureDepColon, StrongSlash, WeakSlash, DependenciesSection, NumberedValue}
 use Rattle.guppy_feature_edges.specs.Joining.{AreJoined, JoinedValue, Key, gives_way_to}

@@ -7,7 +7,7 @@ use Rattle.workspace_record.specs.Records.{Line}
 use Rattle.workspace_record.specs.declared.choice.PlatformTable.{PlatformTable}
 use Rattle.workspace_record.specs.declared.kinds.LineKind.{LineKind}
 use Rattle.workspace_record.specs.declared.kinds.LineKind.TheVariants.{Normal, Build, Dev}
-use Rattle.feature_account.specs.Lines.{counts_for, is_in_force}
+use Rattle.counting_lines.specs.Lines.{counts_for, is_in_force}
 use Rattle.guppy_feature_views.specs.Links.{LinkValue, lines_behind}
 use Rattle.line_verdicts.specs.Verdicts.{HasCountingLine, in_force_of, some_counts, starts_in_workspace}
 

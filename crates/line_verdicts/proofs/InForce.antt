@@ -4,7 +4,7 @@ use Rattle.std.specs.List.{list_any}
 use Rattle.workspace_record.specs.Records.{Text}
 use Rattle.workspace_record.specs.Tables.{answer}
 use Rattle.workspace_record.specs.declared.choice.PlatformTable.{PlatformTable}
-use Rattle.feature_account.specs.Lines.{is_in_force}
+use Rattle.counting_lines.specs.Lines.{is_in_force}
 use Rattle.guppy_package_parts.specs.Statuses.{Asked, AskedPlatforms, IsStatusOf, StatusValue, kept_specs, spec_answer, status_of}
 use Rattle.guppy_package_parts.specs.Ternaries.{greater, ternary_of}
 use Rattle.guppy_package_parts.specs.declared.enabled_ternary.EnabledTernary.{EnabledTernary}

@@ -7,7 +7,7 @@ use Rattle.workspace_record.specs.Kinds.{line_kinds_decide}
 use Rattle.workspace_record.specs.Records.{Line}
 use Rattle.workspace_record.specs.declared.choice.PlatformTable.{PlatformTable}
 use Rattle.workspace_record.specs.declared.kinds.LineKind.{LineKind}
-use Rattle.feature_account.specs.Lines.{counts_for, is_in_force}
+use Rattle.counting_lines.specs.Lines.{counts_for, is_in_force}
 use Rattle.guppy_package_parts.specs.Lines.{is_kind, line_at}
 use Rattle.guppy_feature_nodes.specs.Lines.{declares, declares_kind_at}
 use Rattle.guppy_feature_nodes.proofs.EdgeFacts.{filter_map-cases}

@@ -2,9 +2,9 @@
 use Rattle.std.proofs.Common.{◌≡◌, ℕ, List, All, Contains, Some, refl, sym, subst, ap, ◌∙◌}
 use Rattle.workspace_record.specs.Records.{Text, Line, Link, Package}
 use Rattle.workspace_record.specs.Features.{FeatureValue, label_name}
-use Rattle.feature_account.specs.Entries as account
-use Rattle.feature_account.specs.IsEntry.{IsEntry}
-use Rattle.feature_account.specs.IsRule.{HasEntry}
+use Rattle.feature_rules.specs.Entries as account
+use Rattle.feature_rules.specs.IsEntry.{IsEntry}
+use Rattle.feature_rules.specs.IsRule.{HasEntry}
 use Rattle.guppy_feature_demands.specs.Demands.{DemandValue, StrongSlash, WeakSlash, NumberedValue, demands_of, kept_demands, leads_by}
 use Rattle.guppy_feature_demands.specs.Nodes.{named_of, nodes_of}
 use Rattle.demand_rules.specs.RecordGraphs.{HasDistinctFeatures}

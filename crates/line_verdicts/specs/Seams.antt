@@ -8,8 +8,8 @@ use Rattle.workspace_record.specs.Records.{Workspace}
 use Rattle.workspace_record.specs.Choices.{Choice}
 use Rattle.workspace_record.specs.Features.{FeatureValue}
 use Rattle.workspace_record.specs.declared.choice.PlatformTable.{PlatformTable}
-use Rattle.feature_account.specs.Closed.{FeatureSet, IsOn}
-use Rattle.feature_account.specs.RuleList.{rule_list}
+use Rattle.feature_rules.specs.Closed.{FeatureSet, IsOn}
+use Rattle.feature_rules.specs.RuleList.{rule_list}
 use Rattle.guppy_feature_demands.specs.Demands.{demands_of, kept_demands}
 use Rattle.guppy_feature_demands.specs.Nodes.{nodes_of}
 use Rattle.guppy_feature_nodes.specs.Graphs.{FeatureGraphValue, IsFeatureGraph, feature_at}

@@ -5,7 +5,7 @@ use Rattle.workspace_record.specs.Records.{Line}
 use Rattle.workspace_record.specs.declared.choice.PlatformTable.{PlatformTable}
 use Rattle.workspace_record.specs.declared.kinds.LineKind.{LineKind}
 use Rattle.workspace_record.specs.declared.kinds.LineKind.TheVariants.{Normal, Build, Dev}
-use Rattle.feature_account.specs.Lines.{counts_for, is_in_force}
+use Rattle.counting_lines.specs.Lines.{counts_for, is_in_force}
 use Rattle.guppy_package_parts.specs.Statuses.{specs_of}
 use Rattle.guppy_package_table.specs.Tables.{member_of}
 use Rattle.guppy_feature_nodes.specs.Graphs.{feature_at}

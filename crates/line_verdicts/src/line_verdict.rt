@@ -5,7 +5,7 @@ ghost use Rattle.std.specs.List.{list_any};
 ghost use Rattle.workspace_record.specs.Tables.{answer};
 ghost use Rattle.workspace_record.specs.Records.{Text};
 ghost use Rattle.workspace_record.specs.declared.kinds.LineKind.TheVariants.{Dev};
-ghost use Rattle.feature_account.specs.Lines.{is_in_force};
+ghost use Rattle.counting_lines.specs.Lines.{is_in_force};
 ghost use Rattle.guppy_package_parts.specs.Statuses.{AskedPlatforms, IsStatusOf};
 ghost use Rattle.guppy_package_parts.specs.PlatformViews.{spec_view};
 ghost use Rattle.guppy_package_parts.specs.StatusViews.{status_view};

@@ -4,9 +4,9 @@ use Rattle.workspace_record.specs.Records.{Text}
 use Rattle.workspace_record.specs.Features.{FeatureValue}
 use Rattle.feature_account.specs.Accounts.{IsVerdict}
 use Rattle.feature_account.specs.Explanations.{IsExplanationVerdict}
-use Rattle.feature_account.specs.RuleList.{rule_list}
+use Rattle.feature_rules.specs.RuleList.{rule_list}
 use Rattle.feature_account.specs.VerdictTexts.{verdict_text}
-use Rattle.feature_account.specs.declared.rule.Rule.{Rule}
+use Rattle.feature_rules.specs.declared.rule.Rule.{Rule}
 use Rattle.feature_account.specs.declared.verdict.Verdict.{Verdict}
 use Rattle.record_files.specs.Accounts.{AccountValue}
 use Rattle.question_files.specs.declared.inputs.FeatureQuestion.{FeatureQuestion}

@@ -3,7 +3,7 @@ use Rattle.std.proofs.Common.{◌≡◌, ⊎_elim, sym, subst, List, [], flat_ma
 use Rattle.list_facts.proofs.Membership.{Contains-cons_cases, Contains-first, Contains-flat_map, Contains-flat_map_cases, Contains-none}
 use Rattle.workspace_record.specs.Records.{Text}
 use Rattle.workspace_record.specs.Features.{FeatureValue, LabelValue, Base, Named, Dep}
-use Rattle.feature_account.specs.RuleList.{named_of}
+use Rattle.feature_rules.specs.RuleList.{named_of}
 use Rattle.question_filters.specs.NamedFeatures.{AreNamedOn, named_by, named_pair}
 
 -- a pair among those of a feature is that feature's

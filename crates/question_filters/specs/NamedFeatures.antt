@@ -2,7 +2,7 @@
 use Rattle.std.specs.Prelude.{◌↔◌, List, [], ◌∷◌, Contains}
 use Rattle.workspace_record.specs.Records.{Text}
 use Rattle.workspace_record.specs.Features.{FeatureValue, LabelValue, Base, Named, Dep}
-use Rattle.feature_account.specs.RuleList.{named_of}
+use Rattle.feature_rules.specs.RuleList.{named_of}
 
 -- the package's id and the name, if the label has one
 abbrev pub named_by : Text → LabelValue → List (Text × Text)

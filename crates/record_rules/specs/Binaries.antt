@@ -4,7 +4,7 @@ use Rattle.std.specs.List.{flat_map}
 use Rattle.workspace_record.specs.Records.{Text, Target, Package, Workspace}
 use Rattle.workspace_record.specs.declared.kinds.TargetKind.{TargetKind}
 use Rattle.workspace_record.specs.declared.kinds.TargetKind.TheVariants.{Lib, ProcMacro, Test, Bench, Bin, Example, BuildScript}
-use Rattle.feature_account.specs.Lines.{is_member}
+use Rattle.counting_lines.specs.Lines.{is_member}
 use Rattle.nextest_binaries.specs.BinaryIds as ids
 use Rattle.nextest_binaries.specs.declared.build_platform.BuildPlatform.{BuildPlatform}
 use Rattle.nextest_binaries.specs.declared.build_platform.BuildPlatform.TheVariants as platform

@@ -5,7 +5,7 @@ use Rattle.std.specs.Option.{option_map_or, option_or}
 use Rattle.std.specs.Str.{bytes_eq}
 use Rattle.workspace_record.specs.Records.{Text, Package, Link, Workspace}
 use Rattle.record_index.specs.Packages.{has_optional, package_of}
-use Rattle.feature_account.specs.RuleList.{has_feature}
+use Rattle.feature_rules.specs.RuleList.{has_feature}
 use Rattle.package_rules.specs.Places.{first_repeat}
 use Rattle.package_rules.specs.Rules.{earlier, is_distinct, first_broken, package_rules, first_fault}
 use Rattle.package_rules.specs.declared.record_rule.RecordRule.{RecordRule}

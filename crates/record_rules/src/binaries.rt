@@ -1,7 +1,7 @@
 //! The test binaries of a workspace.
 
 ghost use Rattle.std.specs.Prelude.{◌≡◌, ◌++◌, OnOk, IfOk, map, filter};
-ghost use Rattle.feature_account.specs.Lines.{is_member};
+ghost use Rattle.counting_lines.specs.Lines.{is_member};
 ghost use Rattle.package_rules.specs.Found.{finds};
 ghost use Rattle.nextest_binaries.specs.Queries as asked;
 ghost use Rattle.record_rules.specs.Asked.{binary_asked};

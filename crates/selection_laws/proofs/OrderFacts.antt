@@ -3,10 +3,10 @@ use Rattle.std.proofs.Common.{◌≡◌, refl, sym, ap, subst, ◌∙◌, ◌↔
 use Rattle.list_facts.proofs.Membership.{Contains-filter, Contains-filter_cases, Contains-flat_map, Contains-flat_map_cases, Contains-map, Contains-map_cases}
 use Rattle.workspace_record.specs.Records.{Group, Package, Target, Text, Workspace}
 use Rattle.workspace_record.specs.Features.{FeatureValue}
-use Rattle.feature_account.specs.IsRule.{IsMember}
-use Rattle.feature_account.specs.Lines.{is_member}
-use Rattle.feature_account.specs.RuleList.{named_of}
-use Rattle.feature_account.proofs.LineFacts.{is_member-Decides}
+use Rattle.feature_rules.specs.IsRule.{IsMember}
+use Rattle.counting_lines.specs.Lines.{is_member}
+use Rattle.feature_rules.specs.RuleList.{named_of}
+use Rattle.feature_rules.proofs.LineFacts.{is_member-Decides}
 use Rattle.package_rules.specs.Kept.{AreKept}
 use Rattle.record_rules.specs.Binaries.{Binary, binaries, binaries_of, binary_id, binary_of, kind_text, may_have_tests, platform_of}
 use Rattle.kept_records.proofs.KeptFacts.{rows_kept}

@@ -11,9 +11,9 @@ use Rattle.workspace_record.specs.declared.choice.PlatformTable.{PlatformTable}
 use Rattle.workspace_record.specs.declared.kinds.LineKind.{LineKind}
 use Rattle.workspace_record.specs.declared.kinds.LineKind.TheVariants.{Normal, Build, Dev}
 use Rattle.feature_account.specs.Accounts.{concluded_set}
-use Rattle.feature_account.specs.Lines.{counts_for, is_in_force, is_workspace_package}
-use Rattle.feature_account.specs.RuleList.{line_start}
-use Rattle.feature_account.proofs.LineFacts.{is_workspace_package-Decides}
+use Rattle.counting_lines.specs.Lines.{counts_for, is_in_force, is_workspace_package}
+use Rattle.feature_rules.specs.RuleList.{line_start}
+use Rattle.feature_rules.proofs.LineFacts.{is_workspace_package-Decides}
 use Rattle.guppy_package_table.specs.Tables.{IsTableOf, TableValue}
 use Rattle.graph_switching.specs.LinesOn.{is_line_on, is_link_on, links_on, rows_of, with_lines_on}
 use Rattle.kept_records.specs.Laws.{IsLineReordered, IsLinkReordered, IsReordered}

@@ -8,8 +8,8 @@ use Rattle.workspace_record.specs.Features.{FeatureValue, feature_cmp, feature_c
 use Rattle.workspace_record.specs.declared.choice.PlatformTable.{PlatformTable}
 use Rattle.workspace_record.specs.declared.kinds.TargetKind.{TargetKind}
 use Rattle.workspace_record.specs.declared.kinds.TargetKind.TheVariants.{Lib, ProcMacro, Test, Bench, Bin, Example, BuildScript}
-use Rattle.feature_account.specs.Lines.{is_member}
-use Rattle.feature_account.specs.RuleList.{named_of}
+use Rattle.counting_lines.specs.Lines.{is_member}
+use Rattle.feature_rules.specs.RuleList.{named_of}
 use Rattle.feature_switching.proofs.FeatureOrder.{feature_exact}
 use Rattle.graph_switching.specs.LinesOn.{links_on}
 use Rattle.guppy_package_table.specs.Tables.{TableValue}

@@ -2,7 +2,7 @@
 use Rattle.std.specs.Prelude.{◌≡◌, ◌↔◌, IsTrue, List, Option, Some, Contains}
 use Rattle.workspace_record.specs.Records.{Group, Package, Target, Text, Workspace}
 use Rattle.nextest_filtering.specs.SameFilters.{AreBytes}
-use Rattle.feature_account.specs.RuleList.{named_of}
+use Rattle.feature_rules.specs.RuleList.{named_of}
 use Rattle.selection_making.specs.Questions.{IsFeatureOn, Question}
 use Rattle.selection_making.specs.Readings.{AreReadings, Readings}
 use Rattle.selection_making.specs.Selecting.{IsAsked, IsChosen, IsReport}

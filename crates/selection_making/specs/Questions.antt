@@ -4,8 +4,8 @@ use Rattle.workspace_record.specs.Records.{Text, Workspace}
 use Rattle.workspace_record.specs.Features.{FeatureValue}
 use Rattle.workspace_record.specs.Choices.{Choice}
 use Rattle.workspace_record.specs.declared.choice.PlatformTable.{PlatformTable}
-use Rattle.feature_account.specs.Closed.{IsOn}
-use Rattle.feature_account.specs.RuleList.{rule_list}
+use Rattle.feature_rules.specs.Closed.{IsOn}
+use Rattle.feature_rules.specs.RuleList.{rule_list}
 use Rattle.selection_making.specs.declared.asked_binaries.AskedBinaries.{AskedBinaries}
 use Rattle.selection_making.specs.declared.asked_binaries.AskedBinaries.TheVariants.{LetThrough, Available}
 use Rattle.question_filters.specs.declared.scope.LinkScope.{LinkScope}

@@ -10,7 +10,7 @@ use Rattle.list_facts.proofs.Membership.{Contains-none, Contains-first, Contains
 use Rattle.workspace_record.specs.Records.{Text}
 use Rattle.workspace_record.specs.Features.{FeatureValue}
 use Rattle.feature_account.specs.Accounts.{concluded_set}
-use Rattle.feature_account.specs.RuleList.{named_of}
+use Rattle.feature_rules.specs.RuleList.{named_of}
 use Rattle.feature_account.proofs.ConcludedFacts.{concluded_iff}
 use Rattle.record_rules.specs.Binaries.{Binary}
 use Rattle.record_rules.specs.BinaryView.{binary_view}

@@ -2,7 +2,7 @@
 use Rattle.std.specs.Prelude.{◌≡◌, ℕ, ◌<◌, Bool, true, false, List, length, take, Contains, slice_get, Option, Some, None}
 use Rattle.workspace_record.specs.Records.{Text}
 use Rattle.workspace_record.specs.Features.{FeatureValue}
-use Rattle.feature_account.specs.RuleList.{named_of}
+use Rattle.feature_rules.specs.RuleList.{named_of}
 use Rattle.feature_switching.specs.OnLines.{IsAvailable}
 use Rattle.nextest_filter_readiness.specs.Questions.{IsFirst}
 use Rattle.record_rules.specs.Binaries.{Binary}

@@ -2,7 +2,7 @@
 
 ghost use Rattle.std.specs.Prelude.{◌≡◌, Contains, bytes_eq, find, not, option_copied, option_map, string_bytes};
 ghost use Rattle.feature_account.specs.Accounts.{concluded_set};
-ghost use Rattle.feature_account.specs.RuleList.{named_of};
+ghost use Rattle.feature_rules.specs.RuleList.{named_of};
 ghost use Rattle.record_rules.specs.BinaryView.{binary_view};
 ghost use Rattle.selection_reasons.specs.Reasons.{FindsOff};
 

@@ -1,7 +1,7 @@
 use Rattle.std.proofs.Common.{◌≡◌, ◌+◌, ◌-◌, ◌<◌, ◌||◌, [], ◌∷◌, length, take, drop, get_or, reverse, sym, ap, ◌∙◌, subst, arith}
 use Rattle.std.proofs.lemmas.List.{reverse-append}
-use Rattle.feature_account.specs.Closed.{is_premise}
-use Rattle.feature_account.specs.Found.{found_set}
+use Rattle.feature_rules.specs.Closed.{is_premise}
+use Rattle.feature_rules.specs.Found.{found_set}
 use Rattle.feature_account.proofs.ExplanationFacts.{number_known}
 use Rattle.account_explaining.proofs.Selecting.{Selects, skip_step, keep_step}
 use Rattle.account_explaining.proofs.explaining.entries_by.Goals as goal

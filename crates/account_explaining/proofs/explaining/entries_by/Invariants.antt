@@ -1,5 +1,5 @@
 use Rattle.std.proofs.Common.{take, drop, reverse}
-use Rattle.feature_account.specs.Found.{found_set}
+use Rattle.feature_rules.specs.Found.{found_set}
 use Rattle.account_explaining.proofs.Selecting.{Selects}
 use Rattle.account_explaining.proofs.explaining.entries_by.Given as goal
 

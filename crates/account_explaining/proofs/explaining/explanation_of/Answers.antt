@@ -1,7 +1,7 @@
 use Rattle.std.proofs.Common.{◌≢◌, ◌∙◌, [], List, refl, rules, subst}
 use Rattle.workspace_record.specs.Features.{FeatureValue}
 use Rattle.feature_account.specs.Explanations.{IsExplanation}
-use Rattle.feature_account.specs.declared.rule.Rule.{Rule}
+use Rattle.feature_rules.specs.declared.rule.Rule.{Rule}
 use Rattle.account_explaining.proofs.Selecting.{goal_concluded}
 use Rattle.account_explaining.proofs.explaining.explanation_of.Goals as goal
 

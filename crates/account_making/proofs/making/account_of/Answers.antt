@@ -1,8 +1,8 @@
 use Rattle.std.proofs.Common.{◌↔◌, ◌∙◌, IfOk, IsTrue, List, subst}
 use Rattle.workspace_record.specs.Features.{FeatureValue}
 use Rattle.feature_account.specs.Accounts.{concludes}
-use Rattle.feature_account.specs.Closed.{IsOn}
-use Rattle.feature_account.specs.declared.rule.Rule.{Rule}
+use Rattle.feature_rules.specs.Closed.{IsOn}
+use Rattle.feature_rules.specs.declared.rule.Rule.{Rule}
 use Rattle.account_making.proofs.making.account_of.Goals as goal
 
 pub returns-clause-on : goal.returns-clause-on

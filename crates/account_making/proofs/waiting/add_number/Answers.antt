@@ -4,7 +4,7 @@ use Rattle.std.specs.Global.{Global}
 use Rattle.indexmap.specs.Entry.{map_with_value}
 use Rattle.indexmap.specs.IndexMap.{get}
 use Rattle.workspace_record.specs.Features.{feature_eq}
-use Rattle.feature_account.proofs.FoundFacts.{lent_eq}
+use Rattle.feature_rules.proofs.FoundFacts.{lent_eq}
 use Rattle.account_making.specs.Waiting.{waiting_at}
 use Rattle.account_making.proofs.WaitingFacts.{number_added, numbers_at}
 use Rattle.account_making.proofs.waiting.add_number.Goals as goal

@@ -2,7 +2,7 @@ use Rattle.std.proofs.Common.{◌∙◌, ◌↔◌, IsTrue, subst}
 use Rattle.std.specs.Result.{IfOk}
 use Rattle.workspace_record.specs.Features.{FeatureValue}
 use Rattle.feature_account.specs.Accounts.{concludes}
-use Rattle.feature_account.specs.Closed.{IsOn}
+use Rattle.feature_rules.specs.Closed.{IsOn}
 use Rattle.feature_questions.proofs.switching.account_under.Goals as goal
 
 pub returns-clause-on : goal.returns-clause-on

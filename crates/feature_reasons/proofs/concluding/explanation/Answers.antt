@@ -1,6 +1,6 @@
 use Rattle.std.proofs.Common.{◌∙◌, ◌↔◌, IsSome, IfSome, subst}
 use Rattle.std.specs.Result.{IfOk}
-use Rattle.feature_account.specs.Closed.{IsOn}
+use Rattle.feature_rules.specs.Closed.{IsOn}
 use Rattle.feature_account.specs.Explanations.{IsExplanation}
 use Rattle.feature_reasons.proofs.concluding.explanation.Goals as goal
 

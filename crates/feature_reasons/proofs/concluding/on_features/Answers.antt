@@ -1,7 +1,7 @@
 use Rattle.std.proofs.Common.{◌∙◌, ◌↔◌, Contains, subst}
 use Rattle.std.specs.Result.{IfOk}
 use Rattle.workspace_record.specs.Features.{FeatureValue}
-use Rattle.feature_account.specs.Closed.{IsOn}
+use Rattle.feature_rules.specs.Closed.{IsOn}
 use Rattle.feature_reasons.proofs.concluding.on_features.Goals as goal
 
 pub returns-clause-on : goal.returns-clause-on

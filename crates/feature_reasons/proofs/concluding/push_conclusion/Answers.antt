@@ -3,7 +3,7 @@ use Rattle.std.specs.List.{cons_option}
 use Rattle.std.specs.Option.{option_map}
 use Rattle.std.proofs.lemmas.Bool.{ltb-false}
 use Rattle.std.proofs.lemmas.Option.{slice_get_past}
-use Rattle.feature_account.specs.declared.rule.Rule.{Rule}
+use Rattle.feature_rules.specs.declared.rule.Rule.{Rule}
 use Rattle.feature_reasons.proofs.concluding.push_conclusion.Goals as goal
 
 pub returns-in-None : goal.returns-in-None

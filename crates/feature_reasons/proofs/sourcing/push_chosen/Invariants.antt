@@ -1,5 +1,5 @@
 use Rattle.std.proofs.Common.{◌≡◌, ◌++◌, map}
-use Rattle.feature_account.specs.RuleList.{given}
+use Rattle.feature_rules.specs.RuleList.{given}
 use Rattle.feature_reasons.specs.SourceViews.{sourced_view}
 use Rattle.feature_reasons.specs.Sources.{Chosen, from_source}
 use Rattle.feature_reasons.proofs.sourcing.push_chosen.Given as goal

@@ -1,5 +1,5 @@
-use Rattle.feature_account.specs.Closed.{IsOn}
-use Rattle.feature_account.specs.RuleList.{rule_list}
+use Rattle.feature_rules.specs.Closed.{IsOn}
+use Rattle.feature_rules.specs.RuleList.{rule_list}
 use Rattle.feature_resolving.specs.Leading.{IsLedTo}
 use Rattle.feature_resolving.specs.Starts.{IsStart}
 use Rattle.feature_resolving.proofs.OnFacts.{each_on, led_iff_on}

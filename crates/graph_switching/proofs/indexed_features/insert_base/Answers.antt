@@ -2,7 +2,7 @@ use Rattle.std.proofs.Common.{rules, ◌≡◌, ◌∙◌, ◌||◌, ap}
 use Rattle.workspace_record.specs.Features.{feature_eq}
 use Rattle.record_index.specs.TextSets.{has_text}
 use Rattle.record_index.proofs.TextFacts.{text_inserted}
-use Rattle.feature_account.specs.RuleList.{base_of}
+use Rattle.feature_rules.specs.RuleList.{base_of}
 use Rattle.graph_switching.proofs.IndexedFacts.{bases_same}
 use Rattle.graph_switching.proofs.indexed_features.insert_base.Goals as goal
 

@@ -3,7 +3,7 @@ use Rattle.std.proofs.lemmas.List.{length-map}
 use Rattle.workspace_record.specs.Features.{FeatureValue}
 use Rattle.workspace_record.specs.Records.{Text}
 use Rattle.feature_account.specs.Accounts.{concluded_set}
-use Rattle.feature_account.specs.RuleList.{base_of}
+use Rattle.feature_rules.specs.RuleList.{base_of}
 use Rattle.numbered_graph.specs.Links.{AreWithin}
 use Rattle.guppy_package_table.specs.Tables.{firm_flags, ids_of, links_among}
 use Rattle.guppy_package_graph.proofs.PlaceFacts.{ok_more}

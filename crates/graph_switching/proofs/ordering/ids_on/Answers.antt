@@ -2,7 +2,7 @@ use Rattle.std.proofs.Common.{◌≡◌, [], get_or}
 use Rattle.std.proofs.lemmas.List.{get_or_read}
 use Rattle.list_facts.specs.Texts.{texts}
 use Rattle.feature_account.specs.Accounts.{concluded_set}
-use Rattle.feature_account.specs.RuleList.{base_of}
+use Rattle.feature_rules.specs.RuleList.{base_of}
 use Rattle.graph_switching.proofs.OrderFacts.{kept_more}
 use Rattle.graph_switching.proofs.ordering.ids_on.Goals as goal
 

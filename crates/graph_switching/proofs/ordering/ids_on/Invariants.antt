@@ -1,7 +1,7 @@
 use Rattle.std.proofs.Common.{◌≡◌, [], filter, map, slice_index_or, take}
 use Rattle.list_facts.specs.Texts.{texts}
 use Rattle.feature_account.specs.Accounts.{concluded_set}
-use Rattle.feature_account.specs.RuleList.{base_of}
+use Rattle.feature_rules.specs.RuleList.{base_of}
 use Rattle.graph_switching.proofs.ordering.ids_on.Given as goal
 
 abbrev pub invariant-loop-place : goal.invariant-loop-place

@@ -6,7 +6,7 @@ use Rattle.numbered_graph.specs.Links.{link_at}
 use Rattle.package_rules.specs.Kept.{AreKept, IsPackageId}
 use Rattle.guppy_package_table.specs.Tables.{member_path_at, numbered_links}
 use Rattle.guppy_package_graph.specs.Views.{graph_of, number_of, place_of}
-use Rattle.feature_account.specs.Lines.{is_workspace_package}
+use Rattle.counting_lines.specs.Lines.{is_workspace_package}
 use Rattle.graph_switching.specs.LinesOn.{is_link_on, link_on, links_on, rows_of, with_lines_on}
 use Rattle.graph_switching.proofs.LinksOn.{kept_on, links_more}
 use Rattle.graph_switching.proofs.SourceFacts.{source_in_workspace}

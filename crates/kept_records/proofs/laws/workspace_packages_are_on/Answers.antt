@@ -1,7 +1,7 @@
 use Rattle.std.proofs.Common.{refl}
-use Rattle.feature_account.specs.IsRule.{member_base}
-use Rattle.feature_account.specs.RuleList.{base_of, given}
-use Rattle.feature_account.proofs.RuleFacts.{rule_list_iff}
+use Rattle.feature_rules.specs.IsRule.{member_base}
+use Rattle.feature_rules.specs.RuleList.{base_of, given}
+use Rattle.feature_rules.proofs.RuleFacts.{rule_list_iff}
 use Rattle.demand_rules.proofs.StandingFacts.{found_alone}
 use Rattle.kept_records.specs.Laws.{WorkspacePackagesAreOn}
 use Rattle.kept_records.proofs.KeptFacts.{rows_kept}

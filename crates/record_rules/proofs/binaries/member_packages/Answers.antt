@@ -3,7 +3,7 @@ use Rattle.std.specs.List.{list_any}
 use Rattle.std.specs.Str.{bytes_eq}
 use Rattle.list_facts.proofs.Quantifiers.{list_any-map}
 use Rattle.workspace_record.specs.Records.{Text, Package, Workspace}
-use Rattle.feature_account.specs.Lines.{is_member}
+use Rattle.counting_lines.specs.Lines.{is_member}
 use Rattle.package_rules.specs.Found.{finds}
 use Rattle.record_rules.proofs.binaries.member_packages.Goals as goal
 

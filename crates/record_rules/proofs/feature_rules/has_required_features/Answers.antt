@@ -3,7 +3,7 @@ use Rattle.std.specs.List.{list_all, list_any}
 use Rattle.std.specs.Str.{bytes_eq}
 use Rattle.list_facts.proofs.Quantifiers.{list_any-map}
 use Rattle.workspace_record.specs.Records.{Text, FeatureEntry}
-use Rattle.feature_account.specs.RuleList.{has_feature}
+use Rattle.feature_rules.specs.RuleList.{has_feature}
 use Rattle.package_rules.specs.Found.{finds}
 use Rattle.record_rules.proofs.feature_rules.has_required_features.Goals as goal
 

@@ -1,7 +1,7 @@
 use Rattle.std.proofs.Common.{◌≡◌, ◌∙◌, String, Global, None, Some, ap, find, map, not, string_bytes, subst, sym}
 use Rattle.workspace_record.specs.Records.{Text}
 use Rattle.feature_account.specs.Accounts.{concluded_set}
-use Rattle.feature_account.specs.RuleList.{named_of}
+use Rattle.feature_rules.specs.RuleList.{named_of}
 use Rattle.record_rules.specs.BinaryView.{binary_view}
 use Rattle.selection_reasons.proofs.FoundFacts.{none_off, off_found}
 use Rattle.selection_reasons.proofs.finding.first_off.Goals as goal
