@@ -9,7 +9,7 @@ use Rattle.workspace_record.specs.declared.choice.PlatformTable.{PlatformTable}
 use Rattle.guppy_package_table.specs.Tables.{TableValue}
 use Rattle.graph_switching.specs.DependencyOrders.{IsDependencyOrder}
 use Rattle.graph_switching.specs.LinesOn.{links_on}
-use Rattle.record_checks.specs.Contexts.{IsDeclaredGraph}
+use Rattle.record_graphs.specs.Contexts.{IsDeclaredGraph}
 use Rattle.feature_questions.specs.Switching.{AnswersOrRefuses, AreOn}
 use Rattle.record_checks.specs.declared.select_error.SelectError.{SelectError}
 

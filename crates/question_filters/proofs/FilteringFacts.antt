@@ -22,7 +22,7 @@ use Rattle.nextest_filtering.proofs.PickFacts.{more_of}
 use Rattle.graph_switching.specs.LinesOn.{links_on}
 use Rattle.record_checks.specs.Alike.{AreAlike}
 use Rattle.record_checks.specs.Compiling.{AnswersFilters}
-use Rattle.record_checks.specs.Contexts.{HasNamesOf, IsDeclaredGraph}
+use Rattle.record_graphs.specs.Contexts.{HasNamesOf, IsDeclaredGraph}
 use Rattle.record_checks.specs.Errors.{select_error_of}
 use Rattle.record_checks.specs.Groups.{AreGroupsOf}
 use Rattle.record_checks.specs.FilterTexts.{IsAcceptedText, IsCompiledText}

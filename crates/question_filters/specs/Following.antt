@@ -5,7 +5,7 @@ use Rattle.workspace_record.specs.Features.{FeatureValue}
 use Rattle.workspace_record.specs.declared.choice.PlatformTable.{PlatformTable}
 use Rattle.guppy_package_table.specs.Tables.{TableValue, IsTableOf}
 use Rattle.graph_switching.specs.LinesOn.{links_on}
-use Rattle.record_checks.specs.Contexts.{IsDeclaredGraph}
+use Rattle.record_graphs.specs.Contexts.{IsDeclaredGraph}
 use Rattle.question_filters.specs.declared.scope.LinkScope.{LinkScope}
 use Rattle.question_filters.specs.declared.scope.LinkScope.TheVariants.{SwitchedOn, Declared}
 

@@ -8,7 +8,7 @@ ghost use Rattle.nextest_filter_evaluation.specs.Formulas.{leaf};
 ghost use Rattle.nextest_filter_queries.specs.Groups.{AreKnown};
 ghost use Rattle.record_checks.specs.CompiledViews.{filters_view};
 ghost use Rattle.record_checks.specs.RecordFilters.{AreCompiledOf};
-ghost use Rattle.record_checks.specs.Contexts.{HasNamesOf, IsDeclaredGraph};
+ghost use Rattle.record_graphs.specs.Contexts.{HasNamesOf, IsDeclaredGraph};
 ghost use Rattle.question_filters.specs.Errors.{text_error_of};
 ghost use Rattle.question_filters.specs.Filtering.{CompilesGiven, CompilesText, CompilesTexts, Filters};
 ghost use Rattle.question_filters.specs.Following.{IsFollowedIn};
@@ -24,9 +24,9 @@ use guppy_package_graph::{PackageGraph, PackageId};
 use nextest_filtering::errors::FiltersetError;
 use nextest_filtering::{CompiledExpr, FiltersetKind, FiltersetLeaf, KnownGroups, ParseContext};
 use record_checks::{
-    CheckedRecord, RecordFilters, SelectError, compiled_text, context_over, known_groups,
-    record_filters,
+    CheckedRecord, RecordFilters, SelectError, compiled_text, known_groups, record_filters,
 };
+use record_graphs::context_over;
 use std::alloc::{AllocError, Global};
 use workspace_record::{PlatformTable, WorkspaceRecord};
 

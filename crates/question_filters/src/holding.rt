@@ -10,9 +10,9 @@ ghost use Rattle.record_checks.specs.CompiledViews.{filters_view};
 ghost use Rattle.record_checks.specs.Groups.{IsGroupMember};
 
 use crate::question_filters::QuestionFilters;
+use group_tables::GroupTable;
 use nextest_filter_evaluation::NoGroups;
 use nextest_filtering::{CompiledExpr, EvalContext, TestQuery};
-use record_checks::GroupTable;
 use std::alloc::{AllocError, Global};
 
 /// Whether the default filter holds of the test.

@@ -17,7 +17,7 @@ use Rattle.nextest_filtering.proofs.PickFacts.{one_more}
 use Rattle.record_checks.specs.Alike.{AreAlike}
 use Rattle.record_checks.specs.CompiledViews.{group_view}
 use Rattle.record_checks.specs.Compiling.{AnswersFilters, CompilesDefault, CompilesGroup, CompilesGroups}
-use Rattle.record_checks.specs.Contexts.{HasNamesOf}
+use Rattle.record_graphs.specs.Contexts.{HasNamesOf}
 use Rattle.record_checks.specs.Errors.{record_error_of}
 use Rattle.record_checks.specs.FilterTexts.{IsRefusedText}
 use Rattle.record_checks.specs.RecordFilters.{CompiledFilters, HasAcceptedFilter, IsAcceptedDefault, IsCompiledGroup, IsCompiledDefault, IsRefusedDefault, AreCompiledOf, HasAcceptedFilters, RefusesFilter, RefusesGroup}

@@ -1,9 +1,7 @@
 pub mod AlikeFacts
-pub mod ContextFacts
 pub mod BanFacts
 pub mod CheckedFacts
 pub mod FilterFacts
 pub mod GroupFacts
 pub mod MeaningFacts
-pub mod OneRecordFacts
 pub mod OneReadingFacts

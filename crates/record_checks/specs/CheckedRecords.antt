@@ -4,7 +4,7 @@ use Rattle.workspace_record.specs.Records.{Workspace}
 use Rattle.guppy_package_table.specs.Tables.{TableValue}
 use Rattle.record_rules.specs.Binaries.{Binary, binaries}
 use Rattle.record_checks.specs.Checks.{IsChecked}
-use Rattle.record_checks.specs.Contexts.{IsDeclaredGraph}
+use Rattle.record_graphs.specs.Contexts.{IsDeclaredGraph}
 
 -- the record keeps the rules, the graph is that of its packages, and these are its test binaries
 pub record AreFoundIn (w : Workspace) (graph : TableValue) (found : List Binary) : Type 0 where

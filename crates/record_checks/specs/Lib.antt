@@ -3,7 +3,6 @@ pub mod CheckedRecords
 pub mod Checks
 pub mod CompiledViews
 pub mod Compiling
-pub mod Contexts
 pub mod ErrorTexts
 pub mod Errors
 pub mod FaultLines

@@ -14,7 +14,7 @@ use Rattle.nextest_filtering.specs.Contexts.{ContextValue}
 use Rattle.nextest_filtering.specs.Filters.{FilterLeaf}
 use Rattle.nextest_filtering.specs.Filters as filter
 use Rattle.record_checks.specs.Alike.{AreAlike}
-use Rattle.record_checks.specs.Contexts.{HasNamesOf}
+use Rattle.record_graphs.specs.Contexts.{HasNamesOf}
 use Rattle.record_checks.specs.FilterTexts.{IsFilterOf, IsAcceptedText, IsRefusedText, IsCompiledText}
 
 -- what the filters of a record read as: each group's name with its filter, and the default filter

@@ -5,12 +5,12 @@ ghost use Rattle.package_rules.specs.Kept.{AreKept};
 ghost use Rattle.record_rules.specs.Binaries.{binaries};
 ghost use Rattle.record_rules.specs.BinaryView.{binary_view};
 ghost use Rattle.record_checks.specs.Checks.{ChecksRecord, IsChecked};
-ghost use Rattle.record_checks.specs.Contexts.{IsDeclaredGraph};
+ghost use Rattle.record_graphs.specs.Contexts.{IsDeclaredGraph};
 
 use crate::checking::check_filters;
-use crate::graph::{graph_of, shared_graph_of};
 use crate::record_error::RecordError;
 use guppy_package_graph::PackageGraph;
+use record_graphs::{graph_of, shared_graph_of};
 use record_index::RecordIndex;
 use record_rules::binaries::{TestBinary, binaries};
 use record_rules::further_fault_of;

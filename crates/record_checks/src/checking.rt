@@ -2,13 +2,13 @@
 
 ghost use Rattle.record_checks.specs.Checks.{IsChecked};
 ghost use Rattle.record_checks.specs.Compiling.{AnswersFilters, ChecksFilters};
-ghost use Rattle.record_checks.specs.Contexts.{IsDeclaredGraph};
+ghost use Rattle.record_graphs.specs.Contexts.{IsDeclaredGraph};
 
 use crate::checked_record::CheckedRecord;
 use crate::compiled_filters::record_filters;
-use crate::graph::{context_over, graph_of};
 use crate::record_error::RecordError;
 use guppy_package_graph::PackageGraph;
+use record_graphs::{context_over, graph_of};
 use std::alloc::Global;
 use workspace_record::WorkspaceRecord;
 

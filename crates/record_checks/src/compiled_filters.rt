@@ -4,7 +4,7 @@ ghost use Rattle.std.specs.Prelude.{◌≡◌, map};
 ghost use Rattle.nextest_filter_evaluation.specs.Compiled.{compiled_of};
 ghost use Rattle.record_checks.specs.CompiledViews.{filters_view, group_view};
 ghost use Rattle.record_checks.specs.Compiling.{AnswersFilters, CompilesDefault, CompilesGroup, CompilesGroups};
-ghost use Rattle.record_checks.specs.Contexts.{HasNamesOf};
+ghost use Rattle.record_graphs.specs.Contexts.{HasNamesOf};
 ghost use Rattle.record_checks.specs.Errors.{record_error_of};
 ghost use Rattle.record_checks.specs.RecordFilters.{AreCompiledOf};
 

@@ -1,5 +1,4 @@
-//! Whether a record keeps the rules and its filters are accepted, what is found in it while that is tested, and
-//! its groups of tests.
+//! Whether a record keeps the rules and its filters are accepted, and what is found in it while that is tested.
 #![tactic(auto)]
 
 mod checked_record;
@@ -8,9 +7,7 @@ mod compiled_filters;
 mod fault_lines;
 mod filter_parts;
 mod filter_texts;
-mod graph;
 mod group_names;
-mod group_table;
 mod record_error;
 mod select_error;
 
@@ -19,9 +16,7 @@ pub use crate::checking::{check_record, declared_graph};
 pub use crate::compiled_filters::record_filters;
 pub use crate::filter_parts::{GroupFilter, RecordFilters};
 pub use crate::filter_texts::compiled_text;
-pub use crate::graph::{context_over, graph_of, shared_graph_of};
 pub use crate::group_names::known_groups;
-pub use crate::group_table::GroupTable;
 pub use crate::record_error::RecordError;
 pub use crate::select_error::SelectError;
 pub use nextest_filter_faults::{ParseSingleError, SourceSpan};

@@ -13,8 +13,8 @@ use Rattle.nextest_filtering.specs.Acceptance.{IsAccepted, MatchesSome, ban_of}
 use Rattle.nextest_filtering.specs.Contexts.{ContextValue}
 use Rattle.nextest_filtering.specs.Filters.{FilterLeaf, Named, Platform, Default, All}
 use Rattle.nextest_filtering.specs.Filters as filter
-use Rattle.record_checks.specs.Contexts.{HasNamesOf}
-use Rattle.record_checks.proofs.OneRecordFacts.{binaries_too, features_too, packages_too}
+use Rattle.record_graphs.specs.Contexts.{HasNamesOf}
+use Rattle.record_graphs.proofs.OneRecordFacts.{binaries_too, features_too, packages_too}
 use Rattle.selection_laws.specs.Laws.{AcceptedTextsAgree}
 
 one_of_more : (test : NameTest) (ns ms : List Text) → ((n : Text) → Contains ns n → Contains ms n) → SuitsOneOf test ns → SuitsOneOf test ms

@@ -6,7 +6,7 @@ use Rattle.workspace_record.specs.Choices.{Choice}
 use Rattle.workspace_record.specs.declared.choice.PlatformTable.{PlatformTable}
 use Rattle.nextest_filtering.proofs.SameFacts.{same}
 use Rattle.record_checks.proofs.OneReadingFacts.{AreOneReading}
-use Rattle.record_checks.proofs.OneRecordFacts.{byte_packages, one_context}
+use Rattle.record_graphs.proofs.OneRecordFacts.{byte_packages, one_context}
 use Rattle.selection_making.specs.Laws.{HasByteTexts}
 use Rattle.selection_making.specs.Readings.{AreReadings, Readings}
 use Rattle.selection_making.specs.Selecting.{IsAsked, IsChosen}

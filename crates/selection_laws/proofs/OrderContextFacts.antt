@@ -13,8 +13,8 @@ use Rattle.guppy_package_table.specs.Tables.{TableValue, ids_of, place_among}
 use Rattle.graph_switching.specs.LinesOn.{links_on}
 use Rattle.guppy_row_parts.specs.BuildTargets.{id_of}
 use Rattle.nextest_filtering.specs.Contexts.{ContextValue, Leads, binaries_of, binary_kind, features_of, named_binary}
-use Rattle.record_checks.specs.Contexts.{HasNamesOf, IsDeclaredGraph, IsNeeded}
-use Rattle.record_checks.proofs.OneRecordFacts.{leads_too, needed_too}
+use Rattle.record_graphs.specs.Contexts.{HasNamesOf, IsDeclaredGraph, IsNeeded}
+use Rattle.record_graphs.proofs.OneRecordFacts.{leads_too, needed_too}
 use Rattle.question_filters.specs.Following.{IsFollowedIn}
 use Rattle.question_filters.specs.declared.scope.LinkScope.{LinkScope}
 use Rattle.question_filters.specs.declared.scope.LinkScope.TheVariants.{SwitchedOn, Declared}

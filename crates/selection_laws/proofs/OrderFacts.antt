@@ -23,7 +23,7 @@ use Rattle.record_checks.specs.Meaning.{DefaultGivesIn, DefaultHoldsIn, HoldsIn,
 use Rattle.record_checks.specs.RecordFilters.{AreReadingsOf, FilterReadings, IsReadDefault, IsReadGroup}
 use Rattle.feature_questions.specs.Switching.{AreOn}
 use Rattle.record_checks.proofs.OneReadingFacts.{AreOneReading}
-use Rattle.record_checks.proofs.OneRecordFacts.{byte_packages}
+use Rattle.record_graphs.proofs.OneRecordFacts.{byte_packages}
 use Rattle.question_filters.specs.Following.{IsFollowedIn}
 use Rattle.question_filters.specs.NamedFeatures.{AreNamedOn}
 use Rattle.selection_making.specs.Laws.{HasByteFeatures, HasByteTexts}

@@ -14,7 +14,7 @@ use Rattle.nextest_filtering.specs.Filters.{FilterLeaf, Named, Platform, Default
 use Rattle.nextest_filtering.specs.Filters as filter
 use Rattle.nextest_filtering.specs.Meaning.{FilterLeafGives, FilterLeafHolds, IsMatched, IsReachedOf}
 use Rattle.nextest_filtering.proofs.SameFacts.{gives_same, same}
-use Rattle.record_checks.specs.Contexts.{HasNamesOf}
+use Rattle.record_graphs.specs.Contexts.{HasNamesOf}
 use Rattle.record_checks.specs.Groups.{IsGroupOf}
 use Rattle.record_checks.specs.Meaning.{DefaultGivesIn, DefaultHoldsIn, GroupHoldsIn, HoldsIn, IsInGroup, MayHoldIn}
 use Rattle.selection_making.specs.Questions.{Question, WantedIn}

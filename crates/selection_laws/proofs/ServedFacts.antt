@@ -30,11 +30,11 @@ use Rattle.nextest_filtering.specs.SameFilters as same_filters
 use Rattle.nextest_filtering.proofs.AlikeFacts.{alike_say_the_same}
 use Rattle.nextest_filtering.proofs.BareFacts.{read_alike}
 use Rattle.nextest_filtering.proofs.ByteFacts.{bytes_by_test, bytes_joined}
-use Rattle.record_checks.specs.Contexts.{HasNamesOf}
+use Rattle.record_graphs.specs.Contexts.{HasNamesOf}
 use Rattle.record_checks.specs.FilterTexts.{IsAcceptedText, IsRefusedText}
 use Rattle.record_checks.specs.Groups.{AreGroupsOf}
 use Rattle.record_checks.specs.RecordFilters.{HasAcceptedFilters, HasAcceptedFilter, IsAcceptedDefault, IsRefusedDefault, RefusesFilter}
-use Rattle.record_checks.proofs.OneRecordFacts.{byte_packages}
+use Rattle.record_graphs.proofs.OneRecordFacts.{byte_packages}
 use Rattle.record_checks.specs.declared.record_error.RecordError.TheVariants as refused
 use Rattle.record_checks.specs.declared.select_error.SelectError.{SelectError}
 use Rattle.record_checks.specs.declared.select_error.SelectError.TheVariants.{Record, UnknownExtra, Filter, Lister, BadListing, Memory}

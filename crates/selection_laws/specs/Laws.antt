@@ -16,7 +16,7 @@ use Rattle.nextest_filter_evaluation.specs.Formulas.{Formula, has_leaf}
 use Rattle.nextest_filtering.specs.Filters.{FilterLeaf, Named}
 use Rattle.nextest_filtering.specs.Meaning.{IsDependency, IsDependent}
 use Rattle.question_filters.specs.declared.scope.LinkScope.TheVariants.{Declared}
-use Rattle.record_checks.specs.Contexts.{HasNamesOf}
+use Rattle.record_graphs.specs.Contexts.{HasNamesOf}
 use Rattle.record_checks.specs.FilterTexts.{IsAcceptedText}
 use Rattle.record_checks.specs.Groups.{AreGroupsOf}
 use Rattle.selection_making.specs.Laws.{HasByteTests, HasByteTexts}

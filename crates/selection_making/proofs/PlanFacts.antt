@@ -16,7 +16,7 @@ use Rattle.nextest_filter_evaluation.specs.Formulas.{Formula}
 use Rattle.nextest_filtering.specs.Compiling.{IsCompiled}
 use Rattle.nextest_filtering.specs.Filters.{FilterLeaf}
 use Rattle.record_checks.specs.Alike.{AreAlike}
-use Rattle.record_checks.specs.Contexts.{HasNamesOf}
+use Rattle.record_graphs.specs.Contexts.{HasNamesOf}
 use Rattle.record_checks.specs.RecordFilters.{AreMadeOf, AreReadingsOf, FilterReadings}
 use Rattle.feature_questions.specs.Switching.{AreOn}
 use Rattle.record_checks.proofs.MeaningFacts.{readings_of}

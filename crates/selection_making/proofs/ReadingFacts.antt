@@ -25,7 +25,7 @@ use Rattle.record_checks.specs.FilterTexts.{IsFilterOf}
 use Rattle.feature_questions.specs.Switching.{AreOn}
 use Rattle.record_checks.proofs.AlikeFacts.{alike_back, alike_there}
 use Rattle.record_checks.proofs.OneReadingFacts.{AreOneReading, all_alike, default_gives_alike, default_holds_alike, holds_in_alike, may_hold_alike, other_way, texts_alike}
-use Rattle.record_checks.proofs.OneRecordFacts.{byte_packages, one_context}
+use Rattle.record_graphs.proofs.OneRecordFacts.{byte_packages, one_context}
 use Rattle.selection_making.specs.Laws.{HasByteFeatures, HasByteTests, HasByteTexts, SayTheSame}
 use Rattle.record_rules.specs.Asked.{binary_asked, test_asked}
 use Rattle.selection_making.specs.Questions.{Question, WantedIn}

@@ -8,7 +8,7 @@ use Rattle.nextest_filtering.specs.Contexts.{ContextValue}
 use Rattle.nextest_filtering.specs.Filters.{FilterLeaf}
 use Rattle.nextest_filtering.specs.Filters as filter
 use Rattle.record_checks.specs.Alike.{AreAlike}
-use Rattle.record_checks.specs.Contexts.{HasNamesOf}
+use Rattle.record_graphs.specs.Contexts.{HasNamesOf}
 use Rattle.record_checks.specs.FilterTexts.{IsFilterOf}
 use Rattle.record_checks.specs.Groups.{AreGroupsOf}
 use Rattle.record_checks.specs.RecordFilters.{AreReadingsOf, FilterReadings}

@@ -16,7 +16,7 @@ use Rattle.nextest_filter_evaluation.specs.Formulas.{Formula}
 use Rattle.nextest_filtering.specs.Contexts.{ContextValue}
 use Rattle.nextest_filtering.specs.Filters.{FilterLeaf}
 use Rattle.record_checks.specs.Checks.{IsChecked}
-use Rattle.record_checks.specs.Contexts.{HasNamesOf}
+use Rattle.record_graphs.specs.Contexts.{HasNamesOf}
 use Rattle.record_checks.specs.FilterTexts.{IsAcceptedText, IsRefusedText}
 use Rattle.record_checks.specs.Groups.{AreGroupsOf}
 use Rattle.record_checks.specs.Meaning.{DefaultGivesIn, DefaultHoldsIn, HoldsIn, MayHoldIn}

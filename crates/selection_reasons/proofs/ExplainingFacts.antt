@@ -13,7 +13,7 @@ use Rattle.nextest_filter_evaluation.specs.Meaning.{DefaultGives, DefaultHolds, 
 use Rattle.nextest_filtering.specs.Compiling.{IsCompiled}
 use Rattle.nextest_filtering.specs.Contexts.{ContextValue}
 use Rattle.record_rules.specs.Binaries.{Binary, binaries}
-use Rattle.record_checks.specs.Contexts.{HasNamesOf}
+use Rattle.record_graphs.specs.Contexts.{HasNamesOf}
 use Rattle.record_checks.specs.Meaning.{DefaultGivesIn, DefaultHoldsIn, HoldsIn, MayHoldIn}
 use Rattle.feature_questions.specs.Switching.{AreOn}
 use Rattle.record_checks.specs.declared.select_error.SelectError.{SelectError}

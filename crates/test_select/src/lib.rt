@@ -28,17 +28,19 @@ pub use feature_questions::{
     write_account, write_explanation,
 };
 pub use graph_switching::{dependency_order, switched_on};
+pub use group_tables::GroupTable;
 pub use line_verdicts::LineVerdict;
 pub use question_files::{FileFault, FileSource};
 pub use question_filters::LinkScope;
 pub use record_checks::{
-    GroupFilter, GroupTable, ParseSingleError, RecordError, RecordFilters, RecordRule, SelectError,
-    SourceSpan, check_record, context_over, declared_graph, record_filters,
+    GroupFilter, ParseSingleError, RecordError, RecordFilters, RecordRule, SelectError, SourceSpan,
+    check_record, declared_graph, record_filters,
 };
 pub use record_files::{
     AccountFile, Field, Key, ReadError, read_account, read_choice, read_listings, read_record,
     read_table,
 };
+pub use record_graphs::context_over;
 pub use selection_making::{Selection, select, select_plain, write_report};
 pub use selection_reasons::{BinaryReason, Reason, TestReason, why};
 pub use test_lister::{

@@ -1,4 +1,4 @@
-use Rattle.record_checks.proofs.ContextFacts.{if_ok_so}
+use Rattle.record_graphs.proofs.ContextFacts.{if_ok_so}
 use Rattle.feature_questions.proofs.ordering.package_order_in.Goals as goal
 
 pub returns : goal.returns

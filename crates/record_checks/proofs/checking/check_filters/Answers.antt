@@ -1,5 +1,5 @@
 use Rattle.record_checks.specs.CompiledViews.{filters_view}
-use Rattle.record_checks.proofs.ContextFacts.{names_of_record}
+use Rattle.record_graphs.proofs.ContextFacts.{names_of_record}
 use Rattle.record_checks.proofs.FilterFacts.{filters_accepted}
 use Rattle.record_checks.proofs.checking.check_filters.Goals as goal
 

@@ -1,7 +1,7 @@
 use Rattle.std.proofs.Common.{◌<◌, [], length, map, take, take_all, subst, arith, ap, ◌∙◌, rules}
 use Rattle.regex.specs.Strings.{matcher_pattern}
 use Rattle.list_facts.specs.Texts.{pair_of}
-use Rattle.record_checks.proofs.ContextFacts.{if_ok_so}
+use Rattle.record_graphs.proofs.ContextFacts.{if_ok_so}
 use Rattle.record_rules.specs.Binaries.{Binary}
 use Rattle.workspace_record.specs.Records.{Text}
 use Rattle.selection_making.specs.Choosing.{IsListed}

@@ -1,7 +1,7 @@
 use Rattle.std.proofs.Common.{◌≡◌, ◌∙◌, ◌↔◌, IsTrue, Contains, sym, ap, subst, true≢false}
 use Rattle.workspace_record.specs.Features.{FeatureValue}
 use Rattle.feature_switching.specs.OnLines.{HasRequired}
-use Rattle.record_checks.proofs.ContextFacts.{if_ok_so}
+use Rattle.record_graphs.proofs.ContextFacts.{if_ok_so}
 use Rattle.selection_making.proofs.plan.may_match.Goals as goal
 
 pub returns-then-not-is_available : goal.returns-then-not-is_available

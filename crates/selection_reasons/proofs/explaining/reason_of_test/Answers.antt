@@ -5,7 +5,7 @@ use Rattle.nextest_filter_evaluation.specs.Meaning.{DefaultHolds}
 use Rattle.nextest_binaries.specs.Queries as asked
 use Rattle.nextest_binaries.specs.Queries.{binary_of}
 use Rattle.question_filters.specs.QuestionFilters.{TextPasses, question_view}
-use Rattle.record_checks.proofs.ContextFacts.{if_ok_so}
+use Rattle.record_graphs.proofs.ContextFacts.{if_ok_so}
 use Rattle.record_rules.specs.BinaryView.{binary_view}
 use Rattle.selection_reasons.specs.CompiledReasons.{IsReasonOfListed, IsReasonOfTest}
 use Rattle.record_rules.specs.Asked.{binary_asked, test_asked}

@@ -1,7 +1,7 @@
 use Rattle.nextest_filter_queries.specs.NameTests.{Suits, name_test}
 use Rattle.record_checks.specs.CompiledViews.{filters_view}
 use Rattle.record_checks.proofs.GroupFacts.{suits_exactly}
-use Rattle.record_checks.proofs.group_table.GroupTableGroupLookup.is_member_test.Goals as goal
+use Rattle.group_tables.proofs.group_table.GroupTableGroupLookup.is_member_test.Goals as goal
 
 pub returns-clause-member : goal.returns-clause-member
 returns-clause-member c =

@@ -5,7 +5,7 @@ use Rattle.nextest_filter_evaluation.specs.Meaning.{Passes}
 use Rattle.nextest_binaries.specs.Queries.{test_of}
 use Rattle.record_checks.specs.CompiledViews.{group_view}
 use Rattle.record_checks.specs.Groups.{IsGroupOf}
-use Rattle.record_checks.proofs.group_table.first_group.Given as goal
+use Rattle.group_tables.proofs.group_table.first_group.Given as goal
 
 abbrev pub invariant-loop-group : goal.invariant-loop-group
 invariant-loop-group l =

@@ -14,7 +14,7 @@ use Rattle.guppy_package_graph.specs.Resolves.{IsReachOf}
 use Rattle.guppy_package_graph.specs.SetValues.{SetValue}
 use Rattle.guppy_package_graph.specs.Workspaces.{IsMemberPlace}
 use Rattle.nextest_filtering.specs.Contexts.{AreRowsAt, ContextValue, IsContextOf}
-use Rattle.record_checks.specs.Contexts.{HasNamesOf, IsDeclaredGraph, IsNeeded}
+use Rattle.record_graphs.specs.Contexts.{HasNamesOf, IsDeclaredGraph, IsNeeded}
 
 -- what a walk from the members reaches is needed
 needed_by : (g : TableValue) (initials : List ℕ) (included : List Bool) → AreInitials (IsMemberPlace g) initials → ((v : ℕ) → IsTrue (has included v) ↔ IsReached numbered.Forward (numbered_links g) any_link initials v) → (v : ℕ) → IsTrue (has included v) ↔ IsNeeded g v

@@ -1,5 +1,5 @@
-use Rattle.record_checks.proofs.ContextFacts.{context_needed, if_ok_so}
-use Rattle.record_checks.proofs.graph.context_over.Goals as goal
+use Rattle.record_graphs.proofs.ContextFacts.{context_needed, if_ok_so}
+use Rattle.record_graphs.proofs.graph.context_over.Goals as goal
 
 pub returns-clause-context : goal.returns-clause-context
 returns-clause-context c =

@@ -7,10 +7,10 @@ ghost use Rattle.nextest_filter_evaluation.specs.Meaning.{Passes};
 ghost use Rattle.record_checks.specs.CompiledViews.{filters_view, group_view};
 ghost use Rattle.record_checks.specs.Groups.{IsGroupOf};
 
-use crate::filter_parts::{GroupFilter, RecordFilters};
 use nextest_filter_evaluation::NoGroups;
 use nextest_filter_queries::suits;
 use nextest_filtering::{EvalContext, GroupLookup, NameMatcher, TestQuery};
+use record_checks::{GroupFilter, RecordFilters};
 use std::alloc::{AllocError, Global};
 
 /// The groups of a record, of which a test is in the first whose filter holds of it, else in `@global`.

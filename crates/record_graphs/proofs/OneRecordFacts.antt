@@ -8,7 +8,7 @@ use Rattle.guppy_package_table.specs.Tables.{TableValue, ids_of, links_among, pl
 use Rattle.guppy_package_graph.specs.Finding.{IsAt}
 use Rattle.nextest_filtering.specs.Contexts.{ContextValue, Leads, binaries_of, features_of}
 use Rattle.nextest_filtering.specs.SameFilters.{AreBytes, HasSamePackages}
-use Rattle.record_checks.specs.Contexts.{HasNamesOf, IsNeeded}
+use Rattle.record_graphs.specs.Contexts.{HasNamesOf, IsNeeded}
 
 -- graphs with the same packages and links
 module _ (g h : TableValue) (packages : g.packages ≡ h.packages) (links : g.links ≡ h.links) where

@@ -6,7 +6,7 @@ ghost use Rattle.package_rules.specs.Refusals.{IsRefusal};
 ghost use Rattle.guppy_package_table.specs.Tables.{ids_of};
 ghost use Rattle.nextest_filtering.specs.Contexts.{IsContextOf};
 ghost use Rattle.nextest_filtering.specs.ContextViews.{listed_as};
-ghost use Rattle.record_checks.specs.Contexts.{IsDeclaredGraph, IsNeeded};
+ghost use Rattle.record_graphs.specs.Contexts.{IsDeclaredGraph, IsNeeded};
 
 use guppy_package_graph::{PackageGraph, PackageGraphError, PackageId};
 use nextest_filtering::ParseContext;

@@ -1,0 +1,2 @@
+pub mod ContextFacts
+pub mod OneRecordFacts
