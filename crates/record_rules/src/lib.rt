@@ -4,10 +4,10 @@
 
 pub mod binaries;
 mod binary_rules;
-mod feature_rules;
 mod group_rules;
 mod optional_lines;
 mod record_rules;
+mod rules_on_features;
 mod test_binary;
 
 pub use crate::record_rules::further_fault_of;

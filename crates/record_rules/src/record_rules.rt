@@ -8,9 +8,9 @@ ghost use Rattle.record_rules.specs.RecordRules.{further_broken, further_rules};
 
 use crate::binaries::TestBinary;
 use crate::binary_rules::{first_blank_binary, first_repeated_binary};
-use crate::feature_rules::{first_lacking_package, first_repeated_feature};
 use crate::group_rules::first_bad_group;
 use crate::optional_lines::first_unnamed_link;
+use crate::rules_on_features::{first_lacking_package, first_repeated_feature};
 use package_rules::RecordRule;
 use record_index::RecordIndex;
 use std::alloc::{AllocError, Global};

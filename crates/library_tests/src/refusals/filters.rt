@@ -70,7 +70,8 @@ struct Compiled {
 // Written out, so that a function that lets one go takes one step.
 impl Drop for Compiled {
     fn drop(self) {
-        let Compiled { filter: _ } = self;
+        let Compiled { filter } = self;
+        drop(filter);
     }
 }
 

@@ -6,26 +6,32 @@ use guppy_package_graph::{DependencyDirection, Error};
 use std::alloc::Global;
 use std::process::Abort;
 
+const FORWARD: DependencyDirection = DependencyDirection::Forward;
+
 /// How many features are kept, refused, and kept and refused where bases are passed over.
 fn counts_of(rt: &impl Abort, alloc: Global, all: &FeatureSet<'_>) -> [usize; 4] {
-    let direction = DependencyDirection::Forward;
-    let named = all.filter(alloc, direction, |f: FeatureMetadata<'_>| -> bool {
+    let named = all.filter(alloc, FORWARD, |f: FeatureMetadata<'_>| -> bool {
         f.feature_id().is_named()
     });
-    let parts = all.partition(alloc, direction, |f: FeatureMetadata<'_>| -> bool {
+    let named = named.expect(rt, "memory").len();
+    let parts = all.partition(alloc, FORWARD, |f: FeatureMetadata<'_>| -> bool {
         f.feature_id().is_named()
     });
-    let some = all.filter_partition(alloc, direction, |f: FeatureMetadata<'_>| -> Option<bool> {
+    let (_, others) = lengths(parts.expect(rt, "memory"));
+    let some = all.filter_partition(alloc, FORWARD, |f: FeatureMetadata<'_>| -> Option<bool> {
         if f.feature_id().is_base() {
             None
         } else {
             Some(f.feature_id().is_named())
         }
     });
-    let named = named.expect(rt, "memory");
-    let (_, others) = parts.expect(rt, "memory");
-    let (first, second) = some.expect(rt, "memory");
-    [named.len(), others.len(), first.len(), second.len()]
+    let (first, second) = lengths(some.expect(rt, "memory"));
+    [named, others, first, second]
+}
+
+/// How many features are in each of two sets.
+fn lengths((first, second): (FeatureSet<'_>, FeatureSet<'_>)) -> (usize, usize) {
+    (first.len(), second.len())
 }
 
 /// Asks for the counts of all features.

@@ -2,7 +2,7 @@ use Rattle.std.proofs.Common.{not, sym, ◌∙◌, ap, take_all}
 use Rattle.std.specs.List.{list_any}
 use Rattle.record_rules.specs.RecordRules.{has_distinct_features}
 use Rattle.package_rules.proofs.Positions.{no_position, position_at}
-use Rattle.record_rules.proofs.feature_rules.first_repeated_feature.Goals as goal
+use Rattle.record_rules.proofs.rules_on_features.first_repeated_feature.Goals as goal
 
 pub returns-then-not-branch : goal.returns-then-not-branch
 returns-then-not-branch c =

@@ -5,7 +5,7 @@ use Rattle.list_facts.proofs.Quantifiers.{list_any-map}
 use Rattle.workspace_record.specs.Records.{Text, FeatureEntry}
 use Rattle.feature_rules.specs.RuleList.{has_feature}
 use Rattle.package_rules.specs.Found.{finds}
-use Rattle.record_rules.proofs.feature_rules.has_required_features.Goals as goal
+use Rattle.record_rules.proofs.rules_on_features.has_required_features.Goals as goal
 
 pub returns : goal.returns
 returns c =

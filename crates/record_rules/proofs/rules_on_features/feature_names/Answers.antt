@@ -1,7 +1,7 @@
 use Rattle.std.proofs.Common.{Bor, ◌++◌, ◌∷◌, [], map, take_all, ap, sym, ◌∙◌}
 use Rattle.std.proofs.lemmas.List.{map_more, map_push}
 use Rattle.workspace_record.specs.Records.{FeatureEntry, Text}
-use Rattle.record_rules.proofs.feature_rules.feature_names.Goals as goal
+use Rattle.record_rules.proofs.rules_on_features.feature_names.Goals as goal
 
 pub loop-feature-preserved : goal.loop-feature-preserved
 loop-feature-preserved c =
