@@ -24,7 +24,13 @@ pub(crate) fn tell_switching(
     answers: &mut Answers,
 ) {
     match features_on(alloc, rules) {
-        Ok(on) => tell_on(alloc, question, rules, &on, answers),
+        Ok(on) => {
+            tell_on(on.as_slice(), answers);
+            match graph_of(alloc, question.record) {
+                Ok(graph) => tell_graph(alloc, &graph, question.table, rules, &on, answers),
+                Err(error) => answers.show("refused", &error),
+            }
+        }
         Err(refused) => answers.keep("on", Err(refused)),
     }
 }
@@ -49,21 +55,11 @@ fn conclusions(
     Ok(features)
 }
 
-fn tell_on(
-    alloc: Global,
-    question: Question<'_>,
-    rules: &[Rule],
-    on: &FeaturesOn,
-    answers: &mut Answers,
-) {
+fn tell_on(on: &[Feature], answers: &mut Answers) {
     answers.begin("on");
-    for feature in on.as_slice() {
+    for feature in on {
         answers.part(" ", &"");
         add_feature(feature, answers);
-    }
-    match graph_of(alloc, question.record) {
-        Ok(graph) => tell_graph(alloc, &graph, question.table, rules, on, answers),
-        Err(error) => answers.show("refused", &error),
     }
 }
 
@@ -91,7 +87,7 @@ fn tell_graph(
     }
     answers.list("order", dependency_order(alloc, graph, on, table));
     match FeatureGraphData::build(alloc, graph) {
-        Ok(data) => tell_features(alloc, &data, table, rules, on, answers),
+        Ok(data) => tell_features(alloc, &data, table, rules, on.as_slice(), answers),
         Err(refused) => answers.keep("resolved", Err(refused)),
     }
 }
@@ -112,7 +108,7 @@ fn tell_features(
     data: &FeatureGraphData<'_>,
     table: &PlatformTable,
     rules: &[Rule],
-    on: &FeaturesOn,
+    on: &[Feature],
     answers: &mut Answers,
 ) {
     match start_ids(alloc, rules) {
@@ -128,7 +124,7 @@ fn tell_reached(
     alloc: Global,
     query: FeatureQuery<'_>,
     table: &PlatformTable,
-    on: &FeaturesOn,
+    on: &[Feature],
     answers: &mut Answers,
 ) {
     match resolved_by(alloc, query, table) {
@@ -184,9 +180,9 @@ fn label_of(label: &Label) -> FeatureLabel<'_> {
 }
 
 /// Tells what is on, with a `?` before what the set lacks, and how many features more the set has.
-fn tell_included(alloc: Global, on: &FeaturesOn, included: &FeatureSet<'_>, answers: &mut Answers) {
+fn tell_included(alloc: Global, on: &[Feature], included: &FeatureSet<'_>, answers: &mut Answers) {
     answers.begin("resolved");
-    for feature in on.as_slice() {
+    for feature in on {
         match has_feature(alloc, included, feature) {
             Ok(true) => answers.part(" ", &""),
             Ok(false) => answers.part(" ", &"?"),
@@ -194,7 +190,7 @@ fn tell_included(alloc: Global, on: &FeaturesOn, included: &FeatureSet<'_>, answ
         }
         add_feature(feature, answers);
     }
-    let more = included.len().saturating_sub(on.as_slice().len());
+    let more = included.len().saturating_sub(on.len());
     if more > 0 {
         answers.part(" and ", &more);
         answers.add(&" more");

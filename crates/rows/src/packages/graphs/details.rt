@@ -3,6 +3,7 @@
 use crate::ids::id_in;
 use guppy_package_graph::{Error, PackageGraph, PackageLink, PackageMetadata};
 use guppy_package_parts::{BuildTarget, BuildTargetId, PackageSource};
+use guppy_package_table::PackageDetails;
 use row_program::{Answers, Row, RowFault};
 use std::alloc::Global;
 
@@ -68,9 +69,9 @@ fn tell_found(alloc: Global, package: PackageMetadata<'_>, answers: &mut Answers
         format!(in alloc; "{id}, {name} {version}, from {source}, member {is_member}"),
     );
     tell_source(alloc, source, answers);
-    tell_texts(package, answers);
-    tell_kinds(alloc, package, answers);
-    tell_targets(alloc, package, answers);
+    tell_texts(&package, answers);
+    tell_kinds(alloc, &package, answers);
+    tell_targets(alloc, &package, answers);
 }
 
 fn tell_source(alloc: Global, source: PackageSource<'_>, answers: &mut Answers) {
@@ -84,7 +85,7 @@ fn tell_source(alloc: Global, source: PackageSource<'_>, answers: &mut Answers) 
 }
 
 /// The texts that a manifest may leave out, in the order in which `cargo metadata` gives them, and the lists.
-fn tell_texts(package: PackageMetadata<'_>, answers: &mut Answers) {
+fn tell_texts(package: &PackageDetails<'_>, answers: &mut Answers) {
     answers.begin("texts");
     add_text(package.description(), answers);
     add_text(package.license(), answers);
@@ -116,7 +117,7 @@ fn add_list(texts: &[String], answers: &mut Answers) {
     answers.add(&";");
 }
 
-fn tell_targets(alloc: Global, package: PackageMetadata<'_>, answers: &mut Answers) {
+fn tell_targets(alloc: Global, package: &PackageDetails<'_>, answers: &mut Answers) {
     answers.begin("features");
     for name in package.named_features() {
         answers.part(" ", &name);
@@ -153,7 +154,7 @@ fn tell_defaults(alloc: Global, target: Option<BuildTarget<'_>>, answers: &mut A
     );
 }
 
-fn tell_kinds(alloc: Global, package: PackageMetadata<'_>, answers: &mut Answers) {
+fn tell_kinds(alloc: Global, package: &PackageDetails<'_>, answers: &mut Answers) {
     let is_proc_macro = package.is_proc_macro();
     let has_build_script = package.has_build_script();
     let has_default = package.has_default_feature();

@@ -14,7 +14,7 @@ pub(crate) fn tell_sets(
     graph: &PackageGraph,
     answers: &mut Answers,
 ) -> Result<(), RowFault> {
-    tell_whole_sets(alloc, graph, answers)?;
+    tell_whole_sets(alloc, graph, answers);
     match set_in(alloc, row, graph, "set")? {
         Ok(set) => tell_one(alloc, row, graph, &set, answers),
         Err(error) => {
@@ -46,22 +46,28 @@ fn tell_one(
     Ok(())
 }
 
-fn tell_whole_sets(
-    alloc: Global,
-    graph: &PackageGraph,
-    answers: &mut Answers,
-) -> Result<(), RowFault> {
+/// The members, all packages, and the sizes of the sets of all and of none.
+fn tell_whole_sets(alloc: Global, graph: &PackageGraph, answers: &mut Answers) {
     tell_set(alloc, "members", graph.resolve_workspace(alloc), answers);
-    let none = graph.resolve_none(alloc)?;
-    let all = graph.resolve_all(alloc)?;
+    match graph.resolve_all(alloc) {
+        Ok(all) => tell_all(&all, answers),
+        Err(refused) => answers.keep("all", Err(refused)),
+    }
+    match graph.resolve_none(alloc) {
+        Ok(none) => add_size(", ", &none, answers),
+        Err(refused) => answers.keep("sizes", Err(refused)),
+    }
+}
+
+fn tell_all(all: &PackageSet<'_>, answers: &mut Answers) {
     tell_packages("all", all.packages(DependencyDirection::Forward), answers);
-    let (count, is_empty) = (all.len(), all.is_empty());
-    let (no_count, is_none_empty) = (none.len(), none.is_empty());
-    answers.keep(
-        "sizes",
-        format!(in alloc; "{count} {is_empty}, {no_count} {is_none_empty}"),
-    );
-    Ok(())
+    answers.begin("sizes");
+    add_size("", all, answers);
+}
+
+fn add_size(between: &str, set: &PackageSet<'_>, answers: &mut Answers) {
+    answers.part(between, &set.len());
+    answers.part(" ", &set.is_empty());
 }
 
 /// Tells the ids of the packages in their order.

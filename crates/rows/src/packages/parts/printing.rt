@@ -52,18 +52,26 @@ pub(crate) fn tell_publish(alloc: Global, publish: PackagePublish<'_>, answers: 
 
 /// Adds the line of a target.
 pub(crate) fn tell_target(target: BuildTarget<'_>, answers: &mut Answers) {
-    let sort = match target.id() {
+    answers.add(&sort_text(target.id()));
+    answers.part(" ", &target.id().name().unwrap_or("unnamed"));
+    answers.add(&" as");
+    add_kind(target.kind(), answers);
+    answers.add(&"\n");
+}
+
+fn sort_text(id: BuildTargetId<'_>) -> &'static str {
+    match id {
         BuildTargetId::Library => "library",
         BuildTargetId::BuildScript => "build script",
         BuildTargetId::Binary(_) => "binary",
         BuildTargetId::Example(_) => "example",
         BuildTargetId::Test(_) => "test",
         BuildTargetId::Benchmark(_) => "benchmark",
-    };
-    answers.add(&sort);
-    answers.part(" ", &target.id().name().unwrap_or("unnamed"));
-    answers.add(&" as");
-    match target.kind() {
+    }
+}
+
+fn add_kind(kind: BuildTargetKind<'_>, answers: &mut Answers) {
+    match kind {
         BuildTargetKind::ProcMacro => answers.part(" ", &"proc-macro"),
         BuildTargetKind::Binary => answers.part(" ", &"binary"),
         BuildTargetKind::LibraryOrExample(crate_types) => {
@@ -72,7 +80,6 @@ pub(crate) fn tell_target(target: BuildTarget<'_>, answers: &mut Answers) {
             }
         }
     }
-    answers.add(&"\n");
 }
 
 /// Tells both halves of a status.

@@ -21,14 +21,17 @@ impl RowRunner for RuleRows {
         row: Row<'_>,
         answers: &mut Answers,
     ) -> Result<(), RowFault> {
-        let paths = row.texts(alloc, "paths")?;
-        tell_paths(&paths, answers);
-        if paths.is_empty() {
-            let record = record_of(alloc, row)?;
-            tell_broken(alloc, &record, answers)?;
+        if row.get("paths").is_some() {
+            return tell_path_row(alloc, row, answers);
         }
-        Ok(())
+        let record = record_of(alloc, row)?;
+        tell_broken(alloc, &record, answers)
     }
+}
+
+fn tell_path_row(alloc: Global, row: Row<'_>, answers: &mut Answers) -> Result<(), RowFault> {
+    tell_paths(&row.texts(alloc, "paths")?, answers);
+    Ok(())
 }
 
 fn record_of(alloc: Global, row: Row<'_>) -> Result<WorkspaceRecord, RowFault> {
