@@ -2,10 +2,10 @@
 
 use crate::ids::{ids_in, lent};
 use crate::records::graph_under;
-use guppy_package_graph::{PackageGraph, PackageId, PackageSet};
+use guppy_package_graph::{PackageGraph, PackageId};
 use nextest_filtering::ParseContext;
 use row_program::{Row, RowFault};
-use std::alloc::{AllocError, Global};
+use std::alloc::Global;
 
 /// The graph of the record under `record`.
 pub(crate) fn graph_in(alloc: Global, row: Row<'_>) -> Result<PackageGraph, RowFault> {
@@ -52,19 +52,8 @@ fn context_of<'g>(
 ) -> Result<ParseContext<'g>, RowFault> {
     let lent = lent(alloc, ids)?;
     match graph.resolve_ids(alloc, &lent) {
-        Ok(set) => Ok(context_over(alloc, graph, &set, on)?),
+        Ok(set) if on.is_empty() => Ok(ParseContext::with_packages(alloc, graph, &set)?),
+        Ok(set) => Ok(ParseContext::with_features(alloc, graph, &set, on)?),
         Err(error) => Err(RowFault::Refused(format!(in alloc; "{error}")?)),
     }
-}
-
-fn context_over<'g>(
-    alloc: Global,
-    graph: &'g PackageGraph,
-    set: &PackageSet<'_>,
-    on: &[(PackageId, String)],
-) -> Result<ParseContext<'g>, AllocError> {
-    if on.is_empty() {
-        return ParseContext::with_packages(alloc, graph, set);
-    }
-    ParseContext::with_features(alloc, graph, set, on)
 }
