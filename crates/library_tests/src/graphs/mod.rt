@@ -1,8 +1,7 @@
 //! Graphs over numbers, of packages and of features: long graphs, calls that take memory and what they
-//! print, how ids print, compare and hash, visitors and filters that keep a state, boxed ones and closures,
-//! sets of two graphs, and counted resolves.
+//! print, visitors and filters that keep a state, boxed ones and closures, sets of two graphs, and counted
+//! resolves.
 
-mod feature_ids;
 mod features;
 mod numbers;
 mod packages;

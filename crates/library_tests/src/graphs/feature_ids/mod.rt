@@ -1,3 +1,0 @@
-//! What features are printed as, how they are ordered, and that equal ones hash alike.
-
-mod tests;
