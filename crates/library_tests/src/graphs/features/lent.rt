@@ -98,7 +98,12 @@ fn sets_compared(
 ) -> bool {
     let copy = all.copy(alloc).expect(rt, "memory");
     let none = all.difference(alloc, &copy).expect(rt, "memory");
-    [copy == *all, *all == *others, none != *others, *others != none] == [true; 4]
+    [
+        copy == *all,
+        *all == *others,
+        none != *others,
+        *others != none,
+    ] == [true; 4]
 }
 
 fn compared_with(
