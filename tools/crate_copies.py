@@ -1,6 +1,7 @@
 """What scripts of this folder share: some crates of the repository, copied to a folder of their own where `rt ci` takes them for a whole one."""
 import os
 import shutil
+import sys
 
 TOP = os.path.dirname(os.path.dirname(os.path.realpath(__file__)))
 TIERS = ("must-fail", "deep-edits")
@@ -22,6 +23,8 @@ def with_below(names):
     uses, found = libraries(), []
 
     def add(name):
+        if name not in uses:
+            sys.exit(f"crates.txt does not name {name}")
         if name not in found:
             for it in uses[name]:
                 add(it)
