@@ -4,8 +4,7 @@ ghost use Rattle.std.specs.Prelude.{◌≡◌, ◌≢◌, ◌↔◌, [], false, 
 ghost use Rattle.feature_account.specs.Accounts.{concludes, IsSound};
 ghost use Rattle.feature_account.specs.Explanations.{IsExplanation, IsSublist};
 
-use feature_account::soundness::rule_of;
-use feature_account::{LentFeature, LentRule, Rule, lend_rules};
+use feature_account::{LentFeature, LentRule, Rule, lend_rules, rule_of};
 use feature_rules::found::{contains, insert, insert_premises};
 use indexmap::IndexSet;
 use std::alloc::{AllocError, Global};

@@ -1,7 +1,8 @@
 -- The laws of rules, of what is on, and of accounts.
-use Rattle.std.specs.Prelude.{◌≡◌, ◌≢◌, ℕ, true, List, ◌∷◌, ◌++◌, Some, IsTrue, ◌↔◌, Contains}
+use Rattle.std.specs.Prelude.{◌≡◌, ◌≢◌, ℕ, true, List, ◌∷◌, ◌++◌, Some, IsTrue, ◌↔◌, Contains, length}
+use Rattle.std.specs.List.Sorted.{IsStrictlySortedBy}
 use Rattle.workspace_record.specs.Records.{Text, Workspace}
-use Rattle.workspace_record.specs.Features.{FeatureValue}
+use Rattle.workspace_record.specs.Features.{FeatureValue, feature_cmp}
 use Rattle.workspace_record.specs.Choices.{Choice}
 use Rattle.workspace_record.specs.Tables.{answer}
 use Rattle.workspace_record.specs.declared.choice.PlatformTable.{PlatformTable}
@@ -21,6 +22,11 @@ ListsEachRule =
 abbrev pub AccountsAgree : Type 0
 AccountsAgree =
     (rules : List Rule) (a b : List ℕ) → IsValidAccount rules a → IsValidAccount rules b → (f : FeatureValue) → (concludes rules a f ≡ concludes rules b f) × (IsTrue (concludes rules a f) ↔ IsOn rules f)
+
+-- a valid account has as many entries as features are on
+abbrev pub AccountsCountWhatIsOn : Type 0
+AccountsCountWhatIsOn =
+    (rules : List Rule) (account : List ℕ) (on : List FeatureValue) → IsValidAccount rules account → ((f : FeatureValue) → Contains on f ↔ IsOn rules f) → IsStrictlySortedBy feature_cmp on → length account ≡ length on
 
 -- a list made of an explanation by dropping entries is an explanation of the same feature only if none was dropped
 abbrev pub ExplanationsAreIrreducible : Type 0

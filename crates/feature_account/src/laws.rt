@@ -2,6 +2,7 @@
 
 ghost use Rattle.feature_account.specs.Laws.{
   AccountsAgree,
+  AccountsCountWhatIsOn,
   ExplanationsAreIrreducible,
   ListsEachRule,
   StaysOnWhenUnknownsCount,
@@ -17,6 +18,12 @@ pub fn lists_each_rule()
 /// Two valid accounts of one list of rules conclude the same features, and exactly those that are on.
 pub fn accounts_agree()
     ensures { AccountsAgree }
+{}
+
+/// A valid account has as many entries as features are on: each entry concludes another one of them, and
+/// none is left out.
+pub fn accounts_count_what_is_on()
+    ensures { AccountsCountWhatIsOn }
 {}
 
 /// An explanation has no entry to spare: with any of its entries dropped, it is none of the same

@@ -5,11 +5,12 @@
 mod account_check;
 mod explanation_check;
 pub mod laws;
-pub mod soundness;
+mod soundness;
 mod verdict;
 
 pub use crate::account_check::check_account;
 pub use crate::explanation_check::check_explanation;
+pub use crate::soundness::rule_of;
 pub use crate::verdict::Verdict;
 pub use feature_rules::{
     LentFeature, LentPremises, LentRule, Premises, Rule, chosen_features, lend_rules, lent_rules,

@@ -10,9 +10,11 @@ mod questions;
 mod switching;
 
 pub use crate::explaining::{explain, explain_shared};
-pub use crate::ordering::{package_order, package_order_in};
+pub use crate::ordering::{package_order, package_order_shared};
 pub use crate::questions::{checked_question, shared_question};
-pub use crate::switching::{account, features_on, features_on_in};
+pub use crate::switching::{
+    account, account_shared, features_on, features_on_in, features_on_shared,
+};
 pub use account_explaining::write_explanation;
 pub use account_making::{Account, WriteAccountError, write_account};
 pub use feature_switching::FeaturesOn;

@@ -5,11 +5,12 @@ ghost use Rattle.list_facts.specs.Texts.{texts};
 ghost use Rattle.feature_questions.specs.Orders.{IsPackageOrder, Orders};
 ghost use Rattle.feature_questions.specs.Switching.{unknown_extra};
 
-use crate::questions::checked_question;
+use crate::questions::{checked_question, shared_question};
 use crate::switching::features_on_in;
 use graph_switching::dependency_order;
 use record_checks::{CheckedRecord, SelectError};
 use std::alloc::{AllocError, Global};
+use std::rc::Rc;
 use workspace_record::{FeatureChoice, PlatformTable, WorkspaceRecord};
 
 /// The ids of the packages that are on, each once, dependencies first: a package comes after all to
@@ -29,8 +30,23 @@ pub fn package_order(
     }
 }
 
+/// The same of a record that is shared, of whose rows no copy is made.
+pub fn package_order_shared(
+    alloc: Global,
+    record: &Rc<WorkspaceRecord>,
+    choice: &FeatureChoice,
+    table: &PlatformTable,
+) -> Result<Vec<String>, SelectError>
+    ensures order { Orders «record».now.value choice.now table.now result }
+{
+    match shared_question(alloc, record, choice) {
+        Ok(checked) => Ok(package_order_in(alloc, &checked, choice, table)?),
+        Err(refused) => Err(refused),
+    }
+}
+
 /// The same in a record that was tested, where the extras of the choice are known.
-pub fn package_order_in(
+fn package_order_in(
     alloc: Global,
     checked: &CheckedRecord<'_>,
     choice: &FeatureChoice,

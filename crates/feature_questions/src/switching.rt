@@ -8,7 +8,7 @@ ghost use Rattle.feature_rules.specs.RuleList.{rule_list};
 ghost use Rattle.account_making.specs.Lowest.{IsLowestAccount, IsLooksOf};
 ghost use Rattle.feature_questions.specs.Switching.{Accounts, AreOn, SwitchesOn, unknown_extra};
 
-use crate::questions::{checked_question, question_index};
+use crate::questions::{checked_question, question_index, shared_index, shared_question};
 use account_making::{Account, account_of_lent};
 use feature_account::lent_rules;
 use feature_resolving::resolved_features;
@@ -16,6 +16,7 @@ use feature_switching::FeaturesOn;
 use record_checks::{CheckedRecord, SelectError};
 use record_index::RecordIndex;
 use std::alloc::{AllocError, Global};
+use std::rc::Rc;
 use workspace_record::{FeatureChoice, PlatformTable, WorkspaceRecord};
 
 /// The features that are on: those in every set that the rules of the record, the choice and the table
@@ -37,6 +38,21 @@ pub fn features_on(
     }
 }
 
+/// The same of a record that is shared, of whose rows no copy is made.
+pub fn features_on_shared(
+    alloc: Global,
+    record: &Rc<WorkspaceRecord>,
+    choice: &FeatureChoice,
+    table: &PlatformTable,
+) -> Result<FeaturesOn, SelectError>
+    ensures on { SwitchesOn «record».now.value choice.now table.now result }
+{
+    match shared_question(alloc, record, choice) {
+        Err(refusal) => Err(refusal),
+        Ok(checked) => Ok(features_on_in(alloc, &checked, choice, table)?),
+    }
+}
+
 /// The account of what is on, each entry of which is the lowest rule that may stand at its place. The
 /// record is tested first, and then the extras of the choice.
 pub fn account(
@@ -48,6 +64,21 @@ pub fn account(
     ensures accounts { Accounts record.now choice.now table.now result }
 {
     match question_index(alloc, record, choice) {
+        Err(refusal) => Err(refusal),
+        Ok(index) => Ok(account_under(alloc, &index, choice, table)?),
+    }
+}
+
+/// The same of a record that is shared, of whose rows no copy is made.
+pub fn account_shared(
+    alloc: Global,
+    record: &Rc<WorkspaceRecord>,
+    choice: &FeatureChoice,
+    table: &PlatformTable,
+) -> Result<Account, SelectError>
+    ensures accounts { Accounts «record».now.value choice.now table.now result }
+{
+    match shared_index(alloc, record, choice) {
         Err(refusal) => Err(refusal),
         Ok(index) => Ok(account_under(alloc, &index, choice, table)?),
     }

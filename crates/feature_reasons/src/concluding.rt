@@ -8,6 +8,7 @@ ghost use Rattle.feature_rules.specs.Closed.{IsOn};
 ghost use Rattle.feature_account.specs.Explanations.{IsExplanation};
 ghost use Rattle.feature_rules.specs.RuleList.{rule_list};
 ghost use Rattle.account_making.specs.Lowest.{IsLowestAccount};
+ghost use Rattle.feature_reasons.specs.OfAccounts.{AreOfAccount};
 
 use account_explaining::explanation_of;
 use account_making::account_of;
@@ -70,6 +71,7 @@ pub fn explanation(
 ) -> Result<Option<Vec<usize>>, AllocError>
     ensures found { IfOk result (λ o. IsSome o ↔ IsOn (rule_list record.now choice.now table.now) feature.now) }
     ensures explains { IfOk result (λ o. IfSome o (λ v. IsExplanation (rule_list record.now choice.now table.now) feature.now v.items)) }
+    ensures in_order { IfOk result (λ o. IfSome o (λ v. AreOfAccount (rule_list record.now choice.now table.now) v.items)) }
 {
     let rules = rules(alloc, record, choice, table)?;
     explained_by(alloc, &rules, feature)
@@ -83,6 +85,7 @@ fn explained_by(
 ) -> Result<Option<Vec<usize>>, AllocError>
     ensures found { IfOk result (λ o. IsSome o ↔ IsOn rules.now feature.now) }
     ensures explains { IfOk result (λ o. IfSome o (λ v. IsExplanation rules.now feature.now v.items)) }
+    ensures in_order { IfOk result (λ o. IfSome o (λ v. AreOfAccount rules.now v.items)) }
 {
     let account = account_of(alloc, rules)?;
     explanation_of(alloc, rules, &account.rules, feature)

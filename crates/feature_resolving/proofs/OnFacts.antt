@@ -16,9 +16,27 @@ use Rattle.kept_records.proofs.KeptFacts.{rows_kept}
 use Rattle.line_verdicts.specs.Verdicts.{some_counts}
 use Rattle.line_verdicts.proofs.Counting.{counting_iff}
 use Rattle.feature_resolving.specs.Known.{is_known_extra}
+use Rattle.feature_resolving.specs.Laws.{IsLedToByChoice}
 use Rattle.feature_resolving.specs.Leading.{IsLedTo}
 use Rattle.feature_resolving.specs.Starts.{IsStart}
 use Rattle.feature_resolving.proofs.StartFacts.{chosen_started, starts_in}
+
+module _ (w : Workspace) (kept : fault_of w ≡ None) (g : FeatureGraphValue) (of_record : IsBuiltOf w g) (choice : Choice) (known : All (λ f. is_known_extra w f ≡ true) choice.extras) (table : PlatformTable) (f : FeatureValue) where
+  -- what the filter takes leads to the same as what the choice switches on by itself
+  pub led_as_chosen : IsLedTo table g (IsStart g choice) f ↔ IsLedToByChoice w choice table g f
+  led_as_chosen =
+      let apart = (rows_kept w kept).ids_apart in (
+        λ led accepts passes s begins closed. led accepts passes s (starts_in w apart g of_record choice accepts s begins closed) closed,
+        λ led accepts passes s starts closed. led accepts passes s (λ c h. let (v, start, at) = chosen_started w apart g of_record choice known c h in subst (λ x. s x ≡ true) at (starts v start)) closed,
+      )
+
+  -- and that is what is on
+  pub led_when_on : KeptEdgesLeadToWhatIsOn → IsLedTo table g (IsStart g choice) f ↔ IsOn (rule_list w choice table) f
+  led_when_on law =
+      let counts = λ (o : Offer). counting_iff table (link_of g o) in (
+        λ led. (law w choice table g (λ o. some_counts table (link_of g o)) f kept of_record counts).1 (λ s begins closed. led_as_chosen.0 led (λ o. some_counts table (link_of g o)) counts s begins closed),
+        λ on. led_as_chosen.1 (λ accepts passes s begins closed. (law w choice table g accepts f kept of_record passes).0 on s begins closed),
+      )
 
 module _ (w : Workspace) (kept : fault_of w ≡ None) (t : TableValue) (declared : IsTableOf w.packages w.links w.workspace t) where
   module _ (g : FeatureGraphValue) (rows : g.rows ≡ t) (built : IsFeatureGraph g) where
@@ -32,12 +50,7 @@ module _ (w : Workspace) (kept : fault_of w ≡ None) (t : TableValue) (declared
 
     -- what it leads to is on, and nothing else
     pub led_iff_on : KeptEdgesLeadToWhatIsOn → (choice : Choice) → All (λ f. is_known_extra w f ≡ true) choice.extras → (table : PlatformTable) (f : FeatureValue) → IsLedTo table g (IsStart g choice) f ↔ IsOn (rule_list w choice table) f
-    led_iff_on law choice known table f =
-        let apart = (rows_kept w kept).ids_apart in
-        let counts = λ (o : Offer). counting_iff table (link_of g o) in (
-          λ led. (law w choice table g (λ o. some_counts table (link_of g o)) f kept built_of counts).1 (λ s begins closed. led (λ o. some_counts table (link_of g o)) counts s (starts_in w apart g built_of choice (λ o. some_counts table (link_of g o)) s begins closed) closed),
-          λ on accepts passes s starts closed. (law w choice table g accepts f kept built_of passes).0 on s (λ c h. let (v, start, at) = chosen_started w apart g built_of choice known c h in subst (λ x. s x ≡ true) at (starts v start)) closed,
-        )
+    led_iff_on law choice known table f = led_when_on w kept g built_of choice known table f law
 
 both_ways : {P Q R : Type 0} → P ↔ Q → Q ↔ R → P ↔ R
 both_ways h k = (λ p. k.0 (h.0 p), λ r. h.1 (k.1 r))

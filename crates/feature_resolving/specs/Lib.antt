@@ -1,3 +1,4 @@
 pub mod Known
 pub mod Starts
 pub mod Leading
+pub mod Laws

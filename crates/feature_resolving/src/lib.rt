@@ -4,6 +4,7 @@
 
 mod feature_ids;
 mod included;
+pub mod laws;
 mod resolving;
 
 pub use crate::resolving::resolved_features;

@@ -1,3 +1,4 @@
+pub mod CountedViews
 pub mod Digits
 pub mod OnLines
 pub mod Searches

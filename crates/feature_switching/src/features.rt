@@ -8,6 +8,7 @@ ghost use Rattle.feature_account.specs.Accounts.{concluded_set};
 ghost use Rattle.feature_rules.specs.RuleList.{base_of, named_of, dep_of};
 ghost use Rattle.feature_switching.specs.Digits.{digits};
 
+use crate::counted_features::CountedFeatures;
 use crate::search::{finds, finds_counted};
 use feature_account::LentFeature;
 use numbered_graph::Looks;
@@ -56,7 +57,8 @@ impl FeaturesOn {
         ensures answer { IsTrue result ↔ Contains self.now feature.now }
         ensures looks { looks.new ≤ looks.old + digits (length self.now) }
     {
-        finds_counted(&self.features, &LentFeature::of(feature), looks)
+        let features = CountedFeatures::of(&self.features);
+        finds_counted(&features, &LentFeature::of(feature), looks)
     }
 
     /// Whether the package's base is on.

@@ -2,6 +2,7 @@
 #![tactic(auto)]
 
 pub mod availability;
+mod counted_features;
 mod features;
 mod search;
 

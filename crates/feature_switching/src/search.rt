@@ -4,8 +4,10 @@ ghost use Rattle.std.specs.Prelude.{◌≡◌, ◌+◌, ◌≤◌, length};
 ghost use Rattle.std.specs.List.Sorted.{IsStrictlySortedBy};
 ghost use Rattle.workspace_record.specs.Features.{feature_cmp};
 ghost use Rattle.feature_account.specs.Accounts.{concluded_set};
+ghost use Rattle.feature_switching.specs.CountedViews.{counted_list};
 ghost use Rattle.feature_switching.specs.Digits.{digits};
 
+use crate::counted_features::CountedFeatures;
 use feature_account::LentFeature;
 use numbered_graph::Looks;
 use std::cmp::Ordering;
@@ -23,20 +25,19 @@ pub(crate) fn finds(features: &[Feature], wanted: &LentFeature<'_>) -> bool
 
 /// The same; each feature that is compared is a look.
 pub(crate) fn finds_counted<L: Ledger>(
-    features: &[Feature],
+    features: &CountedFeatures<'_>,
     wanted: &LentFeature<'_>,
     looks: &mut Looks<L>,
 ) -> bool
-    requires { IsStrictlySortedBy feature_cmp features.now }
-    ensures found { result ≡ concluded_set features.now wanted.now }
-    ensures looks { looks.new ≤ looks.old + digits (length features.now) }
+    requires { IsStrictlySortedBy feature_cmp (counted_list features.now) }
+    ensures found { result ≡ concluded_set (counted_list features.now) wanted.now }
+    ensures looks { looks.new ≤ looks.old + digits (length (counted_list features.now)) }
 {
     let mut low = 0;
     let mut high = features.len();
     while low < high {
         let middle = low + (high - low) / 2;
-        looks.tick();
-        match LentFeature::of(&features[middle]).cmp(&*wanted) {
+        match features.compare(middle, wanted, looks) {
             Ordering::Equal => return true,
             Ordering::Less => low = middle + 1,
             Ordering::Greater => high = middle,

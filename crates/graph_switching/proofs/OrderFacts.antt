@@ -1,5 +1,5 @@
 -- Listings of packages reversed, as orders in which they build.
-use Rattle.std.proofs.Common.{◌≡◌, ◌≢◌, ◌∙◌, ⊎_elim, ℕ, ◌+◌, ◌-◌, ◌<◌, Bool, cond, List, [], ◌∷◌, ◌++◌, Some, All, AllPairs, Contains, ap, sym, subst, map, filter, take, reverse, position, length, get_or, nat_lt, slice_get, arith}
+use Rattle.std.proofs.Common.{◌≡◌, ◌≢◌, ◌∙◌, ⊎_elim, ℕ, ◌+◌, ◌-◌, ◌<◌, Bool, cond, List, [], ◌∷◌, ◌++◌, Some, All, AllPairs, Contains, refl, ap, sym, subst, map, filter, take, reverse, position, length, get_or, nat_lt, slice_get, arith}
 use Rattle.std.specs.Cmp.Lexicographic.{bytes_decides}
 use Rattle.std.specs.Str.{bytes_eq}
 use Rattle.std.proofs.lemmas.Bool.{cases_order, lt-ltb, ltb-true}
@@ -143,4 +143,5 @@ module _ (packages : List Package) (apart : AllPairs (λ a b. a.id ≢ b.id) pac
       once = AllPairs-filter (λ a b. a ≢ b) is_on ids (pairs-to_ids (λ a b. b ≢ a) (λ a b. a ≢ b) (λ a b lt more differ same. differ (sym (one_place a b lt more same))) (reverse xs) all_in_range (pairs-reverse (λ x y. x ≢ y) xs listing.once));
       dependencies_first = behind any_link listing.forward;
       firm_dependencies_first = behind (has (firm_flags links)) listing.firm_forward;
+      listed = record { listing = xs; is_listing = listing; ids_are = refl };
     }

@@ -14,9 +14,9 @@ use std::alloc::{AllocError, Global};
 
 /// The numbers of the features that the callback accepts, and of those that it refuses. All memory is
 /// taken before it is asked.
-pub(crate) fn choose<F: FnMut(FeatureMetadata<'_>) -> bool>(
+pub(crate) fn choose<'g, F: FnMut(FeatureMetadata<'g>) -> bool>(
     alloc: Global,
-    set: &FeatureSet<'_>,
+    set: &FeatureSet<'g>,
     direction: DependencyDirection,
     callback: &mut F,
 ) -> Result<(NodeSet, NodeSet), AllocError>
@@ -39,11 +39,34 @@ pub(crate) fn choose<F: FnMut(FeatureMetadata<'_>) -> bool>(
     Ok((accepted, refused))
 }
 
+/// The numbers of the features that the callback accepts. All memory is taken before it is asked.
+pub(crate) fn choose_accepted<'g, F: FnMut(FeatureMetadata<'g>) -> bool>(
+    alloc: Global,
+    set: &FeatureSet<'g>,
+    direction: DependencyDirection,
+    callback: &mut F,
+) -> Result<NodeSet, AllocError>
+    requires { F.IsAlwaysCallable callback.old }
+    ensures ok { IfOk result (λ kept. (asked : List (ℕ × Bool)) × AreAsked F.FnMut set.now direction callback.old asked callback.new
+        × ((v : ℕ) → IsTrue (has kept v) ↔ Contains asked (v, true))) }
+    ensures sized { IfOk result (λ kept. length kept ≡ length set.now.graph.nodes) }
+    ensures err { OnErr result (callback.new ≡ callback.old) }
+{
+    let graph = set.graph();
+    let mut kept = NodeSet::none(alloc, graph.feature_count())?;
+    let mut nodes = set.listed(direction);
+    while let Some(node) = nodes.next() {
+        let answer = ask_about(callback, graph, node);
+        put_if(&mut kept, node, answer);
+    }
+    Ok(kept)
+}
+
 /// The numbers of the features for which the callback answers `Some(true)`, and of those for which it
 /// answers `Some(false)`. All memory is taken before it is asked.
-pub(crate) fn choose_some<F: FnMut(FeatureMetadata<'_>) -> Option<bool>>(
+pub(crate) fn choose_some<'g, F: FnMut(FeatureMetadata<'g>) -> Option<bool>>(
     alloc: Global,
-    set: &FeatureSet<'_>,
+    set: &FeatureSet<'g>,
     direction: DependencyDirection,
     callback: &mut F,
 ) -> Result<(NodeSet, NodeSet), AllocError>
@@ -66,9 +89,9 @@ pub(crate) fn choose_some<F: FnMut(FeatureMetadata<'_>) -> Option<bool>>(
     Ok((first, second))
 }
 
-fn ask_about<A, F: FnMut(FeatureMetadata<'_>) -> A>(
+fn ask_about<'g, A, F: FnMut(FeatureMetadata<'g>) -> A>(
     callback: &mut F,
-    graph: &FeatureGraph<'_>,
+    graph: &FeatureGraph<'g>,
     node: usize,
 ) -> A
     requires callable { F.IsAlwaysCallable callback.old }

@@ -6,7 +6,7 @@ ghost use Rattle.guppy_feature_graph.specs.Filters.{AreAsked};
 ghost use Rattle.guppy_feature_graph.specs.Sets.{IsSetOf};
 ghost use Rattle.guppy_feature_graph.specs.Views.{feature_graph_of};
 
-use crate::choosing::{choose, choose_some};
+use crate::choosing::{choose, choose_accepted, choose_some};
 use crate::feature_graph::FeatureGraph;
 use crate::feature_set::FeatureSet;
 use guppy_feature_views::FeatureMetadata;
@@ -17,7 +17,7 @@ use std::alloc::{AllocError, Global};
 impl<'g> FeatureSet<'g> {
     /// The features of the set that the callback accepts. It is asked about each once, in the order in
     /// which the set is listed.
-    pub fn filter<F: FnMut(FeatureMetadata<'_>) -> bool>(
+    pub fn filter<F: FnMut(FeatureMetadata<'g>) -> bool>(
         &self,
         alloc: Global,
         direction: DependencyDirection,
@@ -33,7 +33,7 @@ impl<'g> FeatureSet<'g> {
     }
 
     /// The same by a callback that is lent. Where memory is refused, it was not asked.
-    pub fn filter_lent<F: FnMut(FeatureMetadata<'_>) -> bool>(
+    pub fn filter_lent<F: FnMut(FeatureMetadata<'g>) -> bool>(
         &self,
         alloc: Global,
         direction: DependencyDirection,
@@ -44,13 +44,13 @@ impl<'g> FeatureSet<'g> {
             × IsSetOf self.now.graph (λ v. Contains asked (v, true)) s) }
         ensures err { OnErr result (callback.new ≡ callback.old) }
     {
-        let (accepted, _) = choose(alloc, self, direction, callback)?;
-        FeatureSet::found(self.graph(), accepted)
+        let kept = choose_accepted(alloc, self, direction, callback)?;
+        FeatureSet::found(self.graph(), kept)
     }
 
     /// The features of the set that the callback accepts, and those that it refuses. It is asked about
     /// each once, in the order in which the set is listed.
-    pub fn partition<F: FnMut(FeatureMetadata<'_>) -> bool>(
+    pub fn partition<F: FnMut(FeatureMetadata<'g>) -> bool>(
         &self,
         alloc: Global,
         direction: DependencyDirection,
@@ -67,7 +67,7 @@ impl<'g> FeatureSet<'g> {
     }
 
     /// The same by a callback that is lent. Where memory is refused, it was not asked.
-    pub fn partition_lent<F: FnMut(FeatureMetadata<'_>) -> bool>(
+    pub fn partition_lent<F: FnMut(FeatureMetadata<'g>) -> bool>(
         &self,
         alloc: Global,
         direction: DependencyDirection,
@@ -85,7 +85,7 @@ impl<'g> FeatureSet<'g> {
 
     /// The features for which the callback answers `Some(true)`, and those for which it answers
     /// `Some(false)`. It is asked about each once, in the order in which the set is listed.
-    pub fn filter_partition<F: FnMut(FeatureMetadata<'_>) -> Option<bool>>(
+    pub fn filter_partition<F: FnMut(FeatureMetadata<'g>) -> Option<bool>>(
         &self,
         alloc: Global,
         direction: DependencyDirection,
@@ -102,7 +102,7 @@ impl<'g> FeatureSet<'g> {
     }
 
     /// The same by a callback that is lent. Where memory is refused, it was not asked.
-    pub fn filter_partition_lent<F: FnMut(FeatureMetadata<'_>) -> Option<bool>>(
+    pub fn filter_partition_lent<F: FnMut(FeatureMetadata<'g>) -> Option<bool>>(
         &self,
         alloc: Global,
         direction: DependencyDirection,

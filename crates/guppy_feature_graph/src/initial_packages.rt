@@ -8,7 +8,8 @@ ghost use Rattle.guppy_feature_graph.specs.Queries.{AreInitials};
 use crate::feature_query::FeatureQuery;
 use crate::feature_set::FeatureSet;
 use crate::features_for::has_feature_of;
-use guppy_package_graph::{AllPackages, PackageMetadata, write_entries};
+use guppy_package_graph::{AllPackages, PackageMetadata};
+use list_facts::write_entries;
 use std::fmt;
 
 /// The packages that have a feature in a set, each once in the order of the record.

@@ -60,3 +60,5 @@ pub use guppy_feature_nodes::{
 pub use guppy_feature_views::{
     AllCycles, ConditionalLink, FeatureIds, FeatureIdsAt, FeatureMetadata, Features, PackageLinks,
 };
+pub use numbered_graph::Graph;
+pub use numbered_offers::OfferGraph;

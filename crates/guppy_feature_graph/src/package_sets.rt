@@ -19,6 +19,7 @@ use crate::feature_query::FeatureQuery;
 use crate::feature_set::FeatureSet;
 use crate::filtered::{query_by_filter, set_by_filter};
 use crate::package_features::features_of_packages;
+use crate::packages_of::known_packages;
 use guppy_feature_nodes::FeatureId;
 use guppy_package_graph::{PackageId, PackageMetadata, PackageQuery, PackageSet};
 use std::alloc::{AllocError, Global};
@@ -85,7 +86,7 @@ fn initials_of<'g>(alloc: Global, query: &PackageQuery<'g>) -> Result<PackageSet
     ensures { IfOk result (IsSetOfPackages query.now.graph (IsNamed query.now.graph (map (id_at query.now.graph) query.now.initials))) }
 {
     let ids = initial_ids(alloc, query)?;
-    query.graph().resolve_known(alloc, &ids)
+    known_packages(alloc, query.graph(), &ids)
 }
 
 fn initial_ids<'a>(

@@ -3,11 +3,13 @@
 ghost use Rattle.std.specs.Prelude.{◌≡◌, ◌<◌, All, IfOk, length, map};
 ghost use Rattle.guppy_feature_demands.specs.Nodes.{nodes_of};
 ghost use Rattle.guppy_feature_nodes.specs.Graphs.{AreListed, feature_at};
+ghost use Rattle.guppy_package_graph.specs.Finding.{IsNamed};
+ghost use Rattle.guppy_package_graph.specs.SetValues.{IsSetOf};
 ghost use Rattle.guppy_feature_graph.specs.PackageFeatures.{IsOfFeature, IsPackageSetOf};
 
 use crate::feature_set::FeatureSet;
 use guppy_feature_nodes::FeatureGraphData;
-use guppy_package_graph::{PackageId, PackageSet};
+use guppy_package_graph::{PackageGraph, PackageId, PackageSet};
 use std::alloc::{AllocError, Global};
 
 impl<'g> FeatureSet<'g> {
@@ -32,7 +34,21 @@ pub(crate) fn packages_of<'g>(
     let built = set.graph().built();
     let nodes = set.included().members(alloc)?;
     let ids = package_ids(alloc, built, &nodes)?;
-    built.package_graph().resolve_known(alloc, &ids)
+    known_packages(alloc, built.package_graph(), &ids)
+}
+
+/// The set of the packages with these ids, which are ids of the graph: so want of memory alone is told.
+pub(crate) fn known_packages<'g>(
+    alloc: Global,
+    graph: &'g PackageGraph,
+    package_ids: &[&PackageId],
+) -> Result<PackageSet<'g>, AllocError>
+    ensures named { IfOk result (IsSetOf graph.entry.now (IsNamed graph.entry.now (map (λ id. id.now) package_ids.now))) }
+{
+    match graph.resolve_ids(alloc, package_ids) {
+        Ok(packages) => Ok(packages),
+        Err(_) => Err(AllocError),
+    }
 }
 
 fn package_ids<'g>(

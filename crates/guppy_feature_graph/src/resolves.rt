@@ -10,7 +10,7 @@ use crate::direction::direction_of;
 use crate::feature_link_context::FeatureLinkContext;
 use crate::feature_query::FeatureQuery;
 use crate::feature_set::FeatureSet;
-use crate::resolving::{resolve_by_closure, resolve_by_visitor};
+use crate::resolving::{resolve_by_closure, resolve_by_closure_counted, resolve_by_visitor};
 use crate::visitor::FeatureLinkVisitor;
 use guppy_feature_views::ConditionalLink;
 use numbered_graph::{Looks, reach};
@@ -63,7 +63,7 @@ impl<'g> FeatureQuery<'g> {
     }
 
     /// The same features as `resolve_with` gives, where a closure says which links are followed.
-    pub fn resolve_with_fn<F: FnMut(&FeatureLinkContext<'_>, ConditionalLink<'_>) -> bool>(
+    pub fn resolve_with_fn<F: FnMut(&FeatureLinkContext<'_>, ConditionalLink<'g>) -> bool>(
         self,
         alloc: Global,
         mut visitor_fn: F,
@@ -78,7 +78,7 @@ impl<'g> FeatureQuery<'g> {
     }
 
     /// The same by a closure that is lent. Where memory is refused, it was not asked.
-    pub fn resolve_with_fn_lent<F: FnMut(&FeatureLinkContext<'_>, ConditionalLink<'_>) -> bool>(
+    pub fn resolve_with_fn_lent<F: FnMut(&FeatureLinkContext<'_>, ConditionalLink<'g>) -> bool>(
         self,
         alloc: Global,
         visitor_fn: &mut F,
@@ -88,13 +88,13 @@ impl<'g> FeatureQuery<'g> {
         ensures ok { IfOk result (λ s. (run : Run) × IsResolved self.entry run s.included × Chain (AsksClosure F.FnMut self.entry) visitor_fn.old run visitor_fn.new) }
         ensures err { OnErr result (visitor_fn.new ≡ visitor_fn.old) }
     {
-        resolve_fn_with_blank::<Brand, F>(alloc, self, visitor_fn, Blank::new(1))
+        set_by_closure(alloc, &self, visitor_fn)
     }
 
     /// The same by a closure that is lent, with a count of the looks that it takes.
     pub fn resolve_with_fn_counted<
         L: Ledger,
-        F: FnMut(&FeatureLinkContext<'_>, ConditionalLink<'_>) -> bool,
+        F: FnMut(&FeatureLinkContext<'_>, ConditionalLink<'g>) -> bool,
     >(
         self,
         alloc: Global,
@@ -107,7 +107,7 @@ impl<'g> FeatureQuery<'g> {
         ensures err { OnErr result (visitor_fn.new ≡ visitor_fn.old) }
         ensures looks { looks.new ≤ looks.old + length self.entry.graph.nodes }
     {
-        set_by_closure(alloc, &self, visitor_fn, looks)
+        set_by_closure_counted(alloc, &self, visitor_fn, looks)
     }
 }
 
@@ -140,7 +140,27 @@ fn set_by_visitor<'g, L: Ledger>(
     }
 }
 
-fn set_by_closure<'g, L: Ledger, F: FnMut(&FeatureLinkContext<'_>, ConditionalLink<'_>) -> bool>(
+fn set_by_closure<'g, F: FnMut(&FeatureLinkContext<'_>, ConditionalLink<'g>) -> bool>(
+    alloc: Global,
+    query: &FeatureQuery<'g>,
+    accepts: &mut F,
+) -> Result<FeatureSet<'g>, AllocError>
+    requires { F.IsAlwaysCallable accepts.old }
+    ensures graph { IfOk result (λ s. s.graph ≡ query.now.graph) }
+    ensures ok { IfOk result (λ s. (run : Run) × IsResolved query.now run s.included × Chain (AsksClosure F.FnMut query.now) accepts.old run accepts.new) }
+    ensures err { OnErr result (accepts.new ≡ accepts.old) }
+{
+    match resolve_by_closure(alloc, query, accepts) {
+        Ok(included) => FeatureSet::found(query.graph(), included),
+        Err(refused) => Err(refused),
+    }
+}
+
+fn set_by_closure_counted<
+    'g,
+    L: Ledger,
+    F: FnMut(&FeatureLinkContext<'_>, ConditionalLink<'g>) -> bool,
+>(
     alloc: Global,
     query: &FeatureQuery<'g>,
     accepts: &mut F,
@@ -152,7 +172,7 @@ fn set_by_closure<'g, L: Ledger, F: FnMut(&FeatureLinkContext<'_>, ConditionalLi
     ensures err { OnErr result (accepts.new ≡ accepts.old) }
     ensures looks { looks.new ≤ looks.old + length query.now.graph.nodes }
 {
-    match resolve_by_closure(alloc, query, accepts, looks) {
+    match resolve_by_closure_counted(alloc, query, accepts, looks) {
         Ok(included) => FeatureSet::found(query.graph(), included),
         Err(refused) => Err(refused),
     }
@@ -174,26 +194,4 @@ fn resolve_with_blank<'g, L: Ledger>(
 {
     let mut looks = Looks::<L>::new(blank);
     query.resolve_with_counted(alloc, visitor, &mut looks)
-}
-
-fn resolve_fn_with_blank<
-    'g,
-    L: Ledger,
-    F: FnMut(&FeatureLinkContext<'_>, ConditionalLink<'_>) -> bool,
->(
-    alloc: Global,
-    query: FeatureQuery<'g>,
-    visitor_fn: &mut F,
-    blank: Blank,
-) -> Result<FeatureSet<'g>, AllocError>
-    requires name { blank.name ≡ L.name }
-    requires parts { blank.parts ≡ L.parts }
-    requires some { 0 < blank.parts }
-    requires callable { F.IsAlwaysCallable visitor_fn.old }
-    ensures graph { IfOk result (λ s. s.graph ≡ query.entry.graph) }
-    ensures ok { IfOk result (λ s. (run : Run) × IsResolved query.entry run s.included × Chain (AsksClosure F.FnMut query.entry) visitor_fn.old run visitor_fn.new) }
-    ensures err { OnErr result (visitor_fn.new ≡ visitor_fn.old) }
-{
-    let mut looks = Looks::<L>::new(blank);
-    query.resolve_with_fn_counted(alloc, visitor_fn, &mut looks)
 }

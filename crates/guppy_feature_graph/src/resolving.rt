@@ -21,7 +21,7 @@ use guppy_feature_nodes::LinkDeclarations;
 use guppy_feature_views::ConditionalLink;
 use guppy_package_graph::DependencyDirection;
 use numbered_graph::{Looks, NodeSet};
-use numbered_offers::{Due, Offer, OfferGraph, OfferKind, OfferWalk};
+use numbered_offers::{Due, Offer, OfferGraph, OfferKind, OfferWalk, take_uncounted};
 use std::alloc::{AllocError, Global};
 use std::sync::ledger::Ledger;
 
@@ -122,9 +122,9 @@ fn ask(visitor: &mut dyn FeatureLinkVisitor, query: &FeatureQuery<'_>, offer: Of
 }
 
 // The link that is shown where an offer is made.
-fn link_of<'a>(query: &'a FeatureQuery<'a>, offer: Offer) -> ConditionalLink<'a>
+fn link_of<'g>(query: &FeatureQuery<'g>, offer: Offer) -> ConditionalLink<'g>
     requires { offer.edge < length query.now.graph.edges }
-    ensures { link_view result ≡ link_of query.entry.now.graph offer }
+    ensures { link_view result ≡ link_of query.now.graph offer }
 {
     query
         .graph()
@@ -143,11 +143,47 @@ fn declarations_of(kind: OfferKind) -> LinkDeclarations
 
 /// Asks a closure about each offer that becomes due.
 pub(crate) fn resolve_by_closure<
+    'g,
+    F: FnMut(&FeatureLinkContext<'_>, ConditionalLink<'g>) -> bool,
+>(alloc: Global, query: &FeatureQuery<'g>, accepts: &mut F) -> Result<NodeSet, AllocError>
+    requires { F.IsAlwaysCallable accepts.old }
+    ensures ok { IfOk result (λ set. (run : Run) × IsResolved query.now run set × Chain (AsksClosure F.FnMut query.now) accepts.old run accepts.new) }
+    ensures err { OnErr result (accepts.new ≡ accepts.old) }
+{
+    match offers_of(alloc, query) {
+        Ok(offers) => show_to_closure(alloc, query, offers.graph(), accepts),
+        Err(refused) => Err(refused),
+    }
+}
+
+fn show_to_closure<'g, F: FnMut(&FeatureLinkContext<'_>, ConditionalLink<'g>) -> bool>(
+    alloc: Global,
+    query: &FeatureQuery<'g>,
+    offers: &OfferGraph,
+    accepts: &mut F,
+) -> Result<NodeSet, AllocError>
+    requires callable { F.IsAlwaysCallable accepts.old }
+    requires offers { offers.now ≡ offered (direction_of query.now.direction) query.now.graph }
+    ensures ok { IfOk result (λ set. (run : Run) × IsResolved query.now run set × Chain (AsksClosure F.FnMut query.now) accepts.old run accepts.new) }
+    ensures err { OnErr result (accepts.new ≡ accepts.old) }
+{
+    let direction = direction_of(query.direction());
+    let mut walk = OfferWalk::new(alloc, offers, query.starts(), direction)?;
+    while let Some(due) = take_uncounted(&mut walk) {
+        let (first, second) = ask_closure_due(accepts, query, due);
+        walk.answer(due, first, second);
+    }
+    Ok(walk.into_included())
+}
+
+/// The same, with a count of the looks.
+pub(crate) fn resolve_by_closure_counted<
+    'g,
     L: Ledger,
-    F: FnMut(&FeatureLinkContext<'_>, ConditionalLink<'_>) -> bool,
+    F: FnMut(&FeatureLinkContext<'_>, ConditionalLink<'g>) -> bool,
 >(
     alloc: Global,
-    query: &FeatureQuery<'_>,
+    query: &FeatureQuery<'g>,
     accepts: &mut F,
     looks: &mut Looks<L>,
 ) -> Result<NodeSet, AllocError>
@@ -157,14 +193,18 @@ pub(crate) fn resolve_by_closure<
     ensures looks { looks.new ≤ looks.old + length query.now.graph.nodes }
 {
     match offers_of(alloc, query) {
-        Ok(offers) => show_to_closure(alloc, query, offers.graph(), accepts, looks),
+        Ok(offers) => show_to_closure_counted(alloc, query, offers.graph(), accepts, looks),
         Err(refused) => Err(refused),
     }
 }
 
-fn show_to_closure<L: Ledger, F: FnMut(&FeatureLinkContext<'_>, ConditionalLink<'_>) -> bool>(
+fn show_to_closure_counted<
+    'g,
+    L: Ledger,
+    F: FnMut(&FeatureLinkContext<'_>, ConditionalLink<'g>) -> bool,
+>(
     alloc: Global,
-    query: &FeatureQuery<'_>,
+    query: &FeatureQuery<'g>,
     offers: &OfferGraph,
     accepts: &mut F,
     looks: &mut Looks<L>,
@@ -184,9 +224,9 @@ fn show_to_closure<L: Ledger, F: FnMut(&FeatureLinkContext<'_>, ConditionalLink<
     Ok(walk.into_included())
 }
 
-fn ask_closure_due<F: FnMut(&FeatureLinkContext<'_>, ConditionalLink<'_>) -> bool>(
+fn ask_closure_due<'g, F: FnMut(&FeatureLinkContext<'_>, ConditionalLink<'g>) -> bool>(
     accepts: &mut F,
-    query: &FeatureQuery<'_>,
+    query: &FeatureQuery<'g>,
     due: Due,
 ) -> (bool, bool)
     requires callable { F.IsAlwaysCallable accepts.old }
@@ -206,9 +246,9 @@ fn ask_closure_due<F: FnMut(&FeatureLinkContext<'_>, ConditionalLink<'_>) -> boo
     }
 }
 
-fn ask_closure<F: FnMut(&FeatureLinkContext<'_>, ConditionalLink<'_>) -> bool>(
+fn ask_closure<'g, F: FnMut(&FeatureLinkContext<'_>, ConditionalLink<'g>) -> bool>(
     accepts: &mut F,
-    query: &FeatureQuery<'_>,
+    query: &FeatureQuery<'g>,
     offer: Offer,
 ) -> bool
     requires callable { F.IsAlwaysCallable accepts.old }
@@ -216,7 +256,7 @@ fn ask_closure<F: FnMut(&FeatureLinkContext<'_>, ConditionalLink<'_>) -> bool>(
     ensures asks { AsksClosure F.FnMut query.now accepts.old offer result accepts.new }
     ensures callable { F.IsAlwaysCallable accepts.new }
 {
-    let cx = FeatureLinkContext::of(query);
+    let cx = FeatureLinkContext::of(&*query);
     let link = link_of(query, offer);
     accepts(&cx, link)
 }

@@ -2,7 +2,7 @@ ghost use Rattle.std.specs.Prelude.{◌<◌, All, length};
 
 use crate::feature_ids_at::FeatureIdsAt;
 use guppy_feature_nodes::FeatureGraphData;
-use guppy_package_graph::write_entries;
+use list_facts::write_entries;
 use std::fmt;
 
 /// The cycles of a graph, each as the ids of its features, from both ends.

@@ -108,7 +108,7 @@ impl<'g> ConditionalLink<'g> {
             optional: self.declarations.includes_optional(),
         };
         let lines = built.edge(self.number).edge.lines();
-        PlatformStatus::over(built.package_graph().link_rows(), lines, choice)
+        PlatformStatus::over_chosen(built.package_graph().link_rows(), lines, choice)
     }
 
     /// Whether it stands on no normal and no build line.

@@ -2,7 +2,7 @@ ghost use Rattle.std.specs.Prelude.{◌<◌, All, length};
 ghost use Rattle.numbered_graph.specs.ListedViews.{listed_left};
 
 use guppy_feature_nodes::{FeatureGraphData, FeatureId};
-use guppy_package_graph::write_entries;
+use list_facts::write_entries;
 use numbered_graph::Listed;
 use std::fmt;
 

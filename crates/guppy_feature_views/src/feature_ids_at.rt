@@ -1,10 +1,10 @@
 ghost use Rattle.std.specs.Prelude.{◌<◌, All, length};
 
 use guppy_feature_nodes::{FeatureGraphData, FeatureId};
-use guppy_package_graph::write_entries;
+use list_facts::write_entries;
 use std::fmt;
 
-/// The ids of features of a graph, one after the other.
+/// The ids of features of a graph, one after the other, from both ends.
 #[derive(Clone, Copy)]
 pub struct FeatureIdsAt<'g, 'a> {
     built: &'g FeatureGraphData<'g>,
@@ -45,6 +45,20 @@ impl<'g> Iterator for FeatureIdsAt<'g, '_> {
 
     fn size_hint(&self) -> (usize, Option<usize>) {
         (self.nodes.len(), Some(self.nodes.len()))
+    }
+}
+
+impl<'g> DoubleEndedIterator for FeatureIdsAt<'g, '_> {
+    ghost use Rattle.std.specs.Iterator.{YieldsLastBy};
+    ghost use Rattle.guppy_feature_ids.specs.IdViews.{id_view};
+    ghost use Rattle.guppy_feature_views.specs.CycleViews.{all_nodes_left};
+
+    ghost next_back_gives = { YieldsLastBy id_view all_nodes_left };
+
+    fn next_back(&mut self) -> Option<FeatureId<'g>> {
+        let (last, others) = self.nodes.split_last()?;
+        self.nodes = others;
+        Some(self.built.feature_at(*last))
     }
 }
 

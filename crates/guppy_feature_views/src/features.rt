@@ -3,7 +3,7 @@ ghost use Rattle.numbered_graph.specs.ListedViews.{listed_left};
 
 use crate::feature_metadata::FeatureMetadata;
 use guppy_feature_nodes::FeatureGraphData;
-use guppy_package_graph::write_entries;
+use list_facts::write_entries;
 use numbered_graph::Listed;
 use std::fmt;
 

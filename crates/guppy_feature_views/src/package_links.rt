@@ -1,6 +1,7 @@
 ghost use Rattle.std.specs.Prelude.{◌<◌, All, length};
 
-use guppy_package_graph::{PackageGraph, PackageLink, write_entries};
+use guppy_package_graph::{PackageGraph, PackageLink};
+use list_facts::write_entries;
 use std::fmt;
 
 /// Links between packages, one after the other.

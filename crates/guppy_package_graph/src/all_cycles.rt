@@ -1,8 +1,8 @@
 ghost use Rattle.std.specs.Prelude.{◌<◌, All, length};
 
-use crate::entries::write_entries;
 use crate::package_graph::PackageGraph;
 use crate::package_ids::PackageIdsAt;
+use list_facts::write_entries;
 use std::fmt;
 
 /// The cycles of a graph, each as the ids of its packages, from both ends.

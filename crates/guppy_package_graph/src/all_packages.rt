@@ -1,6 +1,6 @@
-use crate::entries::write_entries;
 use crate::package_graph::PackageGraph;
 use crate::package_metadata::PackageMetadata;
+use list_facts::write_entries;
 use std::fmt;
 
 /// The packages of a graph, in the order of the record.

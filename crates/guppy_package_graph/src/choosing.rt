@@ -13,9 +13,9 @@ use std::alloc::{AllocError, Global};
 
 /// The places of the packages that the callback accepts, and of those that it refuses. All memory is
 /// taken before it is asked.
-pub(crate) fn choose<F: FnMut(PackageMetadata<'_>) -> bool>(
+pub(crate) fn choose<'g, F: FnMut(PackageMetadata<'g>) -> bool>(
     alloc: Global,
-    set: &PackageSet<'_>,
+    set: &PackageSet<'g>,
     direction: DependencyDirection,
     callback: &mut F,
 ) -> Result<(NodeSet, NodeSet), AllocError>
@@ -38,11 +38,34 @@ pub(crate) fn choose<F: FnMut(PackageMetadata<'_>) -> bool>(
     Ok((accepted, refused))
 }
 
+/// The places of the packages that the callback accepts. All memory is taken before it is asked.
+pub(crate) fn choose_accepted<'g, F: FnMut(PackageMetadata<'g>) -> bool>(
+    alloc: Global,
+    set: &PackageSet<'g>,
+    direction: DependencyDirection,
+    callback: &mut F,
+) -> Result<NodeSet, AllocError>
+    requires { F.IsAlwaysCallable callback.old }
+    ensures ok { IfOk result (λ kept. (asked : List (ℕ × Bool)) × AreAsked F.FnMut set.now direction callback.old asked callback.new
+        × ((v : ℕ) → IsTrue (has kept v) ↔ Contains asked (v, true))) }
+    ensures sized { IfOk result (λ kept. length kept ≡ length set.now.graph.packages) }
+    ensures err { OnErr result (callback.new ≡ callback.old) }
+{
+    let graph = set.graph();
+    let mut kept = NodeSet::none(alloc, graph.package_count())?;
+    let mut places = set.listed(direction);
+    while let Some(place) = places.next() {
+        let answer = ask_about(callback, graph, place);
+        put_if(&mut kept, place, answer);
+    }
+    Ok(kept)
+}
+
 /// The places of the packages for which the callback answers `Some(true)`, and of those for which it
 /// answers `Some(false)`. All memory is taken before it is asked.
-pub(crate) fn choose_some<F: FnMut(PackageMetadata<'_>) -> Option<bool>>(
+pub(crate) fn choose_some<'g, F: FnMut(PackageMetadata<'g>) -> Option<bool>>(
     alloc: Global,
-    set: &PackageSet<'_>,
+    set: &PackageSet<'g>,
     direction: DependencyDirection,
     callback: &mut F,
 ) -> Result<(NodeSet, NodeSet), AllocError>
@@ -65,14 +88,14 @@ pub(crate) fn choose_some<F: FnMut(PackageMetadata<'_>) -> Option<bool>>(
     Ok((first, second))
 }
 
-fn ask_about<A, F: FnMut(PackageMetadata<'_>) -> A>(
+fn ask_about<'g, A, F: FnMut(PackageMetadata<'g>) -> A>(
     callback: &mut F,
-    graph: &PackageGraph,
+    graph: &'g PackageGraph,
     place: usize,
 ) -> A
     requires callable { F.IsAlwaysCallable callback.old }
     requires within { place < length graph.now.packages }
-    ensures asks { AsksPackage F.FnMut graph.now callback.old place result callback.new }
+    ensures asks { AsksPackage F.FnMut graph.entry.now callback.old place result callback.new }
     ensures callable { F.IsAlwaysCallable callback.new }
 {
     callback(graph.metadata_at(place))

@@ -49,7 +49,7 @@ impl<'g> DependsCache<'g> {
         })
     }
 
-    /// A cache of the same graph that knows as much, in memory of its own.
+    /// A cache of the same graph, in memory of its own, so that it answers alike.
     pub fn copy(&self, alloc: Global) -> Result<DependsCache<'g>, AllocError>
         ensures same { IfOk result (λ c. c ≡ self.now) }
     {

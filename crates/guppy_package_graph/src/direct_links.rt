@@ -3,9 +3,9 @@ ghost use Rattle.std.proofs.Props.{props};
 ghost use Rattle.numbered_graph.specs.Links.{near_at};
 ghost use Rattle.guppy_package_table.specs.Tables.{numbered_links};
 
-use crate::entries::write_entries;
 use crate::package_graph::PackageGraph;
 use crate::package_link::PackageLink;
+use list_facts::write_entries;
 use numbered_graph::Direction;
 use std::fmt;
 

@@ -5,7 +5,7 @@ ghost use Rattle.std.specs.Prelude.{◌≡◌, ℕ, Bool, List, Option, Some, tr
 ghost use Rattle.guppy_package_graph.specs.Filters.{AreAsked};
 ghost use Rattle.guppy_package_graph.specs.SetValues.{IsSetOf};
 
-use crate::choosing::{choose, choose_some};
+use crate::choosing::{choose, choose_accepted, choose_some};
 use crate::package_metadata::PackageMetadata;
 use crate::package_set::PackageSet;
 use guppy_package_parts::DependencyDirection;
@@ -14,7 +14,7 @@ use std::alloc::{AllocError, Global};
 impl<'g> PackageSet<'g> {
     /// The packages of the set that the callback accepts. It is asked about each once, in the order in
     /// which the set is listed.
-    pub fn filter<F: FnMut(PackageMetadata<'_>) -> bool>(
+    pub fn filter<F: FnMut(PackageMetadata<'g>) -> bool>(
         &self,
         alloc: Global,
         direction: DependencyDirection,
@@ -30,7 +30,7 @@ impl<'g> PackageSet<'g> {
     }
 
     /// The same by a callback that is lent. Where memory is refused, it was not asked.
-    pub fn filter_lent<F: FnMut(PackageMetadata<'_>) -> bool>(
+    pub fn filter_lent<F: FnMut(PackageMetadata<'g>) -> bool>(
         &self,
         alloc: Global,
         direction: DependencyDirection,
@@ -41,13 +41,13 @@ impl<'g> PackageSet<'g> {
             × IsSetOf self.now.graph (λ v. Contains asked (v, true)) s) }
         ensures err { OnErr result (callback.new ≡ callback.old) }
     {
-        let (accepted, _) = self.partition_lent(alloc, direction, callback)?;
-        Ok(accepted)
+        let kept = choose_accepted(alloc, self, direction, callback)?;
+        Ok(PackageSet::of(self.graph(), kept))
     }
 
     /// The packages of the set that the callback accepts, and those that it refuses. It is asked about
     /// each once, in the order in which the set is listed.
-    pub fn partition<F: FnMut(PackageMetadata<'_>) -> bool>(
+    pub fn partition<F: FnMut(PackageMetadata<'g>) -> bool>(
         &self,
         alloc: Global,
         direction: DependencyDirection,
@@ -64,7 +64,7 @@ impl<'g> PackageSet<'g> {
     }
 
     /// The same by a callback that is lent. Where memory is refused, it was not asked.
-    pub fn partition_lent<F: FnMut(PackageMetadata<'_>) -> bool>(
+    pub fn partition_lent<F: FnMut(PackageMetadata<'g>) -> bool>(
         &self,
         alloc: Global,
         direction: DependencyDirection,
@@ -86,7 +86,7 @@ impl<'g> PackageSet<'g> {
 
     /// The packages for which the callback answers `Some(true)`, and those for which it answers
     /// `Some(false)`. It is asked about each once, in the order in which the set is listed.
-    pub fn filter_partition<F: FnMut(PackageMetadata<'_>) -> Option<bool>>(
+    pub fn filter_partition<F: FnMut(PackageMetadata<'g>) -> Option<bool>>(
         &self,
         alloc: Global,
         direction: DependencyDirection,
@@ -103,7 +103,7 @@ impl<'g> PackageSet<'g> {
     }
 
     /// The same by a callback that is lent. Where memory is refused, it was not asked.
-    pub fn filter_partition_lent<F: FnMut(PackageMetadata<'_>) -> Option<bool>>(
+    pub fn filter_partition_lent<F: FnMut(PackageMetadata<'g>) -> Option<bool>>(
         &self,
         alloc: Global,
         direction: DependencyDirection,

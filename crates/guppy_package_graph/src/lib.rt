@@ -11,7 +11,6 @@ mod dependency_direction;
 mod depending;
 mod depends_cache;
 mod direct_links;
-mod entries;
 mod filters;
 mod found_members;
 mod found_packages;
@@ -46,7 +45,6 @@ pub use crate::all_packages::AllPackages;
 pub use crate::cycles::Cycles;
 pub use crate::depends_cache::DependsCache;
 pub use crate::direct_links::DirectLinks;
-pub use crate::entries::write_entries;
 pub use crate::members_by_name::MembersByName;
 pub use crate::members_by_path::MembersByPath;
 pub use crate::package_graph::PackageGraph;
@@ -63,13 +61,14 @@ pub use crate::workspace::Workspace;
 pub use guppy_package_parts::{
     BuildTarget, BuildTargetId, BuildTargetKind, DependencyDirection, DependencyKind,
     DependencyReq, EnabledStatus, EnabledTernary, Error, ExternalSource, FeatureBuildStage,
-    FeatureGraphWarning, FeatureRow, GitReq, LineKind, LineRow, LinkRow, MemberRow, PackageId,
-    PackagePublish, PackageRow, PackageRowInfo, PackageSource, Platform, PlatformEval,
+    FeatureGraphWarning, FeatureRow, GitReq, LineChoice, LineKind, LineRow, LinkRow, MemberRow,
+    PackageId, PackagePublish, PackageRow, PackageRowInfo, PackageSource, Platform, PlatformEval,
     PlatformSpec, PlatformStatus, RequirementFeatures, SortedSet, TargetKind, TargetRow,
     TargetRowInfo, TargetSpecs, WorkspaceRow,
 };
 pub use guppy_package_table::{
     BuildTargets, LinkDetails, NamedFeatures, PackageDetails, PackageGraphError,
 };
-pub use numbered_graph::Looks;
+pub use numbered_graph::{Direction, Looks};
 pub use package_rules::RecordRule;
+pub use workspace_record::WorkspaceRecord;

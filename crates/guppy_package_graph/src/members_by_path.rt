@@ -1,10 +1,10 @@
 ghost use Rattle.std.specs.Prelude.{◌<◌, All, length};
 
-use crate::entries::write_entries;
 use crate::package_graph::PackageGraph;
 use crate::package_metadata::PackageMetadata;
 use crate::places::Places;
 use guppy_workspace_members::path_at;
+use list_facts::write_entries;
 use std::fmt;
 
 /// Members of a workspace with their paths, one after the other.

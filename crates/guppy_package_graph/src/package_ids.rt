@@ -1,14 +1,14 @@
 ghost use Rattle.std.specs.Prelude.{◌<◌, All, length};
 ghost use Rattle.numbered_graph.specs.ListedViews.{listed_left};
 
-use crate::entries::write_entries;
 use crate::package_graph::PackageGraph;
 use crate::places::Places;
 use guppy_package_parts::PackageId;
+use list_facts::write_entries;
 use numbered_graph::Listed;
 use std::fmt;
 
-/// The ids of packages of a graph, one after the other.
+/// The ids of packages of a graph, one after the other, from both ends.
 #[derive(Clone, Copy)]
 pub struct PackageIdsAt<'g, 'a> {
     places: Places<'g, 'a>,
@@ -46,6 +46,18 @@ impl<'g> Iterator for PackageIdsAt<'g, '_> {
 
     fn size_hint(&self) -> (usize, Option<usize>) {
         (self.places.len(), Some(self.places.len()))
+    }
+}
+
+impl<'g> DoubleEndedIterator for PackageIdsAt<'g, '_> {
+    ghost use Rattle.std.specs.Iterator.{YieldsLastBy};
+    ghost use Rattle.guppy_package_graph.specs.IdViews.{all_ids_left};
+
+    ghost next_back_gives = { YieldsLastBy (λ id. id.now) all_ids_left };
+
+    fn next_back(&mut self) -> Option<&'g PackageId> {
+        let place = self.places.last()?;
+        Some(self.places.graph().id_at(place))
     }
 }
 

@@ -7,7 +7,7 @@ ghost use Rattle.guppy_package_graph.specs.SetValues.{IsSetOf};
 ghost use Rattle.guppy_package_graph.specs.Workspaces.{IsMemberPlace};
 
 use crate::found_members::{set_at_paths, set_called};
-use crate::found_packages::{set_of_ids, set_of_known, set_of_members, set_of_name};
+use crate::found_packages::{set_of_ids, set_of_members, set_of_name};
 use crate::package_graph::PackageGraph;
 use crate::package_set::PackageSet;
 use guppy_package_parts::{Error, PackageId};
@@ -42,18 +42,6 @@ impl PackageGraph {
         ensures refused { IfErr result (IsMissing self.now (map (λ id. id.now) package_ids.now)) }
     {
         let set = set_of_ids(alloc, self, package_ids)?;
-        Ok(PackageSet::of(self, set))
-    }
-
-    /// The set of those packages that have one of these ids; an id of no package is passed over.
-    pub fn resolve_known(
-        &self,
-        alloc: Global,
-        package_ids: &[&PackageId],
-    ) -> Result<PackageSet<'_>, AllocError>
-        ensures named { IfOk result (IsSetOf self.now (IsNamed self.now (map (λ id. id.now) package_ids.now))) }
-    {
-        let set = set_of_known(alloc, self, package_ids)?;
         Ok(PackageSet::of(self, set))
     }
 

@@ -1,9 +1,9 @@
 ghost use Rattle.std.specs.Prelude.{◌<◌, All, length};
 ghost use Rattle.numbered_graph.specs.ListedViews.{listed_left};
 
-use crate::entries::write_entries;
 use crate::package_graph::PackageGraph;
 use crate::package_metadata::PackageMetadata;
+use list_facts::write_entries;
 use numbered_graph::Listed;
 use std::fmt;
 

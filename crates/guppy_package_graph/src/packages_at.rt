@@ -1,9 +1,9 @@
 ghost use Rattle.std.specs.Prelude.{◌<◌, All, length};
 
-use crate::entries::write_entries;
 use crate::package_graph::PackageGraph;
 use crate::package_metadata::PackageMetadata;
 use crate::places::Places;
+use list_facts::write_entries;
 use std::fmt;
 
 /// Packages of a graph, one after the other.

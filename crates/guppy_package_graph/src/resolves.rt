@@ -72,7 +72,7 @@ impl<'g> PackageQuery<'g> {
 
     /// The packages that links lead to from the initials which the closure accepts. Each link that
     /// leaves an included package is shown to it once, in no order that is promised.
-    pub fn resolve_with_fn<F: FnMut(&PackageLinkContext<'_>, PackageLink<'_>) -> bool>(
+    pub fn resolve_with_fn<F: FnMut(&PackageLinkContext<'_>, PackageLink<'g>) -> bool>(
         self,
         alloc: Global,
         mut visitor_fn: F,
@@ -87,7 +87,7 @@ impl<'g> PackageQuery<'g> {
     }
 
     /// The same by a closure that is lent. Where memory is refused, it was not asked.
-    pub fn resolve_with_fn_lent<F: FnMut(&PackageLinkContext<'_>, PackageLink<'_>) -> bool>(
+    pub fn resolve_with_fn_lent<F: FnMut(&PackageLinkContext<'_>, PackageLink<'g>) -> bool>(
         self,
         alloc: Global,
         visitor_fn: &mut F,
@@ -97,7 +97,7 @@ impl<'g> PackageQuery<'g> {
         ensures ok { IfOk result (λ s. (shown : Shown) × IsResolved self.entry shown s.included × Chain (AsksClosure F.FnMut self.entry) visitor_fn.old shown visitor_fn.new) }
         ensures err { OnErr result (visitor_fn.new ≡ visitor_fn.old) }
     {
-        match resolve_by_closure::<Brand, F>(alloc, &self, visitor_fn, Blank::new(1)) {
+        match resolve_by_closure(alloc, &self, visitor_fn) {
             Ok(included) => Ok(PackageSet::of(self.graph(), included)),
             Err(refused) => Err(refused),
         }

@@ -13,7 +13,7 @@ use crate::package_link::PackageLink;
 use crate::package_link_context::PackageLinkContext;
 use crate::package_query::PackageQuery;
 use crate::visitor::PackageLinkVisitor;
-use numbered_graph::{Looks, NodeSet, Walk};
+use numbered_graph::{Looks, NodeSet, Walk, take_uncounted};
 use std::alloc::{AllocError, Global};
 use std::sync::ledger::{Blank, Ledger};
 
@@ -53,36 +53,28 @@ fn ask(visitor: &mut dyn PackageLinkVisitor, query: &PackageQuery<'_>, number: u
 }
 
 /// Asks a closure about each link that leaves an included package.
-pub(crate) fn resolve_by_closure<
-    L: Ledger,
-    F: FnMut(&PackageLinkContext<'_>, PackageLink<'_>) -> bool,
->(
+pub(crate) fn resolve_by_closure<'g, F: FnMut(&PackageLinkContext<'_>, PackageLink<'g>) -> bool>(
     alloc: Global,
-    query: &PackageQuery<'_>,
+    query: &PackageQuery<'g>,
     accepts: &mut F,
-    blank: Blank,
 ) -> Result<NodeSet, AllocError>
-    requires name { blank.name ≡ L.name }
-    requires parts { blank.parts ≡ L.parts }
-    requires some { 0 < blank.parts }
-    requires callable { F.IsAlwaysCallable accepts.old }
+    requires { F.IsAlwaysCallable accepts.old }
     ensures ok { IfOk result (λ set. (shown : Shown) × IsResolved query.now shown set × Chain (AsksClosure F.FnMut query.now) accepts.old shown accepts.new) }
     ensures err { OnErr result (accepts.new ≡ accepts.old) }
 {
-    let mut looks = Looks::<L>::new(blank);
     let graph = query.graph();
     let direction = direction_of(query.direction());
     let mut walk = Walk::new(alloc, graph.table().graph(), query.starts(), direction)?;
-    while let Some(number) = walk.take(&mut looks) {
+    while let Some(number) = take_uncounted(&mut walk) {
         let accepted = ask_closure(accepts, query, number);
         walk.answer(number, accepted);
     }
     Ok(walk.into_included())
 }
 
-fn ask_closure<F: FnMut(&PackageLinkContext<'_>, PackageLink<'_>) -> bool>(
+fn ask_closure<'g, F: FnMut(&PackageLinkContext<'_>, PackageLink<'g>) -> bool>(
     accepts: &mut F,
-    query: &PackageQuery<'_>,
+    query: &PackageQuery<'g>,
     number: usize,
 ) -> bool
     requires callable { F.IsAlwaysCallable accepts.old }
@@ -90,7 +82,7 @@ fn ask_closure<F: FnMut(&PackageLinkContext<'_>, PackageLink<'_>) -> bool>(
     ensures asks { AsksClosure F.FnMut query.now accepts.old number result accepts.new }
     ensures callable { F.IsAlwaysCallable accepts.new }
 {
-    let cx = PackageLinkContext::of(query);
+    let cx = PackageLinkContext::of(&*query);
     let link = query.graph().link_at(number);
     accepts(&cx, link)
 }

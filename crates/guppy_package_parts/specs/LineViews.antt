@@ -6,7 +6,7 @@ use Rattle.guppy_package_parts.specs.declared.lines.Part.{Part}
 use Rattle.guppy_package_parts.specs.declared.lines.Part.TheVariants.{All, AskingDefaults, NotAskingDefaults, Listing}
 use Rattle.guppy_package_parts.specs.declared.lines.LineTest.{LineTest}
 use Rattle.guppy_package_parts.specs.declared.lines.Lines.{Lines}
-use Rattle.guppy_package_parts.specs.declared.lines.Lines.TheVariants.{Passing, Chosen}
+use Rattle.guppy_package_parts.specs.declared.lines.Lines.TheVariants.{Passing, Named, Chosen}
 
 abbrev pub is_in_part : Part → Line → Bool
 is_in_part All line = true
@@ -26,4 +26,5 @@ is_line_of test line = (is_kind test.kind line && is_in_part test.part line) && 
 -- the lines, in order
 abbrev pub lines_of : Lines → List Line
 lines_of (Passing lines test) = filter (is_line_of test) lines.now
+lines_of (Named links places) = lines_at links.now places.now
 lines_of (Chosen links places choice) = filter (takes choice) (lines_at links.now places.now)

@@ -67,7 +67,9 @@ impl LineChoice {
 pub(crate) enum Lines<'g> {
     /// Those that pass a test.
     Passing(&'g [LineRecord], LineTest<'g>),
-    /// Of those named by the place of their link, and by their place in it, the ones that are chosen.
+    /// Those named by the place of their link, and by their place in it.
+    Named(&'g [LinkRecord], &'g [(usize, usize)]),
+    /// Of those named so, the ones that are chosen.
     Chosen(&'g [LinkRecord], &'g [(usize, usize)], LineChoice),
 }
 
@@ -80,6 +82,10 @@ impl<'g> Lines<'g> {
             Lines::Passing(lines, test) => {
                 let (line, others) = first_passing(lines, test)?;
                 Some((line, Lines::Passing(others, test)))
+            }
+            Lines::Named(links, places) => {
+                let (line, others) = first_named(links, places)?;
+                Some((line, Lines::Named(links, others)))
             }
             Lines::Chosen(links, places, choice) => {
                 let (line, others) = first_chosen(links, places, choice)?;

@@ -1,8 +1,8 @@
-ghost use Rattle.std.specs.Prelude.{◌≡◌, ◌∷◌, [], MatchOption, filter, map, Some};
+ghost use Rattle.std.specs.Prelude.{◌≡◌, ◌∷◌, [], All, MatchOption, filter, map, Some};
 ghost use Rattle.std.specs.List.{list_any};
 ghost use Rattle.std.specs.Option.{is_none};
 ghost use Rattle.guppy_package_parts.specs.LineChoices.{takes};
-ghost use Rattle.guppy_package_parts.specs.Lines.{lines_at};
+ghost use Rattle.guppy_package_parts.specs.Lines.{IsLineAt, lines_at};
 ghost use Rattle.guppy_package_parts.specs.LineViews.{lines_of};
 ghost use Rattle.guppy_package_parts.specs.PlatformViews.{spec_view};
 ghost use Rattle.guppy_package_parts.specs.Statuses.{IsStatusOf, given_specs, is_always, is_never, is_present, kept_specs, specs_of, status_from, status_of};
@@ -31,9 +31,17 @@ pub struct PlatformEval<'g> {
 }
 
 impl<'g> PlatformStatus<'g> {
-    /// The status of the chosen ones of the lines that are named by the place of their link, and by their
-    /// place in it.
-    pub fn over(
+    /// The status of the lines that are named by the place of their link, and by their place in it. Each
+    /// of them is there.
+    pub fn over(links: &'g [LinkRecord], lines: &'g [(usize, usize)]) -> PlatformStatus<'g>
+        requires { All (IsLineAt links.now) lines.now }
+        ensures status { IsStatusOf (specs_of (lines_at links.entry.now lines.entry.now)) (status_view result) }
+    {
+        PlatformStatus::of(Lines::Named(links, lines))
+    }
+
+    /// The status of the chosen ones of the lines that are named so. One that is not there is passed over.
+    pub fn over_chosen(
         links: &'g [LinkRecord],
         lines: &'g [(usize, usize)],
         choice: LineChoice,

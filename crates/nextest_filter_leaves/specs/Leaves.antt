@@ -1,5 +1,7 @@
 -- The leaves of filters.
-use Rattle.std.specs.Prelude.{Bool, true, false}
+use Rattle.std.specs.Prelude.{Bool, true, false, Option, None as Nothing, List, option_to_list}
+use Rattle.regex.specs.declared.string.regex.Regex.{Regex}
+use Rattle.nextest_filter_matchers.specs.Copies.{pattern_of}
 use Rattle.nextest_filter_matchers.specs.Matchers.{Matcher, matcher_of}
 use Rattle.nextest_binaries.specs.declared.build_platform.BuildPlatform.{BuildPlatform}
 use Rattle.nextest_filter_tokens.specs.declared.heads.Predicate.{Predicate}
@@ -30,6 +32,35 @@ leaf_of (leaf.Feature matcher span) = Named Feature (matcher_of matcher) span
 leaf_of (leaf.Default span) = Default span
 leaf_of leaf.All = All
 leaf_of leaf.None = None
+
+-- the pattern of a leaf, with what `regex` made of its text
+abbrev pub leaf_pattern : {S : Type 0} → ParsedLeaf S → Option Regex
+leaf_pattern (leaf.Package matcher span) = pattern_of matcher
+leaf_pattern (leaf.Deps matcher span) = pattern_of matcher
+leaf_pattern (leaf.Rdeps matcher span) = pattern_of matcher
+leaf_pattern (leaf.Kind matcher span) = pattern_of matcher
+leaf_pattern (leaf.Binary matcher span) = pattern_of matcher
+leaf_pattern (leaf.BinaryId matcher span) = pattern_of matcher
+leaf_pattern (leaf.Platform platform span) = Nothing
+leaf_pattern (leaf.Test matcher span) = pattern_of matcher
+leaf_pattern (leaf.Group matcher span) = pattern_of matcher
+leaf_pattern (leaf.Feature matcher span) = pattern_of matcher
+leaf_pattern (leaf.Default span) = Nothing
+leaf_pattern leaf.All = Nothing
+leaf_pattern leaf.None = Nothing
+
+-- patterns, with what `regex` made of their texts
+abbrev pub Patterns : Type 0
+Patterns = List Regex
+
+-- the patterns of a leaf: one or none
+abbrev pub leaf_patterns : {S : Type 0} → ParsedLeaf S → Patterns
+leaf_patterns l = option_to_list (leaf_pattern l)
+
+-- the pattern among the parts of a leaf
+abbrev pub parts_pattern : {S : Type 0} → Parts S → Option Regex
+parts_pattern (parts.Named predicate matcher span) = pattern_of matcher.now
+parts_pattern _ = Nothing
 
 -- the leaf whose parts they are
 abbrev pub leaf_of_parts : {S : Type 0} → Parts S → Leaf S

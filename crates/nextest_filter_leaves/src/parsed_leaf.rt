@@ -1,7 +1,8 @@
 ghost use Rattle.std.specs.Prelude.{◌≡◌};
 ghost use Rattle.nextest_filter_matchers.specs.Matchers.{matcher_of};
 ghost use Rattle.nextest_filter_leaves.specs.AsWritten.{IsLeafAsWritten, IsMatcherAsWritten};
-ghost use Rattle.nextest_filter_leaves.specs.Leaves.{Named, leaf_of};
+ghost use Rattle.nextest_filter_leaves.specs.Leaves.{Named, leaf_of, leaf_pattern};
+ghost use Rattle.nextest_filter_matchers.specs.Copies.{pattern_of};
 ghost use Rattle.nextest_filter_leaves.specs.LeafTexts as text;
 
 use nextest_filter_faults::BuildPlatform;
@@ -67,6 +68,7 @@ enum Parts<'l, S> {
 /// The leaf of a predicate's matcher.
 pub(crate) fn leaf_with<S>(predicate: Predicate, matcher: NameMatcher, span: S) -> ParsedLeaf<S>
     ensures value { leaf_of result ≡ Named predicate (matcher_of matcher) span }
+    ensures pattern { leaf_pattern result ≡ pattern_of matcher }
     ensures as_written { IsMatcherAsWritten matcher → IsLeafAsWritten result }
 {
     match predicate {
@@ -101,11 +103,12 @@ fn predicate_name(predicate: Predicate) -> &'static str
 
 impl<S> ParsedLeaf<S> {
     ghost use Rattle.std.specs.Prelude.{◌≡◌};
-    ghost use Rattle.nextest_filter_leaves.specs.Leaves.{leaf_of, leaf_of_parts};
+    ghost use Rattle.nextest_filter_leaves.specs.Leaves.{leaf_of, leaf_of_parts, leaf_pattern, parts_pattern};
 
     /// What the leaf is made of.
     fn parts(&self) -> Parts<'_, S>
-        ensures { leaf_of_parts result ≡ leaf_of self.now }
+        ensures leaf { leaf_of_parts result ≡ leaf_of self.now }
+        ensures pattern { parts_pattern result ≡ leaf_pattern self.now }
     {
         match self {
             ParsedLeaf::Package(matcher, span) => Parts::Named(Predicate::Package, matcher, span),
@@ -127,11 +130,12 @@ impl<S> ParsedLeaf<S> {
 
 impl<S: Copy> ParsedLeaf<S> {
     ghost use Rattle.std.specs.Prelude.{◌≡◌, IfOk};
-    ghost use Rattle.nextest_filter_leaves.specs.Leaves.{leaf_of};
+    ghost use Rattle.nextest_filter_leaves.specs.Leaves.{leaf_of, leaf_pattern};
 
-    /// An equal leaf in memory of its own.
+    /// An equal leaf in memory of its own, which matches the same names.
     pub fn copy(&self, alloc: Global) -> Result<ParsedLeaf<S>, AllocError>
-        ensures { IfOk result (λ c. leaf_of c ≡ leaf_of self.now) }
+        ensures equal { IfOk result (λ c. leaf_of c ≡ leaf_of self.now) }
+        ensures pattern { IfOk result (λ c. leaf_pattern c ≡ leaf_pattern self.now) }
     {
         match self.parts() {
             Parts::Named(predicate, matcher, span) => {

@@ -1,3 +1,10 @@
 pub mod WalkFacts
 pub mod ReadingFacts
 pub mod PrintFacts
+pub mod SequenceFacts
+pub mod TokenFacts
+pub mod FrontFacts
+pub mod PartFacts
+pub mod CutFacts
+pub mod ClassFacts
+pub mod GrammarFacts

@@ -33,6 +33,11 @@ is_in_set Any c = true
 is_in_set (Class true ranges) c = not (list_any (is_in_range c) ranges)
 is_in_set (Class _ ranges) c = list_any (is_in_range c) ranges
 
+-- these tokens, and then more
+abbrev pub tokens_then : List Token → Glob → Glob
+tokens_then [] more = more
+tokens_then (token ∷ tokens) more = Then (Single token) (tokens_then tokens more)
+
 -- of the characters of a text from the place i to the place j
 module _ (text : List ℕ) where
   -- one character of the set

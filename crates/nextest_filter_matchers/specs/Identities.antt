@@ -71,7 +71,7 @@ sets_decide (Class a ranges) (Class b others) =
     )
 sets_decide _ _ = (λ h. absurd (false≢true h), λ e. cc)
 
-tokens_decide : DecidesEquality token_eq
+pub tokens_decide : DecidesEquality token_eq
 tokens_decide (One a) (One b) = (λ h. ap One ((sets_decide a b).0 h), λ e. (sets_decide a b).1 cc)
 tokens_decide AnyText AnyText = (λ _. refl, λ _. refl)
 tokens_decide LeadingDirectories LeadingDirectories = (λ _. refl, λ _. refl)

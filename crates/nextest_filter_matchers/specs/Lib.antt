@@ -1,7 +1,11 @@
 pub mod Globs
 pub mod GlobViews
 pub mod Walks
+pub mod Sequences
+pub mod StopViews
+pub mod Parts
 pub mod GlobReading
+pub mod GlobGrammar
 pub mod ReadingViews
 pub mod Matchers
 pub mod Copies

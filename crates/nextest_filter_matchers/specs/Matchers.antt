@@ -5,12 +5,13 @@ use Rattle.regex.specs.Strings.{regex_pattern, regex_source}
 use Rattle.std.specs.Str.{chars}
 use Rattle.std.specs.Str.Iter.{HasSubslice}
 use Rattle.std.specs.Cmp.{IsEquivalence}
-use Rattle.nextest_filter_matchers.specs.Identities.{Identity, EqualTo, Containing, OfGlob, OfPattern, glob_eq, globs_decide, identity_eq, identities_decide, equivalence_by}
+use Rattle.nextest_filter_matchers.specs.Identities.{Identity, EqualTo, Containing, OfGlob, OfPattern, glob_eq, globs_decide, token_eq, tokens_decide, identity_eq, identities_decide, equivalence_by}
 use Rattle.nextest_filter_matchers.specs.Globs as spec
 use Rattle.nextest_filter_matchers.specs.Globs.{GlobMatches}
 use Rattle.nextest_filter_matchers.specs.GlobReading.{read_glob}
-use Rattle.nextest_filter_matchers.specs.GlobViews.{glob_of}
+use Rattle.nextest_filter_matchers.specs.GlobViews.{glob_of, token_of}
 use Rattle.nextest_filter_matchers.specs.declared.glob_error.GlobError.{GlobError}
+use Rattle.nextest_filter_matchers.specs.declared.glob_pattern.Token.{Token}
 use Rattle.nextest_filter_matchers.specs.declared.generic_glob.GenericGlob.{GenericGlob}
 use Rattle.nextest_filter_matchers.specs.declared.name_matcher.NameMatcher.{NameMatcher}
 use Rattle.nextest_filter_matchers.specs.declared.name_matcher.NameMatcher.TheVariants as name
@@ -66,6 +67,13 @@ matcher_eq a b = identity_eq (identity_of a) (identity_of b)
 
 pub matchers_equivalent : IsEquivalence matcher_eq
 matchers_equivalent = equivalence_by identity_of identities_decide
+
+-- the same token
+abbrev pub same_token : Token → Token → Bool
+same_token a b = token_eq (token_of a) (token_of b)
+
+pub same_tokens_equivalent : IsEquivalence same_token
+same_tokens_equivalent = equivalence_by token_of tokens_decide
 
 -- globs with the same tokens
 abbrev pub generic_glob_eq : GenericGlob → GenericGlob → Bool

@@ -1,6 +1,6 @@
 -- What clauses see of what was read.
-use Rattle.std.specs.Prelude.{Result, Ok, Err}
-use Rattle.nextest_filter_matchers.specs.Globs.{Glob}
+use Rattle.std.specs.Prelude.{ℕ, List, Bool, Result, Ok, Err}
+use Rattle.nextest_filter_matchers.specs.Globs.{Glob, Token, Empty, tokens_then}
 use Rattle.nextest_filter_matchers.specs.declared.glob_pattern.Pattern.{Pattern}
 use Rattle.nextest_filter_matchers.specs.declared.glob_error.GlobError.{GlobError}
 use Rattle.nextest_filter_matchers.specs.GlobReading as spec
@@ -9,6 +9,8 @@ use Rattle.nextest_filter_matchers.specs.declared.glob_reading.ClassRead.{ClassR
 use Rattle.nextest_filter_matchers.specs.declared.glob_reading.ClassRead.TheVariants.{Closed, Bad as BadClass}
 use Rattle.nextest_filter_matchers.specs.declared.glob_reading.Piece.{Piece}
 use Rattle.nextest_filter_matchers.specs.declared.glob_reading.Piece.TheVariants.{End, Stands, Open, Comma, Close, Bad as BadPiece}
+use Rattle.nextest_filter_matchers.specs.declared.glob_reading.RunEnd.{RunEnd}
+use Rattle.nextest_filter_matchers.specs.declared.glob_reading.RunEnd.TheVariants.{Ends, Opens, Bad as BadRun}
 use Rattle.nextest_filter_matchers.specs.declared.glob_reading.PatternRead.{PatternRead}
 use Rattle.nextest_filter_matchers.specs.declared.glob_reading.PatternRead.TheVariants.{Read, Bad as BadPattern}
 
@@ -31,3 +33,29 @@ outcome_of (BadPattern error) = spec.Refuses error
 abbrev pub read_view : Result Pattern GlobError → Result Glob GlobError
 read_view (Ok pattern) = Ok (glob_of pattern)
 read_view (Err error) = Err error
+
+-- how a run of tokens ends
+pub data RunStop : Type 0 where
+  AtEnd : List ℕ → RunStop
+  AtGroup : List ℕ → RunStop
+  AtFault : GlobError → RunStop
+
+abbrev pub end_of : RunEnd → RunStop
+end_of (Ends text) = AtEnd text.now
+end_of (Opens text) = AtGroup text.now
+end_of (BadRun error) = AtFault error
+
+-- what is read from there on
+abbrev pub end_outcome : (spec.Part → List ℕ → spec.Outcome) → Bool → RunStop → spec.Outcome
+end_outcome next inside (AtEnd text) = spec.Reads Empty text
+end_outcome next inside (AtGroup text) = spec.after_alternates next inside (next spec.Alternates text)
+end_outcome next inside (AtFault error) = spec.Refuses error
+
+abbrev pub IsOpen : RunStop → Type 0
+IsOpen (AtGroup text) = Unit {0}
+IsOpen _ = ⊥
+
+-- the tokens before what is read
+abbrev pub prefixed : List Token → spec.Outcome → spec.Outcome
+prefixed tokens (spec.Reads glob text) = spec.Reads (tokens_then tokens glob) text
+prefixed tokens (spec.Refuses error) = spec.Refuses error

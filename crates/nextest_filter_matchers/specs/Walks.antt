@@ -1,5 +1,5 @@
 -- A walk over a text, place by place: what is known of the places before it, as flags for the tokens of a glob.
-use Rattle.std.specs.Prelude.{ℕ, ◌+◌, Bool, false, ◌&&◌, ◌||◌, List, nat_eq, slice_index_or, slice_set}
+use Rattle.std.specs.Prelude.{ℕ, ◌+◌, Bool, true, false, ◌&&◌, ◌||◌, List, [], ◌∷◌, Option, Some, None, nat_eq, nat_le, slice_index_or, slice_set}
 use Rattle.nextest_filter_matchers.specs.Globs.{Glob, Token, CharacterSet, Empty, Single, Then, Either, One, AnyText, LeadingDirectories, InnerDirectories, TrailingDirectories, Character, is_in_set}
 
 abbrev pub flag_at : List Bool → ℕ → Bool
@@ -13,12 +13,22 @@ token_room LeadingDirectories = 1
 token_room InnerDirectories = 2
 token_room TrailingDirectories = 2
 
+-- how many flags tokens have, one after another
+abbrev pub tokens_room : List Token → ℕ
+tokens_room [] = 0
+tokens_room (token ∷ tokens) = token_room token + tokens_room tokens
+
 -- how many flags a glob has
 abbrev pub room : Glob → ℕ
 room Empty = 0
 room (Single token) = token_room token
 room (Then a b) = room a + room b
 room (Either a b) = room a + room b
+
+-- the glob has so many flags, which are set aside for it, or none is told
+abbrev pub has_room : Option ℕ → Glob → Bool
+has_room (Some count) glob = nat_le (room glob) count && nat_le count 65536
+has_room None glob = true
 
 -- whether a part ends at a place, and the flags there
 pub record Step : Type 0 where

@@ -1,14 +1,16 @@
-ghost use Rattle.std.specs.Prelude.{◌≡◌, ◌≤◌, ◌↔◌, IfOk, IsTrue, string_bytes, true};
+ghost use Rattle.std.specs.Prelude.{◌≡◌, ◌↔◌, IfOk, IsTrue, string_bytes, true};
 ghost use Rattle.std.specs.Str.{chars};
 ghost use Rattle.nextest_filter_matchers.specs.GlobReading.{read_glob};
 ghost use Rattle.nextest_filter_matchers.specs.GlobViews.{glob_of};
 ghost use Rattle.nextest_filter_matchers.specs.Globs.{GlobMatches};
 ghost use Rattle.nextest_filter_matchers.specs.Identities.{is_plainly, is_read_as};
-ghost use Rattle.nextest_filter_matchers.specs.Walks.{room as room_of};
+ghost use Rattle.nextest_filter_matchers.specs.Walks.{has_room};
 
 use crate::glob_error::GlobError;
 use crate::glob_pattern::Pattern;
 use crate::glob_reading::read_pattern;
+use crate::glob_search::parts_match;
+use crate::glob_sequence::suits_tokens;
 use crate::glob_walk::walks_through;
 use std::alloc::{AllocError, Global};
 use std::fmt;
@@ -20,20 +22,18 @@ pub struct GenericGlob {
     pattern: Pattern,
     /// Whether the tokens are the text's characters.
     is_plain: bool,
-    /// How many flags a walk takes.
-    room: usize,
+    /// How many flags a walk takes; none for more than are set aside for one.
+    room: Option<usize>,
     ghost has_tokens: { is_read_as (read_glob (chars (string_bytes text))) (glob_of pattern) ≡ true },
     ghost is_spelled: { is_plainly is_plain (chars (string_bytes text)) (glob_of pattern) ≡ true },
-    ghost has_room: { room_of (glob_of pattern) ≤ room },
-    ghost fits: { room ≤ 65536 },
+    ghost fits: { has_room room (glob_of pattern) ≡ true },
 }
 
 impl GenericGlob {
     ghost use Rattle.nextest_filter_matchers.specs.Globs.{GlobMatches};
     ghost use Rattle.nextest_filter_matchers.specs.Matchers.{glob_text, tokens_of, is_glob_read};
 
-    /// Reads a glob, or says why the text is none. One whose walk takes more flags than are set aside
-    /// for it is refused as one for which there is no memory.
+    /// Reads a glob, or says why the text is none.
     pub fn new(alloc: Global, text: String) -> Result<Result<GenericGlob, GlobError>, AllocError>
         ensures { IfOk result (λ r. is_glob_read (string_bytes text) r) }
     {
@@ -41,7 +41,7 @@ impl GenericGlob {
         match read_pattern(alloc, &characters)? {
             Ok(pattern) => {
                 let is_plain = pattern.spells(&characters);
-                let room = pattern.room().ok_or(AllocError)?;
+                let room = pattern.room();
                 Ok(Ok(GenericGlob {
                     text,
                     pattern,
@@ -60,14 +60,19 @@ impl GenericGlob {
         self.text.as_str()
     }
 
-    /// Whether the glob matches the whole text, in time of its tokens times the text's characters.
+    /// Whether the glob matches the whole text, in time of its tokens times the text's characters. Only one
+    /// with braces and more than 65,536 tokens may take longer.
     pub fn is_match(&self, text: &str) -> bool
         ensures { IsTrue result ↔ GlobMatches (tokens_of self.now) (chars text.now) }
     {
         if self.is_plain {
             return self.text.as_str() == text;
         }
-        walks_through(&self.pattern, self.room, text)
+        match (&self.pattern, self.room) {
+            (Pattern::Sequence(tokens), _) => suits_tokens(tokens, text),
+            (pattern, Some(room)) => walks_through(pattern, room, text),
+            (pattern, None) => parts_match(pattern, text),
+        }
     }
 
     /// An equal glob in memory of its own.
@@ -90,7 +95,10 @@ impl GenericGlob {
 fn characters_of(alloc: Global, text: &str) -> Result<Vec<char>, AllocError>
     ensures { IfOk result (λ v. v.items ≡ chars text.now) }
 {
-    let characters: Vec<char> = text.chars().collect(alloc)?;
+    let mut characters = Vec::new(alloc);
+    for c in text.chars() {
+        characters.push(c)?;
+    }
     Ok(characters)
 }
 

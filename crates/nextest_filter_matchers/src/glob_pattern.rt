@@ -1,8 +1,8 @@
 ghost use Rattle.std.specs.List.{list_any};
 ghost use Rattle.std.specs.Prelude.{◌≡◌, IfOk};
 ghost use Rattle.nextest_filter_matchers.specs.Globs.{is_in_range, is_in_set};
-ghost use Rattle.nextest_filter_matchers.specs.GlobViews.{glob_of, set_of, token_of};
-ghost use Rattle.nextest_filter_matchers.specs.Identities.{glob_eq, set_eq, token_eq};
+ghost use Rattle.nextest_filter_matchers.specs.GlobViews.{glob_of, set_of, token_of, tokens_in};
+ghost use Rattle.nextest_filter_matchers.specs.Identities.{glob_eq, set_eq};
 
 use std::alloc::{AllocError, Global};
 
@@ -33,12 +33,14 @@ pub(crate) enum Token {
     TrailingDirectories,
 }
 
-/// What a name may be.
+/// What a name may be. No token is a step of any recursion: only what braces hold is.
 #[derive(Debug, Drop)]
 pub(crate) enum Pattern {
-    Empty,
-    Single(Token),
-    Then(Box<Pattern>, Box<Pattern>),
+    /// Tokens one after another.
+    Sequence(Vec<Token>),
+    /// Tokens, then what stands in braces, then more.
+    Grouped(Vec<Token>, Box<Pattern>, Box<Pattern>),
+    /// One of the alternates in braces, or the others.
     Either(Box<Pattern>, Box<Pattern>),
 }
 
@@ -106,19 +108,6 @@ fn is_within(ranges: &[(char, char)], c: char) -> bool
 }
 
 impl Token {
-    fn is_same(&self, other: &Token) -> bool
-        ensures { result ≡ token_eq (token_of self.now) (token_of other.now) }
-    {
-        match (self, other) {
-            (Token::One(set), Token::One(other)) => set.is_same(other),
-            (Token::AnyText, Token::AnyText) => true,
-            (Token::LeadingDirectories, Token::LeadingDirectories) => true,
-            (Token::InnerDirectories, Token::InnerDirectories) => true,
-            (Token::TrailingDirectories, Token::TrailingDirectories) => true,
-            _ => false,
-        }
-    }
-
     fn copy(&self, alloc: Global) -> Result<Token, AllocError>
         ensures { IfOk result (λ c. token_of c ≡ token_of self.now) }
     {
@@ -135,15 +124,47 @@ impl Token {
     }
 }
 
+impl PartialEq for Token {
+    ghost use Rattle.nextest_filter_matchers.specs.Matchers.{same_token, same_tokens_equivalent};
+    ghost use Rattle.std.specs.Cmp.{partial_equiv_from_equiv};
+
+    ghost eq = { same_token };
+
+    ghost laws = { partial_equiv_from_equiv same_tokens_equivalent };
+
+    fn eq(&self, other: &Token) -> bool {
+        match (self, other) {
+            (Token::One(set), Token::One(other)) => set.is_same(other),
+            (Token::AnyText, Token::AnyText) => true,
+            (Token::LeadingDirectories, Token::LeadingDirectories) => true,
+            (Token::InnerDirectories, Token::InnerDirectories) => true,
+            (Token::TrailingDirectories, Token::TrailingDirectories) => true,
+            _ => false,
+        }
+    }
+}
+
+/// Equal tokens in memory of their own.
+fn copy_tokens(tokens: &[Token], alloc: Global) -> Result<Vec<Token>, AllocError>
+    ensures { IfOk result (λ c. tokens_in c.items ≡ tokens_in tokens.now) }
+{
+    let mut copied = Vec::with_capacity(alloc, tokens.len())?;
+    for token in tokens {
+        copied.push(token.copy(alloc)?)?;
+    }
+    Ok(copied)
+}
+
 impl Pattern {
     /// Whether both have the same tokens.
     pub(crate) fn is_same(&self, other: &Pattern) -> bool
         ensures { result ≡ glob_eq (glob_of self.now) (glob_of other.now) }
     {
         match (self, other) {
-            (Pattern::Empty, Pattern::Empty) => true,
-            (Pattern::Single(token), Pattern::Single(other)) => token.is_same(other),
-            (Pattern::Then(a, b), Pattern::Then(c, d)) => a.is_same(c) && b.is_same(d),
+            (Pattern::Sequence(tokens), Pattern::Sequence(others)) => tokens == others,
+            (Pattern::Grouped(tokens, a, b), Pattern::Grouped(others, c, d)) => {
+                tokens == others && a.is_same(c) && b.is_same(d)
+            }
             (Pattern::Either(a, b), Pattern::Either(c, d)) => a.is_same(c) && b.is_same(d),
             _ => false,
         }
@@ -154,15 +175,15 @@ impl Pattern {
         ensures { IfOk result (λ c. glob_of c ≡ glob_of self.now) }
     {
         match self {
-            Pattern::Empty => Ok(Pattern::Empty),
-            Pattern::Single(token) => {
-                let token = token.copy(alloc)?;
-                Ok(Pattern::Single(token))
+            Pattern::Sequence(tokens) => {
+                let tokens = copy_tokens(tokens, alloc)?;
+                Ok(Pattern::Sequence(tokens))
             }
-            Pattern::Then(first, second) => {
-                let first = Box::new(alloc, first.copy(alloc)?)?;
-                let second = Box::new(alloc, second.copy(alloc)?)?;
-                Ok(Pattern::Then(first, second))
+            Pattern::Grouped(tokens, group, more) => {
+                let tokens = copy_tokens(tokens, alloc)?;
+                let group = Box::new(alloc, group.copy(alloc)?)?;
+                let more = Box::new(alloc, more.copy(alloc)?)?;
+                Ok(Pattern::Grouped(tokens, group, more))
             }
             Pattern::Either(one, other) => {
                 let one = Box::new(alloc, one.copy(alloc)?)?;

@@ -1,9 +1,9 @@
 //! How a glob is read from its text.
 
-ghost use Rattle.std.specs.Prelude.{◌≡◌, ◌+◌, ◌*◌, [], false, IfOk, length};
-ghost use Rattle.nextest_filter_matchers.specs.GlobReading.{class_at, class_of, class_piece, class_rest, character_piece, or_read, piece_of, then_read, past_directories, read_glob, read_part, tokens_from, Alternates, Outcome, Tokens};
-ghost use Rattle.nextest_filter_matchers.specs.GlobViews.{glob_of};
-ghost use Rattle.nextest_filter_matchers.specs.ReadingViews.{class_outcome, outcome_of, piece_view, read_view};
+ghost use Rattle.std.specs.Prelude.{◌≡◌, ◌+◌, ◌*◌, ◌<◌, [], false, IfOk, length};
+ghost use Rattle.nextest_filter_matchers.specs.GlobReading.{after_alternates, class_at, class_of, class_piece, class_rest, character_piece, or_read, piece_of, then_read, past_directories, read_glob, read_part, Alternates, Outcome, Tokens};
+ghost use Rattle.nextest_filter_matchers.specs.GlobViews.{glob_of, tokens_in};
+ghost use Rattle.nextest_filter_matchers.specs.ReadingViews.{IsOpen, class_outcome, end_of, end_outcome, outcome_of, piece_view, prefixed, read_view};
 
 use crate::glob_error::GlobError;
 use crate::glob_pattern::{CharacterSet, Pattern, Token};
@@ -24,6 +24,16 @@ pub(crate) enum Piece<'t> {
     Open(&'t [char]),
     Comma(&'t [char]),
     Close(&'t [char]),
+    Bad(GlobError),
+}
+
+/// How a run of tokens ends.
+#[derive(Drop)]
+pub(crate) enum RunEnd<'t> {
+    /// At the end of the text or, inside braces, before this `,` or `}`.
+    Ends(&'t [char]),
+    /// At a brace, before these alternates.
+    Opens(&'t [char]),
     Bad(GlobError),
 }
 
@@ -163,24 +173,6 @@ fn piece_at<'t>(alloc: Global, is_front: bool, text: &'t [char]) -> Result<Piece
     }
 }
 
-/// The pattern, and then more of it.
-fn then_more<'t>(
-    alloc: Global,
-    pattern: Pattern,
-    more: PatternRead<'t>,
-) -> Result<PatternRead<'t>, AllocError>
-    ensures { IfOk result (λ r. outcome_of r ≡ then_read (glob_of pattern) (outcome_of more.entry)) }
-{
-    match more {
-        PatternRead::Read(more, rest) => {
-            let first = Box::new(alloc, pattern)?;
-            let second = Box::new(alloc, more)?;
-            Ok(PatternRead::Read(Pattern::Then(first, second), rest))
-        }
-        PatternRead::Bad(error) => Ok(PatternRead::Bad(error)),
-    }
-}
-
 /// The pattern, or another.
 fn or_more<'t>(
     alloc: Global,
@@ -196,23 +188,6 @@ fn or_more<'t>(
             Ok(PatternRead::Read(Pattern::Either(one, other), rest))
         }
         PatternRead::Bad(error) => Ok(PatternRead::Bad(error)),
-    }
-}
-
-/// The pattern, and then what is read after it.
-fn then_if_read<'t>(
-    alloc: Global,
-    pattern: Pattern,
-    more: Result<PatternRead<'t>, AllocError>,
-) -> Result<PatternRead<'t>, AllocError>
-    ensures { (o : Outcome) → IfOk more.entry (λ m. outcome_of m ≡ o) → IfOk result (λ r. outcome_of r ≡ then_read (glob_of pattern) o) }
-{
-    match more {
-        Ok(more) => then_more(alloc, pattern, more),
-        Err(refused) => {
-            drop(pattern);
-            Err(refused)
-        }
     }
 }
 
@@ -233,9 +208,51 @@ fn or_if_read<'t>(
     }
 }
 
-/// Reads tokens, at most so many, up to the end of the text or of the alternate that they stand in.
+/// Reads tokens up to a brace, to the end of the text or to that of the alternate that they stand in, and
+/// adds them to those. Of the tokens that there may be at most it gives how many are left.
+fn run<'t>(
+    alloc: Global,
+    left: usize,
+    is_front: bool,
+    is_inside: bool,
+    text: &'t [char],
+    tokens: &mut Vec<Token>,
+) -> Result<(usize, RunEnd<'t>), AllocError>
+    requires { tokens.old.items ≡ [] }
+    ensures reads { IfOk result (λ r. prefixed (tokens_in tokens.new.items) (end_outcome (read_part r.0) is_inside (end_of r.1)) ≡ read_part left (Tokens is_front is_inside) text.entry.now) }
+    ensures fewer { IfOk result (λ r. IsOpen (end_of r.1) → r.0 < left) }
+{
+    let mut rest = text;
+    let mut left = left;
+    let mut is_front = is_front;
+    while left > 0 {
+        left -= 1;
+        match piece_at(alloc, is_front, rest)? {
+            Piece::Stands(token, more) => {
+                tokens.push(token)?;
+                rest = more;
+            }
+            Piece::Comma(more) if !is_inside => {
+                tokens.push(Token::One(CharacterSet::Character(',')))?;
+                rest = more;
+            }
+            Piece::Comma(_) => return Ok((left, RunEnd::Ends(rest))),
+            Piece::Open(more) => return Ok((left, RunEnd::Opens(more))),
+            Piece::End if !is_inside => return Ok((left, RunEnd::Ends(&[]))),
+            Piece::End => return Ok((left, RunEnd::Bad(GlobError::UnclosedAlternates))),
+            Piece::Close(_) if is_inside => return Ok((left, RunEnd::Ends(rest))),
+            Piece::Close(_) => return Ok((left, RunEnd::Bad(GlobError::UnopenedAlternates))),
+            Piece::Bad(error) => return Ok((left, RunEnd::Bad(error))),
+        }
+        is_front = false;
+    }
+    Ok((0, RunEnd::Bad(GlobError::UnclosedAlternates)))
+}
+
+/// Reads tokens and alternates, at most so many, up to the end of the text or of the alternate that they
+/// stand in.
 #[cycle(reading)]
-fn tokens<'t>(
+fn sequence<'t>(
     alloc: Global,
     left: usize,
     is_front: bool,
@@ -244,47 +261,51 @@ fn tokens<'t>(
 ) -> Result<PatternRead<'t>, AllocError>
     ensures { IfOk result (λ r. outcome_of r ≡ read_part left (Tokens is_front is_inside) text.entry.now) }
 {
-    if left == 0 {
-        return Ok(PatternRead::Bad(GlobError::UnclosedAlternates));
+    let mut tokens = Vec::new(alloc);
+    let (left, end) = run(alloc, left, is_front, is_inside, text, &mut tokens)?;
+    match end {
+        RunEnd::Ends(rest) => Ok(PatternRead::Read(Pattern::Sequence(tokens), rest)),
+        RunEnd::Opens(rest) => grouped(alloc, left, is_inside, tokens, rest),
+        RunEnd::Bad(error) => Ok(PatternRead::Bad(error)),
     }
-    let piece = piece_at(alloc, is_front, text)?;
-    tokens_after(alloc, left - 1, is_inside, text, piece)
 }
 
-/// Reads tokens from a piece on, with which the text begins.
+/// Reads alternates after a brace, which stand behind the tokens, and what follows them.
 #[cycle(reading)]
-fn tokens_after<'t>(
+fn grouped<'t>(
     alloc: Global,
     left: usize,
     is_inside: bool,
+    tokens: Vec<Token>,
     text: &'t [char],
-    piece: Piece<'t>,
 ) -> Result<PatternRead<'t>, AllocError>
-    ensures { IfOk result (λ r. outcome_of r ≡ tokens_from (read_part left) is_inside text.entry.now (piece_view piece.entry)) }
+    ensures { IfOk result (λ r. outcome_of r ≡ prefixed (tokens_in tokens.items) (after_alternates (read_part left) is_inside (read_part left Alternates text.entry.now))) }
 {
-    match piece {
-        Piece::End if is_inside => Ok(PatternRead::Bad(GlobError::UnclosedAlternates)),
-        Piece::End => Ok(PatternRead::Read(Pattern::Empty, &[])),
-        Piece::Stands(token, rest) => {
-            let more = tokens(alloc, left, false, is_inside, rest);
-            then_if_read(alloc, Pattern::Single(token), more)
+    match alternates(alloc, left, text)? {
+        PatternRead::Read(group, rest) => {
+            let more = sequence(alloc, left, false, is_inside, rest)?;
+            group_then(alloc, tokens, group, more)
         }
-        Piece::Open(rest) => match alternates(alloc, left, rest)? {
-            PatternRead::Read(group, rest) => {
-                let more = tokens(alloc, left, false, is_inside, rest);
-                then_if_read(alloc, group, more)
-            }
-            PatternRead::Bad(error) => Ok(PatternRead::Bad(error)),
-        },
-        Piece::Comma(_) if is_inside => Ok(PatternRead::Read(Pattern::Empty, text)),
-        Piece::Comma(rest) => {
-            let comma = Token::One(CharacterSet::Character(','));
-            let more = tokens(alloc, left, false, false, rest);
-            then_if_read(alloc, Pattern::Single(comma), more)
+        PatternRead::Bad(error) => Ok(PatternRead::Bad(error)),
+    }
+}
+
+/// The tokens, the alternates, and then more.
+fn group_then<'t>(
+    alloc: Global,
+    tokens: Vec<Token>,
+    group: Pattern,
+    more: PatternRead<'t>,
+) -> Result<PatternRead<'t>, AllocError>
+    ensures { IfOk result (λ r. outcome_of r ≡ prefixed (tokens_in tokens.items) (then_read (glob_of group) (outcome_of more.entry))) }
+{
+    match more {
+        PatternRead::Read(more, rest) => {
+            let group = Box::new(alloc, group)?;
+            let more = Box::new(alloc, more)?;
+            Ok(PatternRead::Read(Pattern::Grouped(tokens, group, more), rest))
         }
-        Piece::Close(_) if is_inside => Ok(PatternRead::Read(Pattern::Empty, text)),
-        Piece::Close(_) => Ok(PatternRead::Bad(GlobError::UnopenedAlternates)),
-        Piece::Bad(error) => Ok(PatternRead::Bad(error)),
+        PatternRead::Bad(error) => Ok(PatternRead::Bad(error)),
     }
 }
 
@@ -300,7 +321,7 @@ fn alternates<'t>(
     if left == 0 {
         return Ok(PatternRead::Bad(GlobError::UnclosedAlternates));
     }
-    match tokens(alloc, left - 1, false, true, text)? {
+    match sequence(alloc, left - 1, false, true, text)? {
         PatternRead::Read(pattern, rest) => match rest {
             [',', rest @ ..] => {
                 let more = alternates(alloc, left - 1, rest);
@@ -321,7 +342,7 @@ pub(crate) fn read_pattern(
     ensures { IfOk result (λ r. read_view r ≡ read_glob text.now) }
 {
     let left = 2 * text.len() + 1;
-    match tokens(alloc, left, true, false, text)? {
+    match sequence(alloc, left, true, false, text)? {
         PatternRead::Read(pattern, _) => Ok(Ok(pattern)),
         PatternRead::Bad(error) => Ok(Err(error)),
     }

@@ -1,11 +1,11 @@
 //! Whether a pattern matches a text, by one walk over the text. What is known of the places before the
 //! walk's is a flag or two for each token, so no memory is taken.
 
-ghost use Rattle.std.specs.Prelude.{◌≡◌, ◌+◌, ◌≤◌, ◌<◌, ◌↔◌, ℕ, IfNone, IfSome, IsTrue, false, length};
+ghost use Rattle.std.specs.Prelude.{◌≡◌, ◌+◌, ◌≤◌, ◌<◌, ◌↔◌, ℕ, false, IfSome, IsTrue, length};
 ghost use Rattle.std.specs.Str.{chars};
-ghost use Rattle.nextest_filter_matchers.specs.Globs.{Character, GlobMatches, One, Single, spelled};
-ghost use Rattle.nextest_filter_matchers.specs.GlobViews.{glob_of, set_of, token_of};
-ghost use Rattle.nextest_filter_matchers.specs.Walks.{flag_at, one_step, text_step, directories_step, token_step, token_room, glob_step, room};
+ghost use Rattle.nextest_filter_matchers.specs.Globs.{Glob, GlobMatches, tokens_then};
+ghost use Rattle.nextest_filter_matchers.specs.GlobViews.{glob_of, set_of, token_of, tokens_in};
+ghost use Rattle.nextest_filter_matchers.specs.Walks.{flag_at, one_step, text_step, directories_step, token_step, token_room, glob_step, room, tokens_room as room_of_tokens};
 
 use crate::glob_pattern::{CharacterSet, Pattern, Token};
 
@@ -19,7 +19,6 @@ fn both_rooms(one: usize, other: usize) -> Option<usize>
     requires other { other ≤ 65536 }
     ensures sum { IfSome result (λ r. r ≡ one + other) }
     ensures fits { IfSome result (λ r. r ≤ 65536) }
-    ensures none { IfNone result (65536 < one + other) }
 {
     if one + other > MANY_FLAGS {
         return None;
@@ -96,46 +95,61 @@ impl Token {
     }
 }
 
+/// How many flags the tokens have; none for more than there may be.
+fn tokens_room(tokens: &[Token]) -> Option<usize>
+    ensures room { IfSome result (λ r. r ≡ room_of_tokens (tokens_in tokens.now)) }
+    ensures fits { IfSome result (λ r. r ≤ 65536) }
+{
+    let mut count = 0;
+    for token in tokens {
+        if count >= MANY_FLAGS - 1 {
+            return None;
+        }
+        count += token.room();
+    }
+    Some(count)
+}
+
+/// Whether the tokens end here, one after another, and where the flags of what follows begin.
+fn tokens_step(
+    tokens: &[Token],
+    c: char,
+    is_begun: bool,
+    flags: &mut [bool],
+    at: usize,
+) -> (bool, usize)
+    requires { at + room_of_tokens (tokens_in tokens.now) ≤ length flags.old }
+    ensures step { (more : Glob) → glob_step (tokens_then (tokens_in tokens.now) more) c is_begun flags.old at ≡ glob_step more c result.0 flags.new result.1 }
+    ensures next { result.1 ≡ at + room_of_tokens (tokens_in tokens.now) }
+    ensures size { length flags.new ≡ length flags.old }
+{
+    let mut is_led = is_begun;
+    let mut next = at;
+    for token in tokens {
+        (is_led, next) = token.step(c, is_led, flags, next);
+    }
+    (is_led, next)
+}
+
 impl Pattern {
     /// How many flags the pattern has; none for more than there may be.
+    #[tactic(auto, using(crate::proofs::SequenceFacts::room_then))]
     pub(crate) fn room(&self) -> Option<usize>
         ensures room { IfSome result (λ r. r ≡ room (glob_of self.now)) }
         ensures fits { IfSome result (λ r. r ≤ 65536) }
-        ensures none { IfNone result (65536 < room (glob_of self.now)) }
     {
         match self {
-            Pattern::Empty => Some(0),
-            Pattern::Single(token) => Some(token.room()),
-            Pattern::Then(one, other) | Pattern::Either(one, other) => {
-                both_rooms(one.room()?, other.room()?)
+            Pattern::Sequence(tokens) => tokens_room(tokens),
+            Pattern::Grouped(tokens, group, more) => {
+                let front = both_rooms(tokens_room(tokens)?, group.room()?)?;
+                both_rooms(front, more.room()?)
             }
-        }
-    }
-
-    /// Whether the tokens are these characters.
-    pub(crate) fn spells(&self, characters: &[char]) -> bool
-        ensures { IsTrue result → glob_of self.now ≡ spelled characters.now }
-    {
-        match self {
-            Pattern::Empty => characters.is_empty(),
-            Pattern::Then(first, more) => match characters.split_first() {
-                Some((c, others)) => first.is_character(*c) && more.spells(others),
-                None => false,
-            },
-            _ => false,
-        }
-    }
-
-    fn is_character(&self, c: char) -> bool
-        ensures { IsTrue result → glob_of self.now ≡ Single (One (Character c)) }
-    {
-        match self {
-            Pattern::Single(Token::One(CharacterSet::Character(d))) => *d == c,
-            _ => false,
+            Pattern::Either(one, other) => both_rooms(one.room()?, other.room()?),
         }
     }
 
     /// Whether the pattern ends here, behind the character, and where the flags of the next one begin.
+    #[tactic(auto, using(crate::proofs::SequenceFacts::room_then))]
     fn step(&self, c: char, is_begun: bool, flags: &mut [bool], at: usize) -> (bool, usize)
         requires { at + room (glob_of self.now) ≤ length flags.old }
         ensures led { result.0 ≡ (glob_step (glob_of self.now) c is_begun flags.old at).is_led }
@@ -144,11 +158,11 @@ impl Pattern {
         ensures size { length flags.new ≡ length flags.old }
     {
         match self {
-            Pattern::Empty => (is_begun, at),
-            Pattern::Single(token) => token.step(c, is_begun, flags, at),
-            Pattern::Then(first, second) => {
-                let (is_between, next) = first.step(c, is_begun, flags, at);
-                second.step(c, is_between, flags, next)
+            Pattern::Sequence(tokens) => tokens_step(tokens, c, is_begun, flags, at),
+            Pattern::Grouped(tokens, group, more) => {
+                let (is_led, next) = tokens_step(tokens, c, is_begun, flags, at);
+                let (is_led, next) = group.step(c, is_led, flags, next);
+                more.step(c, is_led, flags, next)
             }
             Pattern::Either(one, other) => {
                 let (is_led, next) = one.step(c, is_begun, flags, at);

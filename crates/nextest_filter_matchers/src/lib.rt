@@ -8,6 +8,8 @@ mod generic_glob;
 mod glob_error;
 mod glob_pattern;
 mod glob_reading;
+mod glob_search;
+mod glob_sequence;
 mod glob_walk;
 pub mod laws;
 mod name_matcher;

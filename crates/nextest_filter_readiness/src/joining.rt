@@ -1,6 +1,6 @@
 //! Ready filters joined, where what is known of one may make the other needless.
 
-ghost use Rattle.std.specs.Prelude.{◌≡◌, IfOk, IfSome};
+ghost use Rattle.std.specs.Prelude.{◌≡◌, Bool, IfNone, IfOk, IfSome};
 ghost use Rattle.nextest_filter_evaluation.specs.Formulas.{both, either, leaf, negation};
 ghost use Rattle.nextest_filter_readiness.specs.Ready.{Answered, SayAlike, ready_of};
 
@@ -11,6 +11,7 @@ impl<'f> ReadyExpr<'f> {
     /// Whether the filter holds of all tests of the binary or of none, if that is known.
     pub fn known(&self) -> Option<bool>
         ensures known { IfSome result (λ v. ready_of self.now ≡ leaf (Answered v)) }
+        ensures unknown { (v : Bool) → IfNone result (ready_of self.now ≡ leaf (Answered v) → ⊥) }
     {
         match self {
             ReadyExpr::Known(value) => Some(*value),

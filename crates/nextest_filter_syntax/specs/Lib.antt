@@ -6,3 +6,4 @@ pub mod Grammar
 pub mod Reading
 pub mod Laws
 pub mod Parsing
+pub mod MisplacedOperators

@@ -1,8 +1,9 @@
 -- Filters as plain trees.
+use Rattle.std.specs.Prelude.{◌++◌}
 use Rattle.nextest_filter_faults.specs.declared.operators.NotOperator.{NotOperator}
 use Rattle.nextest_filter_faults.specs.declared.operators.OrOperator.{OrOperator}
 use Rattle.nextest_filter_faults.specs.declared.operators.AndOperator.{AndOperator}
-use Rattle.nextest_filter_leaves.specs.Leaves.{Leaf, leaf_of}
+use Rattle.nextest_filter_leaves.specs.Leaves.{Leaf, Patterns, leaf_of, leaf_patterns}
 use Rattle.nextest_filter_syntax.specs.declared.parsed_expr.ParsedExpr.{ParsedExpr, Not', Union', Intersection', Difference', Parens', Set}
 
 pub data Tree (S : Type 0) : Type 0 where
@@ -20,3 +21,12 @@ tree_of (Intersection' op p x q y) = intersection_of op (tree_of x) (tree_of y)
 tree_of (Difference' op p x q y) = difference_of (tree_of x) (tree_of y)
 tree_of (Parens' p x) = parens_of (tree_of x)
 tree_of (Set l) = set_of (leaf_of l)
+
+-- the patterns of a filter from left to right, with what `regex` made of their texts
+abbrev pub patterns_of : {S : Type 0} → ParsedExpr S → Patterns
+patterns_of (Not' op p x) = patterns_of x
+patterns_of (Union' op p x q y) = patterns_of x ++ patterns_of y
+patterns_of (Intersection' op p x q y) = patterns_of x ++ patterns_of y
+patterns_of (Difference' op p x q y) = patterns_of x ++ patterns_of y
+patterns_of (Parens' p x) = patterns_of x
+patterns_of (Set l) = leaf_patterns l

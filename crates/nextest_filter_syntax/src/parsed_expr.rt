@@ -19,12 +19,13 @@ pub enum ParsedExpr<S = SourceSpan> {
 
 impl<S: Copy> ParsedExpr<S> {
     ghost use Rattle.std.specs.Prelude.{◌≡◌, IfOk};
-    ghost use Rattle.nextest_filter_leaves.specs.Leaves.{leaf_of};
-    ghost use Rattle.nextest_filter_syntax.specs.Trees.{set_of, tree_of};
+    ghost use Rattle.nextest_filter_leaves.specs.Leaves.{leaf_of, leaf_patterns};
+    ghost use Rattle.nextest_filter_syntax.specs.Trees.{patterns_of, set_of, tree_of};
 
-    /// An equal tree in memory of its own.
+    /// An equal tree in memory of its own, whose leaves match the same names.
     pub fn copy(&self, alloc: Global) -> Result<ParsedExpr<S>, AllocError>
-        ensures { IfOk result (λ c. tree_of c ≡ tree_of self.now) }
+        ensures equal { IfOk result (λ c. tree_of c ≡ tree_of self.now) }
+        ensures patterns { IfOk result (λ c. patterns_of c ≡ patterns_of self.now) }
     {
         match self {
             ParsedExpr::Not(op, x) => {
@@ -58,7 +59,8 @@ impl<S: Copy> ParsedExpr<S> {
     /// stack so.
     #[inline(never)]
     fn of_leaf(alloc: Global, leaf: &ParsedLeaf<S>) -> Result<ParsedExpr<S>, AllocError>
-        ensures { IfOk result (λ c. tree_of c ≡ set_of (leaf_of leaf.now)) }
+        ensures equal { IfOk result (λ c. tree_of c ≡ set_of (leaf_of leaf.now)) }
+        ensures patterns { IfOk result (λ c. patterns_of c ≡ leaf_patterns leaf.now) }
     {
         let leaf = leaf.copy(alloc)?;
         Ok(ParsedExpr::Set(leaf))

@@ -1,4 +1,4 @@
-ghost use Rattle.std.specs.Prelude.{◌≡◌, ◌≤◌, ◌<◌, ◌+◌, ℕ, false, IfOk, IfSome, OnOk, length};
+ghost use Rattle.std.specs.Prelude.{◌≡◌, ◌≤◌, ◌<◌, ◌+◌, ℕ, false, IfOk, IfSome, OnOk, Some, length};
 ghost use Rattle.nextest_filter_matchers.specs.declared.source_span.SourceSpan as source;
 ghost use Rattle.nextest_filter_tokens.specs.Bytes.{skip};
 ghost use Rattle.nextest_filter_faults.specs.Faults.{is_pattern_fault, span_of};
@@ -7,6 +7,7 @@ ghost use Rattle.nextest_filter_tokens.specs.Heads.{HeadEndsWithin, head_at};
 ghost use Rattle.nextest_filter_syntax.specs.Trees.{Tree};
 ghost use Rattle.nextest_filter_syntax.specs.AsWritten.{IsExprAsWritten};
 ghost use Rattle.nextest_filter_syntax.specs.Grammar.{Reads};
+ghost use Rattle.nextest_filter_syntax.specs.MisplacedOperators.{found_as, found_in};
 ghost use Rattle.nextest_filter_syntax.specs.Reading.{Ends, IsReading, parens_part, part_of};
 ghost use Rattle.nextest_filter_leaves.specs.LeafGrammar.{Stands};
 
@@ -22,6 +23,7 @@ use std::alloc::{AllocError, Global};
 fn misplaced(op: WrongOperator, span: SourceSpan) -> ParseSingleError
     ensures syntax { is_pattern_fault result ≡ false }
     ensures span { span_of result ≡ span }
+    ensures found { found_in result ≡ Some (found_as op) }
 {
     let (op, suggest) = match op {
         WrongOperator::LowerAnd => ("and", "and"),

@@ -15,6 +15,7 @@ pub struct FaultList {
 impl FaultList {
     ghost use Rattle.std.specs.Prelude.{◌≡◌, ◌+◌, ◌≤◌, ◌<◌, ◌++◌, ◌∷◌, ℕ, List, [], false, true, IfOk, OnOk, vec_len};
     ghost use Rattle.nextest_filter_faults.specs.Faults.{is_pattern_fault};
+    ghost use Rattle.nextest_filter_faults.specs.declared.parse_error.ParseSingleError.TheVariants.{UnsupportedExpression};
     ghost use Rattle.nextest_filter_tokens.specs.FaultLists.{AreOver, AreWithin, LiesOver, LiesWithin, pattern_faults, syntax_faults};
 
     /// No faults.
@@ -49,12 +50,14 @@ impl FaultList {
         Ok(())
     }
 
-    /// Adds a fault at the end, and takes no more after it.
+    /// Adds that the text is not supported from there on, unless the list is closed, and takes no more after it.
     pub fn close(&mut self, span: SourceSpan) -> Result<(), AllocError>
         ensures grows { OnOk result (vec_len self.old.list ≤ vec_len self.new.list) }
         ensures syntax { OnOk result (0 < syntax_faults self.new.list.items) }
         ensures keeps_syntax { OnOk result (syntax_faults self.old.list.items ≤ syntax_faults self.new.list.items) }
         ensures closed { OnOk result (self.new.is_closed ≡ true) }
+        ensures added { OnOk result (self.old.is_closed ≡ false → self.new.list.items ≡ self.old.list.items ++ UnsupportedExpression span ∷ []) }
+        ensures kept { OnOk result (self.old.is_closed ≡ true → self.new.list ≡ self.old.list) }
         ensures within { (n : ℕ) → AreWithin n self.old.list.items → span.offset + span.len ≤ n → AreWithin n self.new.list.items }
         ensures over { (text : List ℕ) → AreOver text self.old.list.items → AreOver text self.new.list.items }
     {

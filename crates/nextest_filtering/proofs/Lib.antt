@@ -9,3 +9,4 @@ pub mod SameFacts
 pub mod AlikeFacts
 pub mod BareFacts
 pub mod ByteFacts
+pub mod CopiedFacts

@@ -7,3 +7,4 @@ pub mod Compiling
 pub mod Refusals
 pub mod SameFilters
 pub mod Laws
+pub mod CopiedFaults

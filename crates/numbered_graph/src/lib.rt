@@ -14,6 +14,7 @@ mod looks;
 mod node_set;
 mod reaching;
 mod roots;
+mod uncounted;
 mod walk;
 
 pub use crate::components::component_ranks;
@@ -27,4 +28,5 @@ pub use crate::looks::Looks;
 pub use crate::node_set::NodeSet;
 pub use crate::reaching::{reach, reach_counted, reach_over, reach_over_counted};
 pub use crate::roots::{links_inside, root_nodes};
+pub use crate::uncounted::take_uncounted;
 pub use crate::walk::Walk;

@@ -10,9 +10,11 @@ mod offer;
 mod offer_graph;
 mod offer_walk;
 mod state;
+mod uncounted;
 
 pub use crate::due::Due;
 pub use crate::edge::{Edge, EdgeSort, are_edges_within};
 pub use crate::offer::{Offer, OfferKind};
 pub use crate::offer_graph::OfferGraph;
 pub use crate::offer_walk::OfferWalk;
+pub use crate::uncounted::take_uncounted;

@@ -7,7 +7,6 @@ use Rattle.workspace_record.specs.declared.choice.PlatformTable.{PlatformTable}
 use Rattle.nextest_filtering.proofs.SameFacts.{same}
 use Rattle.record_checks.proofs.OneReadingFacts.{AreOneReading}
 use Rattle.record_graphs.proofs.OneRecordFacts.{byte_packages, one_context}
-use Rattle.selection_making.specs.Laws.{HasByteTexts}
 use Rattle.selection_making.specs.Readings.{AreReadings, Readings}
 use Rattle.selection_making.specs.Selecting.{IsAsked, IsChosen}
 use Rattle.selection_making.specs.declared.asked_binaries.AskedBinaries.{AskedBinaries}
@@ -19,15 +18,15 @@ use Rattle.selection_laws.proofs.PlainFacts.{asked_plain, chosen_plain, plain, p
 
 module _ (w : Workspace) (texts : List Text) (asks : AskedBinaries) (choice other : Choice) (table known : PlatformTable) where
   -- with nothing said to be on, the readings of both questions are one but for their patterns
-  one_plain : HasByteTexts w → (r s : Readings) → AreReadings (over_declared w texts asks choice table) r → AreReadings (over_declared w texts asks other known) s → AreOneReading w (plain r).context (plain s).context r.filters s.filters
-  one_plain bytes r s p o =
+  one_plain : (r s : Readings) → AreReadings (over_declared w texts asks choice table) r → AreReadings (over_declared w texts asks other known) s → AreOneReading w (plain r).context (plain s).context r.filters s.filters
+  one_plain r s p o =
       let names = plain_names w r.context p.names in
       let rows = one_followed Declared w p.followed.0 table r.context.graph s.context.graph p.followed.2 o.followed.2 in
       record {
         one = one_context w (plain r).context (plain s).context names (plain_names w s.context o.names) rows.packages rows.links (λ f. same (Contains [] f));
-        byte_packages = byte_packages w (plain r).context names bytes.packages;
+        byte_packages = byte_packages w (plain r).context names (λ x inside. (p.spelled.texts.packages x inside).name);
         byte_on = λ f listed. absurd (Contains-none f listed);
-        byte_groups = bytes.groups;
+        byte_groups = p.spelled.texts.groups;
         of_first = p.filters;
         of_second = o.filters;
       }
@@ -67,18 +66,18 @@ module _ (w : Workspace) (texts : List Text) (asks : AskedBinaries) (choice othe
     }
 
 pub selections_agree : DeclaredSelectionsAgree
-selections_agree w texts asks choice other table known r s bytes p o none nor alike =
+selections_agree w texts asks choice other table known r s p o none nor alike =
     let mine = over_declared w texts asks choice table in
     let theirs = over_declared w texts asks other known in
-    let says = one_says_the_same mine bytes (plain r) (plain s) (one_plain w texts asks choice other table known bytes r s p o) p.texts o.texts in
+    let says = one_says_the_same mine p.spelled.texts (plain r) (plain s) (one_plain w texts asks choice other table known r s p o) p.texts o.texts in
     record {
-      reports = λ listing_of pairs others byte_tests report told.
+      reports = λ listing_of pairs others report told.
           one_report
           (λ pair. (
-            λ h. let here = (says.chosen listing_of byte_tests pair).0 ((chosen_plain r none mine listing_of pair).0 ((report.members pair).0 h)) in
+            λ h. let here = (says.chosen listing_of pair (report.byte_names pair h)).0 ((chosen_plain r none mine listing_of pair).0 ((report.members pair).0 h)) in
                 (told.members pair).1 ((chosen_plain s nor theirs listing_of pair).1 (chosen_there w texts asks choice other table known alike (plain s) listing_of pair here)),
             λ h. let there = (chosen_plain s nor theirs listing_of pair).0 ((told.members pair).0 h) in
-                (report.members pair).1 ((chosen_plain r none mine listing_of pair).1 ((says.chosen listing_of byte_tests pair).1 (chosen_here w texts asks choice other table known alike (plain s) listing_of pair there))),
+                (report.members pair).1 ((chosen_plain r none mine listing_of pair).1 ((says.chosen listing_of pair (told.byte_names pair h)).1 (chosen_here w texts asks choice other table known alike (plain s) listing_of pair there))),
           ))
           report.ascending told.ascending;
       asked = λ ids others own told.

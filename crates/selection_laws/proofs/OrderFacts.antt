@@ -26,7 +26,6 @@ use Rattle.record_checks.proofs.OneReadingFacts.{AreOneReading}
 use Rattle.record_graphs.proofs.OneRecordFacts.{byte_packages}
 use Rattle.question_filters.specs.Following.{IsFollowedIn}
 use Rattle.question_filters.specs.NamedFeatures.{AreNamedOn}
-use Rattle.selection_making.specs.Laws.{HasByteFeatures, HasByteTexts}
 use Rattle.record_rules.specs.Asked.{binary_asked}
 use Rattle.selection_making.specs.Questions.{IsFeatureOn, Question, WantedIn}
 use Rattle.selection_making.specs.Readings.{AreReadings, Readings}
@@ -133,7 +132,7 @@ read_alike w v r groups default h = record {
   default = subst (λ (d : Option Text). IsReadDefault d r.default) (sym default) h.default;
 }
 
-module _ (q : Question) (v : Workspace) (r s : Readings) (same : IsReordered q.workspace v) (bytes : HasByteTexts q.workspace) (byte_features : HasByteFeatures q) (p : AreReadings q r) (o : AreReadings (over q v) s) (kept : AreKept q.workspace.packages q.workspace.links q.workspace.workspace) (other : AreKept v.packages v.links v.workspace) where
+module _ (q : Question) (v : Workspace) (r s : Readings) (same : IsReordered q.workspace v) (p : AreReadings q r) (o : AreReadings (over q v) s) (kept : AreKept q.workspace.packages q.workspace.links q.workspace.workspace) (other : AreKept v.packages v.links v.workspace) where
   abbrev back : IsReordered v q.workspace
   back = turned q.workspace v same
 
@@ -175,22 +174,22 @@ module _ (q : Question) (v : Workspace) (r s : Readings) (same : IsReordered q.w
   one_reading : AreOneReading q.workspace r.context s.context r.filters s.filters
   one_reading = record {
     one = same_packages;
-    byte_packages = byte_packages q.workspace r.context p.names bytes.packages;
-    byte_on = λ f listed. byte_features f.0 f.1 ((p.followed.1.members (named_of f.0 f.1)).0 ((p.followed.3 f).0 listed));
-    byte_groups = bytes.groups;
+    byte_packages = byte_packages q.workspace r.context p.names (λ x inside. (p.spelled.texts.packages x inside).name);
+    byte_on = λ f listed. p.spelled.on f.0 f.1 ((p.followed.1.members (named_of f.0 f.1)).0 ((p.followed.3 f).0 listed));
+    byte_groups = p.spelled.texts.groups;
     of_first = p.filters;
     of_second = read_alike q.workspace v s.filters same.groups same.default_filter o.filters;
   }
 
   agree : Agree q (over q v) r s
   agree =
-      let says = one_says_the_same q bytes r s one_reading p.texts o.texts in
+      let says = one_says_the_same q p.spelled.texts r s one_reading p.texts o.texts in
       record {
-        reports = λ listing_of pairs others byte_tests report told.
+        reports = λ listing_of pairs others report told.
             one_report
             (λ pair. (
-              λ h. (told.members pair).1 (chosen_there q v same kept other s listing_of pair ((says.chosen listing_of byte_tests pair).0 ((report.members pair).0 h))),
-              λ h. (report.members pair).1 ((says.chosen listing_of byte_tests pair).1 (chosen_there (over q v) q.workspace back other kept s listing_of pair ((told.members pair).0 h))),
+              λ h. (told.members pair).1 (chosen_there q v same kept other s listing_of pair ((says.chosen listing_of pair (report.byte_names pair h)).0 ((report.members pair).0 h))),
+              λ h. (report.members pair).1 ((says.chosen listing_of pair (told.byte_names pair h)).1 (chosen_there (over q v) q.workspace back other kept s listing_of pair ((told.members pair).0 h))),
             ))
             report.ascending told.ascending;
         asked = λ ids others own told.
@@ -218,7 +217,7 @@ module _ (q : Question) (v : Workspace) (r s : Readings) (same : IsReordered q.w
   )
 
 pub order_is_free : SelectionOrderIsFree
-order_is_free q v r s same bytes byte_features p o =
+order_is_free q v r s same p o =
     let kept = rows_kept q.workspace p.followed.1.served.checked.0 in
     let other = rows_kept v o.followed.1.served.checked.0 in
-    record { accepted = accept q v r s same bytes byte_features p o kept other; agree = agree q v r s same bytes byte_features p o kept other }
+    record { accepted = accept q v r s same p o kept other; agree = agree q v r s same p o kept other }

@@ -38,11 +38,11 @@ use Rattle.record_graphs.proofs.OneRecordFacts.{byte_packages}
 use Rattle.record_checks.specs.declared.record_error.RecordError.TheVariants as refused
 use Rattle.record_checks.specs.declared.select_error.SelectError.{SelectError}
 use Rattle.record_checks.specs.declared.select_error.SelectError.TheVariants.{Record, UnknownExtra, Filter, Lister, BadListing, Memory}
-use Rattle.selection_making.specs.Questions.{Question}
+use Rattle.selection_making.specs.Questions.{HasByteTexts, Question}
 use Rattle.selection_making.specs.Readings.{Readings}
 use Rattle.selection_making.specs.Selecting.{Answers, FailsFor, FaultyFor, IsAnswered}
 use Rattle.selection_making.specs.Selections.{Selected}
-use Rattle.selection_laws.specs.Served.{HasByteNames, IsSelectedOrWants, ListsWell, ServedQuestionsAreAnswered}
+use Rattle.selection_laws.specs.Served.{IsSelectedOrWants, ListsWell, ServedQuestionsAreAnswered}
 use Rattle.selection_laws.proofs.AcceptedFacts.{accepted_too, of_one_record}
 use Rattle.selection_laws.proofs.PlainFacts.{plain_context, plain_names}
 
@@ -64,7 +64,7 @@ module _ (package_name name : Text) (byte_package : AreBytes package_name) (byte
   byte_binary (Test n) b h = alone (binary_id package_name (codes "test") name) (bytes_joined package_name _ byte_package (bytes_joined (codes "::") name (bytes_by_test (codes "::") refl) byte_name)) b h
   byte_binary (Benchmark n) b h = alone (binary_id package_name (codes "bench") name) (behind_kind (codes "bench") (bytes_by_test (codes "bench") refl)) b h
 
-module _ (w : Workspace) (bytes : HasByteNames w) (cx : ContextValue) (of_cx : HasNamesOf w cx) where
+module _ (w : Workspace) (bytes : HasByteTexts w) (cx : ContextValue) (of_cx : HasNamesOf w cx) where
   -- the rows of a context are packages of the record
   of_record : (p : Package) → Contains of_cx.needed.rows p → Contains w.packages p
   of_record p among =
@@ -76,18 +76,19 @@ module _ (w : Workspace) (bytes : HasByteNames w) (cx : ContextValue) (of_cx : H
       let (p, among, of_p) = Contains-flat_map_cases binaries_of of_cx.needed.rows b (subst (λ bs. Contains bs b) of_cx.needed.built listed) in
       let (t, its, of_t) = Contains-flat_map_cases (λ (t : Target). named_binary p.name t.name (binary_kind (id_of t.kind t.name))) p.targets b of_p in
       let inside = of_record p among in
-      byte_binary p.name t.name (bytes.texts.packages p inside) (bytes.texts.targets p inside t its) (id_of t.kind t.name) b of_t
+      let names = bytes.packages p inside in
+      byte_binary p.name t.name names.name (names.targets t its) (id_of t.kind t.name) b of_t
 
   byte_features : (name : Text) → Contains cx.features name → AreBytes name
   byte_features name listed =
       let (p, among, of_p) = Contains-flat_map_cases features_of of_cx.needed.rows name (subst (λ fs. Contains fs name) of_cx.needed.featured listed) in
       let (f, its, is) = Contains-map_cases (λ (f : FeatureEntry). f.name) p.features name of_p in
-      subst AreBytes is (bytes.features p (of_record p among) f its)
+      subst AreBytes is ((bytes.packages p (of_record p among)).features f its)
 
   -- with nothing said to be on, the names of a context are made of bytes
   byte_names : same_filters.HasByteNames (plain_context cx)
   byte_names = record {
-    packages = byte_packages w cx of_cx bytes.texts.packages;
+    packages = byte_packages w cx of_cx (λ p inside. (bytes.packages p inside).name);
     binary_ids = λ b listed. (byte_binaries b listed).0;
     binary_names = λ b listed. (byte_binaries b listed).1;
     features = byte_features;
@@ -108,7 +109,7 @@ module _ (w : Workspace) (bytes : HasByteNames w) (cx : ContextValue) (of_cx : H
         absurd (r.not_accepted (accepted_too (plain_context cx) cx others others (of_one_record w (plain_context cx) cx of_plain of_cx) (λ name known. known) k (filter_of r.parsed) there)))
         refusal.1
 
-module _ (w : Workspace) (bytes : HasByteNames w) where
+module _ (w : Workspace) (bytes : HasByteTexts w) where
   no_groups : (name : Text) → Contains (known_groups Unavailable) name → AreBytes name
   no_groups name none = absurd (Contains-none name none)
 
@@ -135,13 +136,13 @@ sound names RepeatedName well h = well.distinct h.1
 grows : (n : ℕ) → n < largest → one_more n ≡ n → ⊥
 grows n less same = grind (arith, less, same)
 
-module _ (q : Question) (r : Readings) (old new : Shown) (bytes : HasByteNames q.workspace) (answered : IsAnswered q r) (lists : ListsWell q old new) where
+module _ (q : Question) (r : Readings) (old new : Shown) (answered : IsAnswered q r) (lists : ListsWell q old new) where
   -- the names of known groups are made of bytes
   byte_known : (groups : KnownGroups) → AreGroupsOf q.workspace groups → (name : Text) → Contains (known_groups groups) name → AreBytes name
   byte_known groups are name known =
       ⊎_elim
       (λ is. subst AreBytes is (bytes_by_test (codes "@global") refl))
-      (λ listed. let (g, its, is) = Contains-map_cases (λ (g : Group). g.name) q.workspace.groups name listed in subst AreBytes is (bytes.texts.groups g its))
+      (λ listed. let (g, its, is) = Contains-map_cases (λ (g : Group). g.name) q.workspace.groups name listed in subst AreBytes is (answered.read.spelled.texts.groups g its))
       ((are.names name).0 known)
 
   not_faulty : (id : Text) (fault : ListingFault) → FaultyFor q old id fault new → ⊥
@@ -159,17 +160,17 @@ module _ (q : Question) (r : Readings) (old new : Shown) (bytes : HasByteNames q
   selected : (result : Result Selected SelectError) → Answers q old result new → IsSelectedOrWants result
   selected (Ok selection) h = tt
   selected (Err (Record (refused.Broken rule place))) h = none-some (rule, place) (sym answered.checked.0 ∙ h.0)
-  selected (Err (Record (refused.Filter place faults))) h = filters_not_refused q.workspace bytes answered.checked.1 place faults h.0.1
+  selected (Err (Record (refused.Filter place faults))) h = filters_not_refused q.workspace answered.read.spelled.texts answered.checked.1 place faults h.0.1
   selected (Err (Record refused.Memory)) h = h.0
   selected (Err (UnknownExtra place)) h = none-some place (sym answered.known ∙ h.1)
   selected (Err (Filter place faults)) h =
       let t = h.0 in
       let accepted = answered.accepted t.text (Contains-slice_get q.texts place t.text t.at) in
       let group_too = λ (name : Text) (known : Contains (known_groups r.groups) name). (t.are_groups.names name).1 ((answered.read.groups.names name).0 known) in
-      not_refused q.workspace bytes t.context t.names r.context answered.read.names r.groups t.groups kind.Test group_too (byte_known t.groups t.are_groups) t.text accepted faults t.refused
+      not_refused q.workspace answered.read.spelled.texts t.context t.names r.context answered.read.names r.groups t.groups kind.Test group_too (byte_known t.groups t.are_groups) t.text accepted faults t.refused
   selected (Err (Lister id)) h = not_failed _ h
   selected (Err (BadListing id fault)) h = not_faulty _ fault h
   selected (Err Memory) h = tt
 
 pub served_are_answered : ServedQuestionsAreAnswered
-served_are_answered q r old new result bytes answered lists h = selected q r old new bytes answered lists result h
+served_are_answered q r old new result answered lists h = selected q r old new answered lists result h

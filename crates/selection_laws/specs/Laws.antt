@@ -19,7 +19,6 @@ use Rattle.question_filters.specs.declared.scope.LinkScope.TheVariants.{Declared
 use Rattle.record_graphs.specs.Contexts.{HasNamesOf}
 use Rattle.record_checks.specs.FilterTexts.{IsAcceptedText}
 use Rattle.record_checks.specs.Groups.{AreGroupsOf}
-use Rattle.selection_making.specs.Laws.{HasByteTests, HasByteTexts}
 use Rattle.selection_making.specs.Questions.{Question}
 use Rattle.selection_making.specs.Readings.{AreReadings, Readings}
 use Rattle.selection_making.specs.Selecting.{IsAsked, IsAvailableBinary, IsReport}
@@ -68,14 +67,13 @@ pub record NameNoFeature (r : Readings) : Type 0 where
 
 -- two questions, each as it is read, have one report over the same listings, and ask for the same binaries
 pub record Agree (q p : Question) (r s : Readings) : Type 0 where
-  pub reports : (listing_of : Text → Option (List Text)) (pairs others : List (Text × Text)) → HasByteTests listing_of → IsReport q r listing_of pairs → IsReport p s listing_of others → pairs ≡ others
+  pub reports : (listing_of : Text → Option (List Text)) (pairs others : List (Text × Text)) → IsReport q r listing_of pairs → IsReport p s listing_of others → pairs ≡ others
   pub asked : (ids others : List Text) → IsAsked q r ids → IsAsked p s others → ids ≡ others
 
 -- over declared links, and by filters that name no features, choices and platforms that make the same binaries available agree
 abbrev pub DeclaredSelectionsAgree : Type 0
 DeclaredSelectionsAgree =
     (w : Workspace) (texts : List Text) (asks : AskedBinaries) (choice other : Choice) (table known : PlatformTable) (r s : Readings)
-    → HasByteTexts w
     → AreReadings (over_declared w texts asks choice table) r
     → AreReadings (over_declared w texts asks other known) s
     → NameNoFeature r

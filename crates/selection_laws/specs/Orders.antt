@@ -5,7 +5,6 @@ use Rattle.nextest_filter_faults.specs.declared.filterset_kind.FiltersetKind.{Fi
 use Rattle.record_checks.specs.FilterTexts.{IsAcceptedText}
 use Rattle.kept_records.specs.Laws.{HaveAlike, HaveTheSame, IsLinkReordered}
 use Rattle.kept_records.specs.Laws as features
-use Rattle.selection_making.specs.Laws.{HasByteFeatures, HasByteTexts}
 use Rattle.selection_making.specs.Questions.{Question}
 use Rattle.selection_making.specs.Readings.{AreReadings, Readings}
 use Rattle.selection_laws.specs.Laws.{Agree}
@@ -34,8 +33,6 @@ abbrev pub SelectionOrderIsFree : Type 0
 SelectionOrderIsFree =
     (q : Question) (v : Workspace) (r s : Readings)
     → IsReordered q.workspace v
-    → HasByteTexts q.workspace
-    → HasByteFeatures q
     → AreReadings q r
     → AreReadings (record q { workspace = v }) s
     → AnswerAlike q (record q { workspace = v }) r s

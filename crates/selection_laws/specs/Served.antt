@@ -1,24 +1,16 @@
 -- Which questions are answered by a selection.
-use Rattle.std.specs.Prelude.{◌≡◌, ◌<◌, Contains, Result, Ok, Err}
-use Rattle.workspace_record.specs.Records.{FeatureEntry, Package, Workspace}
+use Rattle.std.specs.Prelude.{◌≡◌, ◌<◌, Result, Ok, Err}
 use Rattle.nextest_filter_tokens.specs.FaultLists.{syntax_faults}
-use Rattle.nextest_filtering.specs.SameFilters.{AreBytes}
 use Rattle.test_lister.specs.Asking.{HoldsWellFormed}
 use Rattle.test_lister.specs.Listers.{Shown, largest}
 use Rattle.record_rules.specs.Binaries.{Binary}
 use Rattle.record_checks.specs.declared.record_error.RecordError.TheVariants as refused
 use Rattle.record_checks.specs.declared.select_error.SelectError.{SelectError}
 use Rattle.record_checks.specs.declared.select_error.SelectError.TheVariants.{Record, UnknownExtra, Filter, Lister, BadListing, Memory}
-use Rattle.selection_making.specs.Laws.{HasByteTexts}
 use Rattle.selection_making.specs.Questions.{Question}
 use Rattle.selection_making.specs.Readings.{Readings}
 use Rattle.selection_making.specs.Selecting.{Answers, IsAnswered, IsAvailableBinary}
 use Rattle.selection_making.specs.Selections.{Selected}
-
--- the names of a record are made of bytes, those of its features too
-pub record HasByteNames (w : Workspace) : Type 0 where
-  pub texts : HasByteTexts w
-  pub features : (p : Package) → Contains w.packages p → (f : FeatureEntry) → Contains p.features f → AreBytes f.name
 
 -- the lister holds a well-formed listing for each available binary, and no call of it failed
 pub record ListsWell (q : Question) (old new : Shown) : Type 0 where
@@ -42,7 +34,6 @@ IsSelectedOrWants (Err Memory) = Unit {0}
 abbrev pub ServedQuestionsAreAnswered : Type 0
 ServedQuestionsAreAnswered =
     (q : Question) (r : Readings) (old new : Shown) (result : Result Selected SelectError)
-    → HasByteNames q.workspace
     → IsAnswered q r
     → ListsWell q old new
     → Answers q old result new

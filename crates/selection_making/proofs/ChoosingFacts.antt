@@ -16,6 +16,7 @@ use Rattle.record_rules.specs.Binaries.{Binary}
 use Rattle.record_rules.specs.BinaryView.{binary_view}
 use Rattle.record_rules.specs.declared.test_binary.TestBinary.{TestBinary}
 use Rattle.nextest_binaries.specs.Queries as asked
+use Rattle.nextest_filtering.specs.SameFilters.{AreBytes}
 use Rattle.nextest_filtering.proofs.PickFacts.{more_of}
 use Rattle.selection_making.specs.Choosing.{AreListed, IsCarriedOut, IsListed, IsMatched, IsTestOf, ids_of}
 use Rattle.selection_making.specs.Kept.{Adds}
@@ -181,8 +182,8 @@ module _ (holds : Binary → Text → Type 0) where
         (there, back)
 
   -- what was asked and chosen is what the plan says
-  pub carried_out : (asked : List TestBinary) (old new : Shown) (told : List Text) (listings : List (Vec (String Global) Global)) (chosen : List (Text × Text)) (ids : List Text) (s : Selected) → told ≡ ids_of (map binary_view asked) → Answered old told (map (λ listing. texts listing.items) listings) new → AreListed holds asked listings chosen → ids ≡ ids_of (map binary_view asked) → s ≡ record { chosen = chosen; asked = ids } → IsCarriedOut holds (map binary_view asked) old s new
-  carried_out asked old new told listings chosen ids s telling answered listed all is =
+  pub carried_out : (asked : List TestBinary) (old new : Shown) (told : List Text) (listings : List (Vec (String Global) Global)) (chosen : List (Text × Text)) (ids : List Text) (s : Selected) → told ≡ ids_of (map binary_view asked) → Answered old told (map (λ listing. texts listing.items) listings) new → AreListed holds asked listings chosen → ((pair : Text × Text) → Contains chosen pair → AreBytes pair.1) → ids ≡ ids_of (map binary_view asked) → s ≡ record { chosen = chosen; asked = ids } → IsCarriedOut holds (map binary_view asked) old s new
+  carried_out asked old new told listings chosen ids s telling answered listed byte_names all is =
       let done = subst (λ ts. Answered old ts (map (λ listing. texts listing.items) listings) new) telling answered in
       let each = each_iff old.listing_of asked listings done.held in
       subst (λ x. IsCarriedOut holds (map binary_view asked) old x new) (sym is) (record {
@@ -191,5 +192,6 @@ module _ (holds : Binary → Text → Type 0) where
         not_full = done.not_full;
         well_formed = done.well_formed;
         chosen = λ pair. (λ h. (each pair).0 ((listed.members pair).0 h), λ m. (listed.members pair).1 ((each pair).1 m));
+        byte_names = byte_names;
         ascending = listed.ascending;
       })

@@ -8,3 +8,5 @@ pub mod ReadingFacts
 pub mod SelectingFacts
 pub mod WantedFacts
 pub mod AscendingFacts
+mod ByteFacts
+mod ReportFacts

@@ -1,6 +1,7 @@
 -- From the parts of a plan to what the question says of them.
-use Rattle.std.proofs.Common.{◌≡◌, ◌∙◌, List, map, ap, sym, subst, ◌↔◌, Contains, Result, Ok, Err}
+use Rattle.std.proofs.Common.{◌≡◌, ◌∙◌, All, List, map, ap, sym, subst, ◌↔◌, Contains, Result, Ok, Err}
 use Rattle.std.specs.List.Sorted.{IsStrictlySortedBy}
+use Rattle.std.proofs.lemmas.List.Elements.{All-contains}
 use Rattle.list_facts.specs.Ascending.{IsAscendingOf, text_cmp}
 use Rattle.list_facts.proofs.Lists.{map-map}
 use Rattle.list_facts.proofs.Membership.{Contains-map, Contains-map_cases}
@@ -11,6 +12,7 @@ use Rattle.record_rules.specs.BinaryView.{binary_view}
 use Rattle.record_rules.specs.declared.test_binary.TestBinary.{TestBinary}
 use Rattle.record_rules.proofs.KeptRules.{binaries_told_apart}
 use Rattle.nextest_filtering.specs.Contexts.{ContextValue}
+use Rattle.feature_rules.specs.RuleList.{named_of}
 use Rattle.feature_switching.specs.OnLines.{IsAvailable}
 use Rattle.nextest_filter_evaluation.specs.Formulas.{Formula}
 use Rattle.nextest_filtering.specs.Compiling.{IsCompiled}
@@ -28,7 +30,8 @@ use Rattle.selection_making.specs.Kept.{AreThose}
 use Rattle.selection_making.specs.Plans.{IsPlan, MayMatch, Plans}
 use Rattle.record_rules.specs.Asked.{binary_asked, test_asked}
 use Rattle.question_filters.specs.QuestionFilters.{CompiledQuestion}
-use Rattle.selection_making.specs.Questions.{Question}
+use Rattle.selection_making.specs.ByteNames.{IsByteLabel}
+use Rattle.selection_making.specs.Questions.{HasByteTexts, IsSpelled, Question}
 use Rattle.question_filters.specs.Following.{IsFollowedIn}
 use Rattle.question_filters.specs.NamedFeatures.{AreNamedOn}
 use Rattle.question_filters.specs.declared.question_filters.QuestionFilters.{QuestionFilters}
@@ -62,6 +65,13 @@ module _ (q : Question) (v : Workspace) (same : v ≡ q.workspace) (on : List Fe
   pub binaries_of_question : (all : List Binary) → all ≡ binaries v → all ≡ binaries q.workspace
   binaries_of_question all are = are ∙ ap binaries same
 
+-- where the names of the record are made of bytes, and those of what is on, the question's are
+pub is_spelled : (q : Question) (on : List FeatureValue) → AreOn q.workspace q.choice q.table on → HasByteTexts q.workspace → All (λ f. IsByteLabel f.label) on → IsSpelled q
+is_spelled q on are_on texts bytes = record {
+  texts = texts;
+  on = λ id name is_on. All-contains (λ (f : FeatureValue). IsByteLabel f.label) on (named_of id name) bytes ((are_on.members (named_of id name)).1 is_on);
+}
+
 module _ (q : Question) (on : List FeatureValue) (are_on : AreOn q.workspace q.choice q.table on) where
   abbrev IsIn : FeatureValue → Type 0
   IsIn f = Contains on f
@@ -76,8 +86,9 @@ module _ (q : Question) (on : List FeatureValue) (are_on : AreOn q.workspace q.c
     abbrev pub readings : Readings
     readings = record { context = cx; groups = are.groups; filters = of_record.0; texts = of_texts.0 }
 
-    are_readings : AreReadings q readings
-    are_readings = record {
+    are_readings : IsSpelled q → AreReadings q readings
+    are_readings spelled = record {
+      spelled = spelled;
       names = names;
       followed = (on, are_on, followed.0, followed.1);
       groups = are.are_groups;
@@ -85,11 +96,11 @@ module _ (q : Question) (on : List FeatureValue) (are_on : AreOn q.workspace q.c
       texts = of_texts.1;
     }
 
-    pub is_answered : IsAnswered q readings
-    is_answered = record {
+    pub is_answered : IsSpelled q → IsAnswered q readings
+    is_answered spelled = record {
       checked = are_on.served.checked;
       known = are_on.served.known;
-      read = are_readings;
+      read = are_readings spelled;
       accepted = texts_accepted cx are.groups q.texts filters.texts are.texts;
     }
 
@@ -138,10 +149,10 @@ module _ (q : Question) (on : List FeatureValue) (are_on : AreOn q.workspace q.c
         ascending = subst (IsStrictlySortedBy text_cmp) (sym (same_ids sorted)) ascending.ascending;
       }
 
-      pub plan_made : IsPlan q filters (map binary_view sorted)
-      plan_made = record {
+      pub plan_made : IsSpelled q → IsPlan q filters (map binary_view sorted)
+      plan_made spelled = record {
         readings = readings;
-        answered = is_answered;
+        answered = is_answered spelled;
         ids = asked_ids;
         binaries = sorted_iff;
         decided = is_decided;

@@ -26,9 +26,9 @@ use Rattle.feature_questions.specs.Switching.{AreOn}
 use Rattle.record_checks.proofs.AlikeFacts.{alike_back, alike_there}
 use Rattle.record_checks.proofs.OneReadingFacts.{AreOneReading, all_alike, default_gives_alike, default_holds_alike, holds_in_alike, may_hold_alike, other_way, texts_alike}
 use Rattle.record_graphs.proofs.OneRecordFacts.{byte_packages, one_context}
-use Rattle.selection_making.specs.Laws.{HasByteFeatures, HasByteTests, HasByteTexts, SayTheSame}
+use Rattle.selection_making.specs.Laws.{SayTheSame}
 use Rattle.record_rules.specs.Asked.{binary_asked, test_asked}
-use Rattle.selection_making.specs.Questions.{Question, WantedIn}
+use Rattle.selection_making.specs.Questions.{HasByteTexts, Question, WantedIn}
 use Rattle.question_filters.specs.Following.{IsFollowedIn}
 use Rattle.question_filters.specs.NamedFeatures.{AreNamedOn}
 use Rattle.selection_making.specs.Readings.{AreReadAs, AreReadings, Readings}
@@ -96,8 +96,9 @@ byte_binary w bytes b declared =
     let (t, built, is) = Contains-map_cases (binary_of p) (filter (λ (t : Target). t.tested && may_have_tests t.kind) p.targets) b of_p in
     let owner = (Contains-filter_cases (λ (p : Package). is_member w p.id) w.packages p among).0 in
     let its = (Contains-filter_cases (λ (t : Target). t.tested && may_have_tests t.kind) p.targets t built).0 in
-    let byte_name = bytes.targets p owner t its in
-    subst (λ (x : Binary). IsByteBinary (binary_asked x)) is (record { id = byte_id p.name t.name (bytes.packages p owner) byte_name t.kind; name = byte_name; kind = byte_kind t.kind })
+    let names = bytes.packages p owner in
+    let byte_name = names.targets t its in
+    subst (λ (x : Binary). IsByteBinary (binary_asked x)) is (record { id = byte_id p.name t.name names.name byte_name t.kind; name = byte_name; kind = byte_kind t.kind })
 
 -- each filter of the one reading has one of the other that is alike
 text_too : (texts : List Text) (fs gs : List (Formula FilterLeaf)) → AreReadAs texts fs → AreReadAs texts gs → (f : Formula FilterLeaf) → Contains fs f → (g : Formula FilterLeaf) × Contains gs g × AlikeFormula f g
@@ -126,10 +127,9 @@ module _ (q : Question) (bytes : HasByteTexts q.workspace) where
     asked_too : (id : Text) → ((b : Binary) × (b.id ≡ id) × IsAvailableBinary q b × IsWanted q r b) → (b : Binary) × (b.id ≡ id) × IsAvailableBinary q b × IsWanted q s b
     asked_too id (b, is, available, wanted) = (b, is, available, wanted_too b available.declared q.asks wanted)
 
-    chosen_too : (listing_of : Text → Option (List Text)) → HasByteTests listing_of → (pair : Text × Text) → IsChosen q r listing_of pair → IsChosen q s listing_of pair
-    chosen_too listing_of byte_tests pair h =
+    chosen_too : (listing_of : Text → Option (List Text)) (pair : Text × Text) → AreBytes pair.1 → IsChosen q r listing_of pair → IsChosen q s listing_of pair
+    chosen_too listing_of pair test h =
         let asked = byte_binary q.workspace bytes h.binary h.available.declared in
-        let test = byte_tests h.binary.id h.names h.listing pair.1 h.listed in
         let (f, read, holds) = h.holds in
         let (g, there, like) = text_too q.texts r.texts s.texts p o f read in
         record {
@@ -147,33 +147,33 @@ module _ (q : Question) (bytes : HasByteTexts q.workspace) where
   one_says_the_same r s alike p o =
       let back = other_way alike in
       record {
-        chosen = λ listing_of byte_tests pair. (chosen_too r s alike p o listing_of byte_tests pair, chosen_too s r back o p listing_of byte_tests pair);
+        chosen = λ listing_of pair test. (chosen_too r s alike p o listing_of pair test, chosen_too s r back o p listing_of pair test);
         asked = λ ids. (
           λ h. record { members = λ id. (λ i. asked_too r s alike p o id ((h.members id).0 i), λ b. (h.members id).1 (asked_too s r back o p id b)); ascending = h.ascending },
           λ h. record { members = λ id. (λ i. asked_too s r back o p id ((h.members id).0 i), λ b. (h.members id).1 (asked_too r s alike p o id b)); ascending = h.ascending },
         );
       }
 
-  module _ (byte_features : HasByteFeatures q) where
-    one_reading : (r s : Readings) → AreReadings q r → AreReadings q s → AreOneReading q.workspace r.context s.context r.filters s.filters
-    one_reading r s p o =
-        let (on, is_on, followed, named) = p.followed in
-        let (other, is_other, too, again) = o.followed in
-        let same_on = one_on q other on is_other is_on in
-        let rows = one_followed q.scope q.workspace on q.table r.context.graph s.context.graph followed (subst (λ (xs : List FeatureValue). IsFollowedIn q.scope q.workspace xs q.table s.context.graph) same_on too) in
-        let named_too = subst (λ (xs : List FeatureValue). AreNamedOn xs s.context.on) same_on again in
-        record {
-          one = one_context q.workspace r.context s.context p.names o.names rows.packages rows.links (λ f. (λ h. (named_too f).1 ((named f).0 h), λ h. (named f).1 ((named_too f).0 h)));
-          byte_packages = byte_packages q.workspace r.context p.names bytes.packages;
-          byte_on = λ f listed. byte_features f.0 f.1 ((is_on.members (named_of f.0 f.1)).0 ((named f).0 listed));
-          byte_groups = bytes.groups;
-          of_first = p.filters;
-          of_second = o.filters;
-        }
+module _ (q : Question) where
+  one_reading : (r s : Readings) → AreReadings q r → AreReadings q s → AreOneReading q.workspace r.context s.context r.filters s.filters
+  one_reading r s p o =
+      let (on, is_on, followed, named) = p.followed in
+      let (other, is_other, too, again) = o.followed in
+      let same_on = one_on q other on is_other is_on in
+      let rows = one_followed q.scope q.workspace on q.table r.context.graph s.context.graph followed (subst (λ (xs : List FeatureValue). IsFollowedIn q.scope q.workspace xs q.table s.context.graph) same_on too) in
+      let named_too = subst (λ (xs : List FeatureValue). AreNamedOn xs s.context.on) same_on again in
+      record {
+        one = one_context q.workspace r.context s.context p.names o.names rows.packages rows.links (λ f. (λ h. (named_too f).1 ((named f).0 h), λ h. (named f).1 ((named_too f).0 h)));
+        byte_packages = byte_packages q.workspace r.context p.names (λ x inside. (p.spelled.texts.packages x inside).name);
+        byte_on = λ f listed. p.spelled.on f.0 f.1 ((is_on.members (named_of f.0 f.1)).0 ((named f).0 listed));
+        byte_groups = p.spelled.texts.groups;
+        of_first = p.filters;
+        of_second = o.filters;
+      }
 
-    pub say_the_same : (r s : Readings) → AreReadings q r → AreReadings q s → SayTheSame q r s
-    say_the_same r s p o = one_says_the_same r s (one_reading r s p o) p.texts o.texts
+  pub say_the_same : (r s : Readings) → AreReadings q r → AreReadings q s → SayTheSame q r s
+  say_the_same r s p o = one_says_the_same q p.spelled.texts r s (one_reading r s p o) p.texts o.texts
 
 -- the filters of a question are read alike, whichever binaries are asked
 pub read_before : (q : Question) (asks : AskedBinaries) (s : Readings) → AreReadings (record q { asks = asks }) s → AreReadings q s
-read_before q asks s h = record { names = h.names; followed = h.followed; groups = h.groups; filters = h.filters; texts = h.texts }
+read_before q asks s h = record { spelled = record { texts = h.spelled.texts; on = h.spelled.on }; names = h.names; followed = h.followed; groups = h.groups; filters = h.filters; texts = h.texts }

@@ -104,6 +104,7 @@ module _ (q : Question) where
       well_formed = subst (All (HoldsWellFormed old)) (sym done.ids) done.well_formed;
       report = record {
         members = λ pair. (λ h. (matched_iff pair).0 ((done.chosen pair).0 h), λ h. (done.chosen pair).1 ((matched_iff pair).1 h));
+        byte_names = done.byte_names;
         ascending = done.ascending;
       };
     }

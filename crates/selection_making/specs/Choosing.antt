@@ -10,6 +10,7 @@ use Rattle.workspace_record.specs.Records.{Text}
 use Rattle.test_lister.specs.Listers.{Shown, Asked, largest}
 use Rattle.test_lister.specs.Asking.{HoldsWellFormed, FailedAt, FaultyAt, AskedSome}
 use Rattle.test_lister.specs.declared.fault.ListingFault.{ListingFault}
+use Rattle.nextest_filtering.specs.SameFilters.{AreBytes}
 use Rattle.record_rules.specs.Binaries.{Binary}
 use Rattle.record_rules.specs.BinaryView.{binary_view}
 use Rattle.record_rules.specs.declared.test_binary.TestBinary.{TestBinary}
@@ -49,13 +50,14 @@ module _ (holds : Binary → Text → Type 0) where
     pub listed : Contains names pair.1
     pub is_held : holds binary pair.1
 
-  -- each binary was asked, each listing is well-formed, and the matched tests are those that are chosen
+  -- each binary was asked, each listing is well-formed, and the matched tests, whose names are made of bytes, are those that are chosen
   pub record IsCarriedOut (asked : List Binary) (old : Shown) (selection : Selected) (new : Shown) : Type 0 where
     pub ids : selection.asked ≡ ids_of asked
     pub lister : Asked old (ids_of asked) new
     pub not_full : 0 < length (ids_of asked) → old.failures < largest
     pub well_formed : All (HoldsWellFormed old) (ids_of asked)
     pub chosen : (pair : Text × Text) → Contains selection.chosen pair ↔ IsMatched asked old.listing_of pair
+    pub byte_names : (pair : Text × Text) → Contains selection.chosen pair → AreBytes pair.1
     pub ascending : IsStrictlySortedBy pair_cmp selection.chosen
 
 -- the lister failed at a binary with this id

@@ -1,3 +1,4 @@
+pub mod ByteNames
 pub mod Choosing
 pub mod Kept
 pub mod Laws

@@ -13,7 +13,7 @@ use Rattle.record_checks.specs.FilterTexts.{IsFilterOf}
 use Rattle.record_checks.specs.Groups.{AreGroupsOf}
 use Rattle.record_checks.specs.RecordFilters.{AreReadingsOf, FilterReadings}
 use Rattle.feature_questions.specs.Switching.{AreOn}
-use Rattle.selection_making.specs.Questions.{Question}
+use Rattle.selection_making.specs.Questions.{IsSpelled, Question}
 use Rattle.question_filters.specs.Following.{IsFollowedIn}
 use Rattle.question_filters.specs.NamedFeatures.{AreNamedOn}
 
@@ -34,8 +34,9 @@ module _ (q : Question) where
   abbrev pub IsFollowed : ContextValue → Type 0
   IsFollowed cx = (on : List FeatureValue) × AreOn q.workspace q.choice q.table on × IsFollowedIn q.scope q.workspace on q.table cx.graph × AreNamedOn on cx.on
 
-  -- names are matched over what the members need by declared links, paths follow the links of the scope, features are those that are on, and each filter is what its text reads as
+  -- names are made of bytes and matched over what the members need by declared links, paths follow the links of the scope, features are those that are on, and each filter is what its text reads as
   pub record AreReadings (r : Readings) : Type 0 where
+    pub spelled : IsSpelled q
     pub names : HasNamesOf q.workspace r.context
     pub followed : IsFollowed r.context
     pub groups : AreGroupsOf q.workspace r.groups

@@ -15,6 +15,7 @@ use Rattle.nextest_filter_queries.specs.declared.groups.KnownGroups.{KnownGroups
 use Rattle.nextest_filter_evaluation.specs.Formulas.{Formula}
 use Rattle.nextest_filtering.specs.Contexts.{ContextValue}
 use Rattle.nextest_filtering.specs.Filters.{FilterLeaf}
+use Rattle.nextest_filtering.specs.SameFilters.{AreBytes}
 use Rattle.record_checks.specs.Checks.{IsChecked}
 use Rattle.record_graphs.specs.Contexts.{HasNamesOf}
 use Rattle.record_checks.specs.FilterTexts.{IsAcceptedText, IsRefusedText}
@@ -63,9 +64,10 @@ module _ (q : Question) where
       pub holds : TextsHold binary pair.1
       pub default_holds : DefaultHolds binary pair.1
 
-    -- the chosen tests, ascending by binary and then name, each once
+    -- the chosen tests, ascending by binary and then name, each once; their names are made of bytes
     pub record IsReport (listing_of : Text → Option (List Text)) (pairs : List (Text × Text)) : Type 0 where
       pub members : (pair : Text × Text) → Contains pairs pair ↔ IsChosen listing_of pair
+      pub byte_names : (pair : Text × Text) → Contains pairs pair → AreBytes pair.1
       pub ascending : IsStrictlySortedBy pair_cmp pairs
 
     -- the ids of the binaries that are available and wanted, ascending, each once

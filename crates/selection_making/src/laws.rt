@@ -1,6 +1,8 @@
 //! Laws of selections.
 
-ghost use Rattle.selection_making.specs.Laws.{ReadingsSayTheSame, ReportsAgree, UnaskedHaveNoChosenTest};
+ghost use Rattle.selection_making.specs.Laws.{ReadingsSayTheSame, ReportsAgree, SelectionsReportAlike, UnaskedHaveNoChosenTest};
+
+pub use crate::byte_names::{feature_names_are_bytes, record_names_are_bytes};
 
 /// The filters of a question choose the same tests and ask the same binaries in whichever way they are
 /// read: what `select` and `select_plain` are proved to answer is one answer.
@@ -17,4 +19,11 @@ pub fn unasked_binaries_have_no_chosen_test()
 /// are asked.
 pub fn reports_agree()
     ensures agree { ReportsAgree }
+{}
+
+/// Where `select` and `select_plain` both answer a question, over the same listings for the binaries that
+/// `select` asked, they choose the same tests and their reports are the same bytes. What they answer is
+/// all that it takes.
+pub fn selections_report_alike()
+    ensures alike { SelectionsReportAlike }
 {}

@@ -4,6 +4,7 @@
 mod ascending_pairs;
 mod asked_binaries;
 mod asking;
+mod byte_names;
 pub mod laws;
 mod plan;
 mod report;

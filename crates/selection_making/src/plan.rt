@@ -12,6 +12,7 @@ ghost use Rattle.question_filters.specs.QuestionFilters.{MayPass, question_view}
 ghost use Rattle.selection_making.specs.Questions.{WantedIn};
 
 use crate::asked_binaries::AskedBinaries;
+use crate::byte_names::{feature_names_are_bytes, record_names_are_bytes};
 use feature_questions::{checked_question, features_on_in, shared_question};
 use feature_switching::FeaturesOn;
 use feature_switching::availability::is_available;
@@ -82,7 +83,9 @@ fn plan_in<'r>(
     requires known { unknown_extra checked choice.now ≡ None }
     ensures { Plans (record { workspace = checked.entry; choice = choice.now; table = table.now; scope = scope; texts = map (λ t. t.now) texts.now; asks = asks }) result }
 {
+    record_names_are_bytes(checked.record());
     let on = features_on_in(alloc, &checked, choice, table)?;
+    feature_names_are_bytes(on.as_slice());
     let filters = filters_over(alloc, &checked, &on, table, scope, texts)?;
     let all = checked.into_binaries();
     let asked = sorted_binaries(let_through(alloc, all, &on, &filters, asks)?)?;

@@ -27,7 +27,7 @@ use Rattle.selection_reasons.specs.CompiledReasons.{IsReasonOfBinary, IsReasonOf
 use Rattle.selection_reasons.specs.Explaining.{Explains, IsReasonOfBinaryIn, IsReasonOfTestIn}
 use Rattle.selection_making.specs.Plans.{Plans}
 use Rattle.record_rules.specs.Asked.{binary_asked, test_asked}
-use Rattle.selection_making.specs.Questions.{IsFeatureOn, Question}
+use Rattle.selection_making.specs.Questions.{IsFeatureOn, IsSpelled, Question}
 use Rattle.selection_making.specs.Readings.{Readings}
 use Rattle.selection_making.specs.Selecting.{IsAnswered}
 use Rattle.selection_reasons.specs.Telling.{TellsAmong}
@@ -92,10 +92,10 @@ module _ (q : Question) (id : Text) (test : Option Text) (old : Shown) where
         binary_reason (IsCompiled cx) (MayHoldIn cx r.0 a) (λ c. SomeAnswersGive (MayBe filters.filters.default a) c true) (λ f c h. gives_iff cx r.0 filters.filters r.2 a f c h true) texts.0 filters.texts texts.2 (DefaultGives filters.filters.default a true) (DefaultGivesIn cx r.0 a true) (default_gives_iff cx r.0 filters.filters r.2 a true) why h
 
     -- and by the compiled filters
-    pub explained_by : (given : Bool) → (IsTrue given ↔ (0 < length q.texts)) → (all : List Binary) → all ≡ binaries q.workspace → (new : Shown) (result : Result Reason SelectError) → TellsAmong (IsReasonOfTest filters (IsTrue given)) (IsReasonOfBinary filters) (λ f. Contains on f) all id test old result new → Explains q id test old result new
-    explained_by given says all same new result told =
+    pub explained_by : IsSpelled q → (given : Bool) → (IsTrue given ↔ (0 < length q.texts)) → (all : List Binary) → all ≡ binaries q.workspace → (new : Shown) (result : Result Reason SelectError) → TellsAmong (IsReasonOfTest filters (IsTrue given)) (IsReasonOfBinary filters) (λ f. Contains on f) all id test old result new → Explains q id test old result new
+    explained_by spelled given says all same new result told =
         let h = subst (λ (bs : List Binary). TellsAmong (IsReasonOfTest filters (IsTrue given)) (IsReasonOfBinary filters) (λ f. Contains on f) bs id test old result new) same told in
-        explained read (is_answered q on are_on filters cx names followed are) new result (tells_alike (IsReasonOfTest filters (IsTrue given)) (IsReasonOfTestIn q read) (IsReasonOfBinary filters) (IsReasonOfBinaryIn q read) (of_test given says) of_binary (λ f. Contains on f) (IsFeatureOn q) are_on.members (binaries q.workspace) id test old new result h)
+        explained read (is_answered q on are_on filters cx names followed are spelled) new result (tells_alike (IsReasonOfTest filters (IsTrue given)) (IsReasonOfTestIn q read) (IsReasonOfBinary filters) (IsReasonOfBinaryIn q read) (of_test given says) of_binary (λ f. Contains on f) (IsFeatureOn q) are_on.members (binaries q.workspace) id test old new result h)
 
 -- what is explained in one record is in an equal one
 pub explained_in : (w v : Workspace) (choice : Choice) (table : PlatformTable) (scope : LinkScope) (texts : List Text) (asks : AskedBinaries) (id : Text) (test : Option Text) (old : Shown) (r : Result Reason SelectError) (new : Shown) → w ≡ v

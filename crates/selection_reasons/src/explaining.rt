@@ -24,6 +24,7 @@ use question_filters::{
 };
 use record_checks::{CheckedRecord, SelectError};
 use record_rules::binaries::TestBinary;
+use selection_making::laws::{feature_names_are_bytes, record_names_are_bytes};
 use std::alloc::{AllocError, Global};
 use std::rc::Rc;
 use test_lister::{AskError, Listing, TestLister, ask_each};
@@ -88,7 +89,9 @@ fn why_in<'a>(
     requires known { unknown_extra checked.now choice.now ≡ None }
     ensures { Explains (record { workspace = checked.now; choice = choice.now; table = table.now; scope = scope; texts = map (λ t. t.now) texts.now; asks = LetThrough }) id.entry.now (option_map (λ t. t.now) test.entry) (shown lister.old) result (shown lister.new) }
 {
+    record_names_are_bytes(checked.record());
     let on = features_on_in(alloc, checked, choice, table)?;
+    feature_names_are_bytes(on.as_slice());
     let filters = filters_over(alloc, checked, &on, table, scope, texts)?;
     let are_given = !texts.is_empty();
     let all = checked.binaries();

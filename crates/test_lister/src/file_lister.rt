@@ -9,7 +9,7 @@ use crate::fault::ListFault;
 use crate::lister::{Listing, TestLister};
 use list_facts::copy_texts;
 use nextest_binaries::BinaryInfo;
-use std::alloc::Global;
+use std::alloc::{AllocError, Global};
 use std::collections::BTreeMap;
 
 /// Answers with a copy of the listing that it was made with, and fails for an id that has none.
@@ -22,16 +22,17 @@ pub struct FileLister {
 }
 
 impl FileLister {
-    /// A lister over the listings, by the ids of their binaries.
-    pub fn new(alloc: Global, listings: BTreeMap<String, Listing>) -> FileLister
-        ensures { shown_of result ≡ unasked listings }
+    /// A lister over the listings, by the ids of their binaries, with room for an id of each.
+    pub fn new(alloc: Global, listings: BTreeMap<String, Listing>) -> Result<FileLister, AllocError>
+        ensures unasked { IfOk result (λ lister. shown_of lister ≡ unasked listings) }
     {
-        FileLister {
+        let asked = Vec::with_capacity(alloc, listings.len())?;
+        Ok(FileLister {
             alloc,
             listings,
-            asked: Vec::new(alloc),
+            asked,
             failures: 0,
-        }
+        })
     }
 
     /// The ids that were asked, first to last.

@@ -1,7 +1,12 @@
--- What the program selects and explains by.
-use Rattle.std.specs.Prelude.{List, Option, Result}
+-- What the program selects, explains and lists by.
+use Rattle.std.specs.Prelude.{◌≡◌, List, Option, Result, Vec, map}
+use Rattle.std.specs.Global.{Global}
 use Rattle.workspace_record.specs.Records.{Text}
 use Rattle.test_lister.specs.Listers.{Shown}
+use Rattle.feature_questions.specs.Switching.{AnswersOrRefuses, IsServed}
+use Rattle.feature_reasons.specs.SourceViews.{sourced_view}
+use Rattle.feature_reasons.specs.Sources.{sourced_rules}
+use Rattle.feature_reasons.specs.declared.sourced_rule.SourcedRule.{SourcedRule}
 use Rattle.record_checks.specs.declared.select_error.SelectError.{SelectError}
 use Rattle.selection_reasons.specs.Explaining.{Explains}
 use Rattle.selection_making.specs.Selecting.{Answers}
@@ -19,3 +24,8 @@ AnswersQuestion q scope texts asks = Answers (record { workspace = q.record.valu
 -- whether and why a test is chosen, or a binary asked, by what was read
 abbrev pub ExplainsQuestion : FeatureQuestion → LinkScope → List Text → Text → Option Text → Shown → Result Reason SelectError → Shown → Type 0
 ExplainsQuestion q scope texts = Explains (record { workspace = q.record.value; choice = q.choice; table = q.table; scope = scope; texts = texts; asks = LetThrough })
+
+-- the rules of what was read, each with what it comes from, or why the question is refused
+abbrev pub ListsRules : FeatureQuestion → Result (Vec SourcedRule Global) SelectError → Type 0
+ListsRules q =
+    AnswersOrRefuses (λ rules. IsServed q.record.value q.choice × (map sourced_view rules.items ≡ sourced_rules q.record.value q.choice q.table)) q.record.value q.choice

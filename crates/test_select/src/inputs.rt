@@ -38,7 +38,7 @@ pub(crate) fn tests_inputs<'a>(
     ensures { IfErr result (λ f. status_of f ≡ 1) }
 {
     let question = feature_question(alloc, names, files)?;
-    let lister = FileLister::new(alloc, listings_in(alloc, listings, files)?);
+    let lister = FileLister::new(alloc, listings_in(alloc, listings, files)?)?;
     Ok(TestsInputs { question, lister })
 }
 

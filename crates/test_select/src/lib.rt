@@ -3,7 +3,6 @@
 #![tactic(auto)]
 
 mod accounts;
-mod at_end;
 mod command_line;
 mod explanations;
 mod failure;
@@ -16,7 +15,7 @@ mod reasons;
 mod selections;
 
 pub use crate::order::write_order;
-pub use crate::program::{run, run_to_end};
+pub use crate::program::run;
 pub use feature_account::{
     Feature, FeatureChoice, FeatureRecord, GroupRecord, Label, LineKind, LineRecord, LinkRecord,
     MemberRecord, PackageInfo, PackageRecord, PlatformTable, Premises, Rule, Standard, TargetInfo,

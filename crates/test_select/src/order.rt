@@ -5,12 +5,11 @@ ghost use Rattle.list_facts.specs.Writers.{Writes};
 ghost use Rattle.test_select.specs.Failures.{status_of};
 ghost use Rattle.test_select.specs.Orders.{order_line};
 
-use crate::at_end::AtEnd;
 use crate::failure::Failure;
 use clap::ArgMatches;
-use feature_questions::{package_order_in, shared_question};
+use feature_questions::package_order_shared;
 use list_facts::write_pieces;
-use question_files::{FeatureQuestion, FileSource, feature_question, named_files};
+use question_files::{FileSource, feature_question, named_files};
 use std::alloc::Global;
 use std::io::{self, Write};
 
@@ -34,29 +33,14 @@ fn write_id<W: Write>(id: &str, writer: &mut W) -> io::Result<()>
 pub(crate) fn print_order<'a, O: Write>(
     alloc: Global,
     asked: &ArgMatches<'a>,
-    at_end: AtEnd,
     files: &mut dyn FileSource,
     out: &mut O,
 ) -> Result<(), Failure<'a>>
     ensures { IfErr result (λ f. status_of f ≡ 1) }
 {
     let question = feature_question(alloc, named_files(asked), files)?;
-    let printed = print_order_of(alloc, &question, at_end, out);
-    at_end.let_go(question);
-    printed
-}
-
-fn print_order_of<'a, O: Write>(
-    alloc: Global,
-    question: &FeatureQuestion,
-    at_end: AtEnd,
-    out: &mut O,
-) -> Result<(), Failure<'a>>
-    ensures { IfErr result (λ f. status_of f ≡ 1) }
-{
-    let checked = shared_question(alloc, &question.record, &question.choice)?;
-    let ids = package_order_in(alloc, &checked, &question.choice, &question.table)?;
+    let (record, choice, table) = (&question.record, &question.choice, &question.table);
+    let ids = package_order_shared(alloc, record, choice, table)?;
     write_order(&ids, out)?;
-    at_end.let_go(checked);
     Ok(())
 }

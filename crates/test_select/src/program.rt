@@ -4,7 +4,6 @@ ghost use Rattle.std.specs.Prelude.{◌≡◌, ◌≤◌, IfErr};
 ghost use Rattle.test_select.specs.Failures.{status_of};
 
 use crate::accounts::print_account;
-use crate::at_end::AtEnd;
 use crate::command_line::command;
 use crate::explanations::print_explanation;
 use crate::failure::Failure;
@@ -56,38 +55,7 @@ pub fn run<S: AsStr, O: Write, E: Write>(
     ensures quiet { result ≡ 0 → E.contents err.new ≡ E.contents err.old }
     ensures bad_words { result ≡ 2 → O.contents out.new ≡ O.contents out.old }
 {
-    run_with(alloc, words, AtEnd::Free, files, out, err)
-}
-
-/// The same, for a process that ends with it: what the files hold is not given back, since the system
-/// takes back all memory of the process at once.
-pub fn run_to_end<S: AsStr, O: Write, E: Write>(
-    alloc: Global,
-    words: &[S],
-    files: &mut dyn FileSource,
-    out: &mut O,
-    err: &mut E,
-) -> u8
-    ensures statuses { result ≤ 2 }
-    ensures quiet { result ≡ 0 → E.contents err.new ≡ E.contents err.old }
-    ensures bad_words { result ≡ 2 → O.contents out.new ≡ O.contents out.old }
-{
-    run_with(alloc, words, AtEnd::Leave, files, out, err)
-}
-
-fn run_with<S: AsStr, O: Write, E: Write>(
-    alloc: Global,
-    words: &[S],
-    at_end: AtEnd,
-    files: &mut dyn FileSource,
-    out: &mut O,
-    err: &mut E,
-) -> u8
-    ensures statuses { result ≤ 2 }
-    ensures quiet { result ≡ 0 → E.contents err.new ≡ E.contents err.old }
-    ensures bad_words { result ≡ 2 → O.contents out.new ≡ O.contents out.old }
-{
-    match try_run(alloc, words, at_end, files, out) {
+    match try_run(alloc, words, files, out) {
         Ok(()) => 0,
         Err(failure) => {
             let _ = write!(err, "{failure}");
@@ -99,14 +67,13 @@ fn run_with<S: AsStr, O: Write, E: Write>(
 fn try_run<'a, S: AsStr, O: Write>(
     alloc: Global,
     words: &'a [S],
-    at_end: AtEnd,
     files: &mut dyn FileSource,
     out: &mut O,
 ) -> Result<(), Failure<'a>>
     ensures { IfErr result (λ f. status_of f ≡ 2 → O.contents out.new ≡ O.contents out.old) }
 {
     match command(alloc)?.try_get_matches_from(words) {
-        Ok(matches) => carry_out(alloc, &matches, at_end, files, out)?,
+        Ok(matches) => carry_out(alloc, &matches, files, out)?,
         Err(shown) if !shown.use_stderr() => write!(out, "{shown}")?,
         Err(error) => return Err(Failure::from(error)),
     }
@@ -147,7 +114,6 @@ fn task_named(name: &str) -> Task {
 fn carry_out<'a, O: Write>(
     alloc: Global,
     matches: &ArgMatches<'a>,
-    at_end: AtEnd,
     files: &mut dyn FileSource,
     out: &mut O,
 ) -> Result<(), Failure<'a>>
@@ -157,14 +123,14 @@ fn carry_out<'a, O: Write>(
         return Ok(());
     };
     match task_named(name) {
-        Task::Tests => print_tests(alloc, asked, at_end, files, out),
+        Task::Tests => print_tests(alloc, asked, files, out),
         Task::Why => print_why(alloc, asked, files, out),
-        Task::Account => print_account(alloc, asked, at_end, files, out),
+        Task::Account => print_account(alloc, asked, files, out),
         Task::Check => Ok(print_verdict(alloc, asked, files, out)?),
         Task::Explain => print_explanation(alloc, asked, files, out),
-        Task::Order => print_order(alloc, asked, at_end, files, out),
-        Task::Features => print_features(alloc, asked, at_end, files, out),
-        Task::Rules => print_rules(alloc, asked, at_end, files, out),
+        Task::Order => print_order(alloc, asked, files, out),
+        Task::Features => print_features(alloc, asked, files, out),
+        Task::Rules => print_rules(alloc, asked, files, out),
         Task::None => Ok(()),
     }
 }

@@ -2,13 +2,14 @@
 
 ghost use Rattle.std.specs.Prelude.{◌≡◌, IfErr};
 ghost use Rattle.test_select.specs.Failures.{status_of};
+ghost use Rattle.test_select.specs.Runs.{ListsRules};
 
-use crate::at_end::AtEnd;
 use crate::failure::Failure;
 use clap::ArgMatches;
-use feature_questions::{features_on_in, shared_question};
-use feature_reasons::{sourced_rules, write_entries, write_features, write_rules};
+use feature_questions::{features_on_shared, shared_question};
+use feature_reasons::{SourcedRule, sourced_rules, write_entries, write_features, write_rules};
 use question_files::{FeatureQuestion, FileSource, feature_question, named_files};
+use record_checks::SelectError;
 use std::alloc::Global;
 use std::io::Write;
 
@@ -16,31 +17,15 @@ use std::io::Write;
 pub(crate) fn print_features<'a, O: Write>(
     alloc: Global,
     asked: &ArgMatches<'a>,
-    at_end: AtEnd,
     files: &mut dyn FileSource,
     out: &mut O,
 ) -> Result<(), Failure<'a>>
     ensures { IfErr result (λ f. status_of f ≡ 1) }
 {
     let question = feature_question(alloc, named_files(asked), files)?;
-    let printed = print_features_of(alloc, &question, at_end, out);
-    at_end.let_go(question);
-    printed
-}
-
-fn print_features_of<'a, O: Write>(
-    alloc: Global,
-    question: &FeatureQuestion,
-    at_end: AtEnd,
-    out: &mut O,
-) -> Result<(), Failure<'a>>
-    ensures { IfErr result (λ f. status_of f ≡ 1) }
-{
-    let (choice, table) = (&question.choice, &question.table);
-    let checked = shared_question(alloc, &question.record, choice)?;
-    let on = features_on_in(alloc, &checked, choice, table)?;
+    let (record, choice, table) = (&question.record, &question.choice, &question.table);
+    let on = features_on_shared(alloc, record, choice, table)?;
     write_features(alloc, on.as_slice(), out)?;
-    at_end.let_go(checked);
     Ok(())
 }
 
@@ -48,30 +33,29 @@ fn print_features_of<'a, O: Write>(
 pub(crate) fn print_rules<'a, O: Write>(
     alloc: Global,
     asked: &ArgMatches<'a>,
-    at_end: AtEnd,
     files: &mut dyn FileSource,
     out: &mut O,
 ) -> Result<(), Failure<'a>>
     ensures { IfErr result (λ f. status_of f ≡ 1) }
 {
     let question = feature_question(alloc, named_files(asked), files)?;
-    let printed = print_rules_of(alloc, &question, out);
-    at_end.let_go(question);
-    printed
-}
-
-fn print_rules_of<'a, O: Write>(
-    alloc: Global,
-    question: &FeatureQuestion,
-    out: &mut O,
-) -> Result<(), Failure<'a>>
-    ensures { IfErr result (λ f. status_of f ≡ 1) }
-{
-    let (choice, table) = (&question.choice, &question.table);
-    shared_question(alloc, &question.record, choice)?;
-    let rules = sourced_rules(alloc, question.record.as_ref(), choice, table)?;
+    let rules = rules_of(alloc, &question)?;
     write_rules(alloc, &rules, out)?;
     Ok(())
+}
+
+/// The rules of the question, each with what it comes from, where the question is not refused.
+fn rules_of<'q>(
+    alloc: Global,
+    question: &'q FeatureQuestion,
+) -> Result<Vec<SourcedRule<'q>>, SelectError>
+    ensures { ListsRules question.entry.now result }
+{
+    let (choice, table) = (&question.choice, &question.table);
+    match shared_question(alloc, &question.record, choice) {
+        Ok(checked) => Ok(sourced_rules(alloc, checked.record(), choice, table)?),
+        Err(refusal) => Err(refusal),
+    }
 }
 
 /// Prints a line for each entry of an account or of an explanation.

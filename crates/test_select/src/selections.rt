@@ -4,7 +4,6 @@ ghost use Rattle.std.specs.Prelude.{◌≡◌, IfErr, map};
 ghost use Rattle.test_select.specs.Failures.{status_of};
 ghost use Rattle.test_select.specs.Runs.{AnswersQuestion};
 
-use crate::at_end::AtEnd;
 use crate::command_line::{asked_binaries, filters_in, link_scope, listings_file};
 use crate::failure::Failure;
 use crate::inputs::tests_inputs;
@@ -21,7 +20,6 @@ use test_lister::TestLister;
 pub(crate) fn print_tests<'a, O: Write>(
     alloc: Global,
     asked: &ArgMatches<'a>,
-    at_end: AtEnd,
     files: &mut dyn FileSource,
     out: &mut O,
 ) -> Result<(), Failure<'a>>
@@ -37,7 +35,6 @@ pub(crate) fn print_tests<'a, O: Write>(
         &mut inputs.lister,
     )?;
     write_report(&selection, out)?;
-    at_end.let_go(inputs);
     Ok(())
 }
 

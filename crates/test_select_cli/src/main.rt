@@ -5,7 +5,7 @@ use question_files::SystemFiles;
 use std::alloc::AllocGlobal;
 use std::io::{self, BufWriter, ErrorKind};
 use std::process::ExitCode;
-use test_select::run_to_end;
+use test_select::run;
 
 fn main(rt: HostRuntime) -> ExitCode {
     match run_on(&rt) {
@@ -23,15 +23,21 @@ fn main(rt: HostRuntime) -> ExitCode {
 
 /// The words of the command line, the program's name first.
 fn words(rt: &HostRuntime) -> io::Result<Vec<String>> {
-    Ok(std::env::args(rt)?.collect(rt.alloc())?)
+    let mut words = Vec::new(rt.alloc());
+    for word in std::env::args(rt)? {
+        if words.push(word).is_err() {
+            return Err(io::Error::from(ErrorKind::OutOfMemory));
+        }
+    }
+    Ok(words)
 }
 
 /// Runs the program on the words of the command line. What it prints goes out in larger parts, the last of
-/// them when `run_to_end` flushes.
+/// them when `run` flushes.
 fn run_on(rt: &HostRuntime) -> io::Result<u8> {
     let words = words(rt)?;
     let mut files = SystemFiles { rt };
     let mut out = BufWriter::new(rt.alloc(), rt.stdout())?;
     let mut err = rt.stderr();
-    Ok(run_to_end(rt.alloc(), &words, &mut files, &mut out, &mut err))
+    Ok(run(rt.alloc(), &words, &mut files, &mut out, &mut err))
 }

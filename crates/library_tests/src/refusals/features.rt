@@ -2,6 +2,7 @@
 
 use crate::refusals::packages::{id_of, packages};
 use crate::refusals::turns::{Refusal, Wanting, answered, refuse_in_turn};
+use crate::workspace::debugged;
 use guppy_feature_graph::{
     ConditionalLink, FeatureGraph, FeatureGraphData, FeatureId, FeatureLinkContext,
     FeatureLinkVisitor, FeatureMetadata, FeatureSet,
@@ -32,10 +33,16 @@ impl Wanting for Builds<'_> {
     }
 }
 
+/// The graph of packages is afterwards what it was before.
 #[test]
 fn build(rt: HostRuntime) {
     let packages = &packages(&rt, rt.alloc());
+    let before = debugged(&rt, rt.alloc(), packages);
     refuse_in_turn(&rt, rt.alloc(), &mut Builds { packages }, "6");
+    assert_eq!(rt;
+        debugged(&rt, rt.alloc(), packages).as_str(),
+        before.as_str()
+    );
 }
 
 /// Counts the links that it is shown.
@@ -89,8 +96,12 @@ const ALL: &str = "app/full app/fast app/dep:util app/[base] util/simd util/[bas
 fn expect_resolved(rt: &impl Abort, alloc: Global, data: &FeatureGraphData<'_>, app: &PackageId) {
     let graph = &FeatureGraph::of(data);
     refuse_in_turn(rt, alloc, &mut Resolves { graph, app }, ALL);
+    let all = graph.resolve_all(alloc).expect(rt, "memory");
+    let same = ids_text(alloc, &all).expect(rt, "memory");
+    assert_eq!(rt; same.as_str(), ALL);
 }
 
+/// The graph has afterwards the features that it had before.
 #[test]
 fn resolve_with(rt: HostRuntime) {
     let packages = packages(&rt, rt.alloc());

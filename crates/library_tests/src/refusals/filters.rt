@@ -2,6 +2,7 @@
 
 use crate::refusals::packages::{id_of, packages};
 use crate::refusals::turns::{Refusal, Wanting, printed, refuse_in_turn};
+use crate::workspace::debugged;
 use guppy_package_graph::{PackageGraph, PackageId};
 use nextest_filtering::errors::{FiltersetError, ParseExprError};
 use nextest_filtering::{
@@ -94,18 +95,18 @@ fn filterset(rt: HostRuntime) {
 
 /// The parts of a test of app's library.
 #[derive(Drop)]
-struct Parts {
+pub(crate) struct Parts {
     package_id: PackageId,
     kind: RustTestBinaryKind,
     binary_id: RustBinaryId,
-    test_name: TestCaseName,
+    pub(crate) test_name: TestCaseName,
 }
 
 impl Parts {
-    fn new(alloc: Global) -> Result<Parts, AllocError> {
+    pub(crate) fn new(alloc: Global, test: &str) -> Result<Parts, AllocError> {
         let kind = RustTestBinaryKind::new(String::from_str(alloc, "lib")?);
         let binary_id = RustBinaryId::from_parts(alloc, "app", &kind, "app")?;
-        let test_name = TestCaseName::new(String::from_str(alloc, "one1")?);
+        let test_name = TestCaseName::new(String::from_str(alloc, test)?);
         Ok(Parts {
             package_id: id_of(alloc, "app")?,
             kind,
@@ -114,7 +115,7 @@ impl Parts {
         })
     }
 
-    fn query(&self) -> BinaryQuery<'_> {
+    pub(crate) fn query(&self) -> BinaryQuery<'_> {
         BinaryQuery {
             package_id: &self.package_id,
             binary_id: &self.binary_id,
@@ -159,11 +160,15 @@ fn expect_answers(rt: &impl Abort, alloc: Global, filter: &CompiledExpr, parts: 
     refuse_in_turn(rt, alloc, &mut run, "None true");
 }
 
+/// The trees are afterwards what they were before.
 #[test]
 fn evaluators(rt: HostRuntime) {
     let graph = packages(&rt, rt.alloc());
     let cx = ParseContext::new(rt.alloc(), &graph).expect(&rt, "memory");
     let compiled = compile_filter(rt.alloc(), &cx).expect(&rt, "a filter");
-    let parts = Parts::new(rt.alloc()).expect(&rt, "memory");
-    expect_answers(&rt, rt.alloc(), &compiled.filter.compiled, &parts);
+    let parts = Parts::new(rt.alloc(), "one1").expect(&rt, "memory");
+    let filter = &compiled.filter;
+    let before = debugged(&rt, rt.alloc(), filter);
+    expect_answers(&rt, rt.alloc(), &filter.compiled, &parts);
+    assert_eq!(rt; debugged(&rt, rt.alloc(), filter).as_str(), before.as_str());
 }

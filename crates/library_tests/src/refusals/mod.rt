@@ -3,7 +3,7 @@
 
 mod features;
 mod files;
-mod filters;
+pub(crate) mod filters;
 mod packages;
 mod programs;
 mod purse;

@@ -47,7 +47,7 @@ const TEXTS: [&str; 2] = ["test(/^[ot]/) & package(ap*)", "deps(=app) - test(=tw
 impl Wanting for Selects<'_> {
     fn answer(&mut self, alloc: Global) -> Result<String, Refusal> {
         let listings = answered(read_listings(alloc, LISTINGS), ReadError::Memory)?;
-        let mut lister = FileLister::new(alloc, listings);
+        let mut lister = FileLister::new(alloc, listings)?;
         let answer = selected(alloc, self.question, self.plain, &TEXTS, &mut lister);
         reported(alloc, answer, lister.asked())
     }

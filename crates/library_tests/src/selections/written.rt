@@ -97,7 +97,7 @@ const RECORD: &[u8] = br#"{"packages": [
 /// The report of what is chosen from these listings.
 fn report(rt: &impl Abort, alloc: Global, listings: &[u8]) -> Written {
     let listings = read_listings(alloc, listings).expect(rt, "listings");
-    let mut lister = FileLister::new(alloc, listings);
+    let mut lister = FileLister::new(alloc, listings).expect(rt, "a lister");
     let question = question_of(rt, alloc, RECORD, b"{}");
     let selection = selected(alloc, &question, false, &[], &mut lister);
     Written::Report(selection.expect(rt, "a selection"))

@@ -18,7 +18,7 @@ pub(crate) fn tell_selection(
 ) -> Result<(), RowFault> {
     let plain = row.get("plain").is_some();
     let texts = row.texts(alloc, "texts")?;
-    let mut lister = FileLister::new(alloc, listings_in(alloc, row)?);
+    let mut lister = FileLister::new(alloc, listings_in(alloc, row)?)?;
     match selected(alloc, question, scope, plain, &texts, &mut lister) {
         Ok(selection) => tell_report(alloc, &selection, answers),
         Err(error) => tell_refusal(&error, answers),

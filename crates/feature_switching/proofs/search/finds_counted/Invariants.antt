@@ -1,4 +1,5 @@
 use Rattle.std.proofs.Common.{◌+◌, ◌-◌, ◌≤◌, length}
+use Rattle.feature_switching.specs.CountedViews.{counted_list}
 use Rattle.feature_switching.specs.Digits.{digits}
 use Rattle.feature_switching.specs.Searches.{IsBetween, LooksLeft}
 use Rattle.feature_switching.proofs.search.finds_counted.Given as goal
@@ -6,9 +7,9 @@ use Rattle.feature_switching.proofs.search.finds_counted.Given as goal
 abbrev pub invariant-loop-low : goal.invariant-loop-low
 invariant-loop-low g l = record {
   ordered : l.low ≤ l.high;
-  within : l.high ≤ length l.features;
-  between : IsBetween l.features l.wanted l.low l.high;
-  left : LooksLeft (l.high - l.low) (l.fn.looks + digits (length l.features)) l.looks;
+  within : l.high ≤ length (counted_list l.features);
+  between : IsBetween (counted_list l.features) l.wanted l.low l.high;
+  left : LooksLeft (l.high - l.low) (l.fn.looks + digits (length (counted_list l.features))) l.looks;
 }
 
 abbrev pub decreases-loop-low : goal.decreases-loop-low

@@ -20,14 +20,14 @@ returns c =
     ap (map text) c.deref-2.ensures.value ∙ c.in_ok-ids.ensures ∙ ap (λ (x : FeatureGraphValue). map (λ v. (feature_at x v).package_id) c.deref.result.now) of_graph ∙ ap (map (λ v. (feature_at s.graph v).package_id)) c.deref.ensures.value in
     record {
       sized = ap length (sym c.included.ensures.value) ∙ c.included.ensures.sized;
-      features = ok_more c.resolve_known.result (λ packages h. subst (λ (x : FeatureGraphValue). x.nodes ≡ nodes_of x.rows.packages) of_graph c.package_graph.ensures.features) c.resolve_known.ensures.named;
-      listed = ok_more c.resolve_known.result (λ packages h. subst AreListed of_graph c.package_graph.ensures.listed) c.resolve_known.ensures.named;
-      packages = ok_more c.resolve_known.result (λ packages h.
+      features = ok_more c.known_packages.result (λ packages h. subst (λ (x : FeatureGraphValue). x.nodes ≡ nodes_of x.rows.packages) of_graph c.package_graph.ensures.features) c.known_packages.ensures.named;
+      listed = ok_more c.known_packages.result (λ packages h. subst AreListed of_graph c.package_graph.ensures.listed) c.known_packages.ensures.named;
+      packages = ok_more c.known_packages.result (λ packages h.
           let named = subst (λ (t : TableValue). (place : ℕ) → IsTrue (has packages.included place) ↔ IsNamed t (map text c.deref-2.result.now) place) rows h.members in
           record {
             graph = h.graph ∙ rows;
             members = λ place.
                 let same = named_features s nodes (map text c.deref-2.result.now) place listed ids in
                 (λ k. same.0 ((named place).0 k), λ k. (named place).1 (same.1 k));
-          }) c.resolve_known.ensures.named;
+          }) c.known_packages.ensures.named;
     }

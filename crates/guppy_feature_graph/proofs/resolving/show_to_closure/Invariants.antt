@@ -1,4 +1,4 @@
-use Rattle.std.proofs.Common.{◌≡◌, ◌+◌, ◌-◌, ◌≤◌, length, count_by}
+use Rattle.std.proofs.Common.{◌+◌, ◌-◌, length, count_by}
 use denote.Param.Always.{always_mut}
 use Rattle.guppy_package_graph.specs.Visits.{Chain}
 use Rattle.guppy_feature_graph.specs.Closures.{AsksClosure}
@@ -11,8 +11,6 @@ invariant-loop-due g l = record {
   walk : IsWalkOf l.query l.walk;
   chain : Chain (AsksClosure g.F.FnMut l.query) l.fn.accepts l.walk.run l.accepts;
   callable : always_mut g.F.FnMut l.accepts;
-  looks : l.looks ≡ l.fn.looks + l.walk.looked;
-  bound : l.walk.looked ≤ length l.query.graph.nodes;
 }
 
 abbrev pub decreases-loop-due : goal.decreases-loop-due

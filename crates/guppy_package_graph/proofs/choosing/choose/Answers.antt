@@ -1,4 +1,4 @@
-use Rattle.std.proofs.Common.{◌≡◌, ◌<◌, ◌++◌, ◌∙◌, ap, append-nil, map, sym, length, subst, true, false}
+use Rattle.std.proofs.Common.{refl, ◌≡◌, ◌<◌, ◌++◌, ◌∙◌, ap, append-nil, map, sym, length, subst, true, false}
 use Rattle.std.proofs.lemmas.List.{length-replicate}
 use Rattle.numbered_graph.specs.ListedViews.{listed_left}
 use Rattle.numbered_graph.specs.Sets.{has}
@@ -34,11 +34,11 @@ returns-clause-ok g c =
     let each = sym (append-nil (map (λ o. o.0) was.asked)) ∙ ap (λ xs. map (λ o. o.0) was.asked ++ xs) (sym c.in_default.ensures.steps.0) ∙ was.each in
     (was.asked, record { each = each; chain = was.chain }, was.has_one, was.has_two)
 
-pub ask_about-answer-requires-clause-within : goal.ask_about-answer-requires-clause-within
-ask_about-answer-requires-clause-within g c =
+pub ask_about-answer-requires : goal.ask_about-answer-requires
+ask_about-answer-requires g c =
     let was = c.loop-place.invariant.choosing in
     let here = next_within c.in-Some.place (listed_left c.loop-place.places) (listed_left c.next.new.self) c.in-Some.ensures.steps in
-    subst (λ (t : TableValue). c.in-Some.place < length t.packages) (sym c.graph-graph.ensures.graph) (here (length c.args.set.now.graph.packages) was.within)
+    λ k. ((refl, tt), (c.loop-place.invariant.callable, subst (λ (t : TableValue). c.in-Some.place < length t.packages) (sym c.graph-graph.ensures.graph) (here (length c.args.set.now.graph.packages) was.within)))
 
 pub put_if-requires : goal.put_if-requires
 put_if-requires g c =

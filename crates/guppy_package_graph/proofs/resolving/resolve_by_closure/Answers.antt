@@ -13,10 +13,10 @@ loop-number-preserved g c =
     let number = c.in-Some.number in
     let accepted = c.ask_closure-accepted.result in
     let shown : c.answer.new.self.shown ≡ w.shown ++ (number, accepted) ∷ [] =
-    shown_then q w c.take.new.self c.answer.new.self number accepted c.in-Some.ensures.kept c.answer.ensures.answered in
+    shown_then q w c.take_uncounted.new.walk c.answer.new.self number accepted c.in-Some.ensures.kept c.answer.ensures.answered in
     let R = AsksClosure g.F.FnMut q in
     record {
-      walk = walk_more q w c.take.new.self c.answer.new.self number accepted was.walk c.in-Some.ensures.kept c.answer.ensures.answered;
+      walk = walk_more q w c.take_uncounted.new.walk c.answer.new.self number accepted was.walk c.in-Some.ensures.kept c.answer.ensures.answered;
       chain = subst (λ (s : Shown). Chain R c.args.accepts.now s c.ask_closure-accepted.new.accepts) (sym shown)
           (Chain-push R w.shown c.args.accepts.now c.loop-number.accepts c.ask_closure-accepted.new.accepts number accepted was.chain c.ask_closure-accepted.ensures.asks);
       callable = c.ask_closure-accepted.ensures.callable;
@@ -27,4 +27,4 @@ returns-clause-ok g c =
     let was = c.loop-number.invariant in
     let none = c.in_default.ensures in
     let included = c.into_included.ensures in
-    (c.loop-number.walk.shown, resolved c.args.query.now c.loop-number.walk c.take.new.self c.into_included.result was.walk none.kept none.all included.sized included.included, was.chain)
+    (c.loop-number.walk.shown, resolved c.args.query.now c.loop-number.walk c.take_uncounted.new.walk c.into_included.result was.walk none.kept none.all included.sized included.included, was.chain)

@@ -2,6 +2,7 @@
 
 mod filters;
 mod graphs;
+mod kept;
 mod lent;
 mod lists;
 mod resolves;

@@ -46,6 +46,20 @@ pub(crate) const TURNED: &str = r#"{
     "workspace": {"members": []}
 }"#;
 
+/// The same packages, one after the other.
+pub(crate) const CHAIN: &str = r#"{
+    "packages": [
+        {"id": "a", "name": "a", "version": "1.0.0"},
+        {"id": "b", "name": "b", "version": "1.0.0"},
+        {"id": "c", "name": "c", "version": "1.0.0"}
+    ],
+    "links": [
+        {"from": "a", "to": "b", "name": "b", "lines": [{}]},
+        {"from": "b", "to": "c", "name": "c", "lines": [{}]}
+    ],
+    "workspace": {"members": []}
+}"#;
+
 /// Two pairs of packages, those of each on a cycle, and no link between the pairs.
 pub(crate) const TWO_PAIRS: &str = r#"{
     "packages": [

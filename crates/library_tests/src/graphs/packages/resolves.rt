@@ -1,6 +1,6 @@
 ghost use Rattle.std.specs.Prelude.{◌≡◌, ◌<◌};
 
-use crate::graphs::packages::graphs::{FOR_TESTS, TRIANGLE, graph_of, id_of};
+use crate::graphs::packages::graphs::{CHAIN, FOR_TESTS, TRIANGLE, graph_of, id_of};
 use crate::graphs::packages::visitors::{Alternates, Follows, FollowsFirm};
 use guppy_package_graph::{
     PackageGraph, PackageLink, PackageLinkContext, PackageLinkVisitor, PackageQuery,
@@ -75,6 +75,42 @@ fn alternates(rt: HostRuntime) {
     let mut visitor = Alternates { accepts: false };
     let included = included_by(&rt, rt.alloc(), "c", REVERSE, &mut visitor);
     assert_eq!(rt; included, 2);
+}
+
+/// How the set prints that the visitor includes from the first package of `CHAIN`.
+fn chain_text(
+    rt: &impl Abort,
+    alloc: Global,
+    graph: &PackageGraph,
+    visitor: &mut dyn PackageLinkVisitor,
+) -> String {
+    let query = query_of(rt, alloc, graph, "a", FORWARD);
+    let included = query.resolve_with(alloc, visitor).expect(rt, "memory");
+    format!(in alloc; "{included:?}").expect(rt, "memory")
+}
+
+/// The first link that is shown is followed, and no other, be they counted or taken in turn.
+#[test]
+fn follows_the_first_of_a_chain(rt: HostRuntime) {
+    let graph = graph_of(&rt, rt.alloc(), CHAIN);
+    let first = r#"{PackageId { text: "a" }, PackageId { text: "b" }}"#;
+    let mut once = Follows { left: 1, shown: 0 };
+    assert_eq!(rt;
+        chain_text(&rt, rt.alloc(), &graph, &mut once).as_str(),
+        first
+    );
+    assert_eq!(rt; once.shown, 2);
+    let mut turns = Alternates { accepts: true };
+    assert_eq!(rt;
+        chain_text(&rt, rt.alloc(), &graph, &mut turns).as_str(),
+        first
+    );
+    let mut turns = Alternates { accepts: false };
+    let none = r#"{PackageId { text: "a" }}"#;
+    assert_eq!(rt;
+        chain_text(&rt, rt.alloc(), &graph, &mut turns).as_str(),
+        none
+    );
 }
 
 #[test]

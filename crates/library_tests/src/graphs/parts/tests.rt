@@ -137,12 +137,7 @@ fn copies_some_lines(rt: HostRuntime) {
 fn joins_no_lines(rt: HostRuntime) {
     let alloc = rt.alloc();
     let rows = [link(&rt, alloc), link(&rt, alloc)];
-    let choice = LineChoice {
-        kind: LineKind::Normal,
-        required: true,
-        optional: true,
-    };
-    let nothing = PlatformStatus::over(&rows, &[], choice);
+    let nothing = PlatformStatus::over(&rows, &[]);
     assert!(rt; nothing.is_never() && !nothing.is_present() && !nothing.is_always());
     let mut platforms = Vec::new(alloc);
     assert!(rt; platforms.push(OneSpec("one")).is_ok());
@@ -152,6 +147,25 @@ fn joins_no_lines(rt: HostRuntime) {
     let copied = format!(in alloc; "{copy:?}").expect(&rt, "memory");
     let printed = format!(in alloc; "{platforms:?}").expect(&rt, "memory");
     assert_eq!(rt; copied, printed);
+}
+
+/// Of the lines that are named, one of which is not there, none is a dev line.
+#[test]
+fn joins_chosen_lines(rt: HostRuntime) {
+    let alloc = rt.alloc();
+    let rows = [link(&rt, alloc)];
+    let choice = LineChoice {
+        kind: LineKind::Normal,
+        required: true,
+        optional: true,
+    };
+    let lines = [(0, 2), (1, 0), (0, 0)];
+    let chosen = PlatformStatus::over_chosen(&rows, &lines, choice);
+    let printed = format!(in alloc; "{chosen:?}").expect(&rt, "memory");
+    assert!(rt; chosen.is_present() && !chosen.is_always() && !printed.is_empty());
+    let kind = LineKind::Dev;
+    let none = PlatformStatus::over_chosen(&rows, &lines, LineChoice { kind, ..choice });
+    assert!(rt; none.is_never());
 }
 
 #[test]

@@ -24,6 +24,7 @@ impl RowRunner for FilterRows {
         tell_printed(alloc, text, answers);
         let (tree, faults) = parse_with_faults(alloc, text)?;
         tell_faults(alloc, &faults, answers);
+        tell_variants(&faults, answers);
         match &tree {
             Some(tree) => tell_tree(alloc, tree, answers),
             None => tell_spoiled(answers),
@@ -52,6 +53,38 @@ fn tell_faults(alloc: Global, faults: &[ParseSingleError], answers: &mut Answers
             Ok(fault) => add_fault(&fault, answers),
             Err(refused) => answers.keep("faults", Err(refused)),
         }
+    }
+}
+
+/// Tells the variants of the faults.
+fn tell_variants(faults: &[ParseSingleError], answers: &mut Answers) {
+    answers.begin("variants");
+    for fault in faults {
+        answers.part(" ", &variant_of(fault));
+    }
+}
+
+/// The name of a fault's variant, among those that a reading makes.
+fn variant_of(fault: &ParseSingleError) -> &'static str {
+    match fault {
+        ParseSingleError::InvalidGlob { .. } => "InvalidGlob",
+        ParseSingleError::InvalidRegexWithoutMessage(_) => "InvalidRegexWithoutMessage",
+        ParseSingleError::ExpectedCloseRegex(_) => "ExpectedCloseRegex",
+        ParseSingleError::InvalidOrOperator(_) => "InvalidOrOperator",
+        ParseSingleError::InvalidAndOperator(_) => "InvalidAndOperator",
+        ParseSingleError::UnexpectedArgument(_) => "UnexpectedArgument",
+        ParseSingleError::UnexpectedComma(_) => "UnexpectedComma",
+        ParseSingleError::InvalidString(_) => "InvalidString",
+        ParseSingleError::ExpectedOpenParenthesis(_) => "ExpectedOpenParenthesis",
+        ParseSingleError::ExpectedCloseParenthesis(_) => "ExpectedCloseParenthesis",
+        ParseSingleError::InvalidEscapeCharacter(_) => "InvalidEscapeCharacter",
+        ParseSingleError::ExpectedExpr(_) => "ExpectedExpr",
+        ParseSingleError::ExprFoundBinaryOp { .. } => "ExprFoundBinaryOp",
+        ParseSingleError::ExprFoundUnaryOp { .. } => "ExprFoundUnaryOp",
+        ParseSingleError::ExpectedEndOfExpression(_) => "ExpectedEndOfExpression",
+        ParseSingleError::InvalidPlatformArgument(_) => "InvalidPlatformArgument",
+        ParseSingleError::UnsupportedExpression(_) => "UnsupportedExpression",
+        _ => "another",
     }
 }
 

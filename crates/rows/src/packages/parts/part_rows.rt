@@ -1,8 +1,13 @@
+ghost use Rattle.std.specs.Prelude.{◌↔◌, All, IsTrue};
+ghost use Rattle.guppy_package_parts.specs.Lines.{IsLineAt};
+
 use crate::packages::parts::platforms::platforms_of;
-use crate::packages::parts::printing::{source_text, tell_publish, tell_status, tell_target};
+use crate::packages::parts::printing::{
+    add_half, source_text, tell_publish, tell_status, tell_target,
+};
 use guppy_package_parts::{
     BuildTarget, DependencyKind, DependencyReq, ExternalSource, LinkRow, PackagePublish,
-    PackageRow, PackageSource,
+    PackageRow, PackageSource, PlatformStatus,
 };
 use row_program::{Answers, Row, RowFault, RowRunner};
 use row_records::record_under;
@@ -35,7 +40,37 @@ impl RowRunner for PartRows {
         for link in &record.links {
             tell_link(alloc, link, row, answers)?;
         }
-        Ok(())
+        tell_joined(alloc, &record.links, answers)
+    }
+}
+
+/// The status of all lines of all links.
+fn tell_joined(alloc: Global, links: &[LinkRow], answers: &mut Answers) -> Result<(), RowFault> {
+    let mut lines = Vec::new(alloc);
+    for (number, link) in links.iter().enumerate() {
+        for line in 0..link.lines.len() {
+            lines.push((number, line))?;
+        }
+    }
+    if are_there(links, &lines) {
+        answers.begin("joined");
+        add_half(PlatformStatus::over(links, &lines), answers);
+    }
+    Ok(())
+}
+
+fn are_there(links: &[LinkRow], lines: &[(usize, usize)]) -> bool
+    ensures { IsTrue result ↔ All (IsLineAt links.now) lines.now }
+{
+    lines.iter().all(|line| is_there(links, *line))
+}
+
+fn is_there(links: &[LinkRow], line: (usize, usize)) -> bool
+    ensures { IsTrue result ↔ IsLineAt links.now line }
+{
+    match links.get(line.0) {
+        Some(link) => line.1 < link.lines.len(),
+        None => false,
     }
 }
 

@@ -90,7 +90,8 @@ pub(crate) fn tell_status(key: &'static str, status: EnabledStatus<'_>, answers:
     add_half(status.optional_status(), answers);
 }
 
-fn add_half(status: PlatformStatus<'_>, answers: &mut Answers) {
+/// Adds where something is on.
+pub(crate) fn add_half(status: PlatformStatus<'_>, answers: &mut Answers) {
     match status {
         PlatformStatus::Never => answers.add(&"never"),
         PlatformStatus::Always => answers.add(&"always"),

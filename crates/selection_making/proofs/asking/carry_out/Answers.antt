@@ -8,6 +8,7 @@ use Rattle.record_rules.specs.declared.test_binary.TestBinary.{TestBinary}
 use Rattle.selection_making.specs.Choosing.{AreListed, ids_of}
 use Rattle.selection_making.specs.Plans.{PassesIn}
 use Rattle.question_filters.specs.QuestionFilters.{question_view}
+use Rattle.selection_making.proofs.ByteFacts.{pairs_bytes}
 use Rattle.selection_making.proofs.ChoosingFacts.{begun_all, carried_out}
 use Rattle.std.proofs.lemmas.Result.{err_from_is_err_and}
 use Rattle.test_lister.proofs.Asking.{asked_nothing}
@@ -40,4 +41,4 @@ returns-in-Ok g c =
     let all : texts c.in_ok-ids.ids.items ≡ view asked = c.in_ok-ids.ensures ∙ ap view c.deref.ensures.value in
     let ascending : AreListed holds asked c.in-Ok.listings.items chosen =
     subst (λ (ls : List (Vec (String Global) Global)). AreListed holds asked ls chosen) c.deref-in-Ok.ensures.value c.in_ok-choose-in-Ok.ensures in
-    carried_out holds asked _ _ (map (λ b. b.id.now) c.deref-3.result.now) c.in-Ok.listings.items chosen (texts c.in_ok-ids.ids.items) c.new.result told c.in-Ok.ensures ascending all c.new.ensures
+    carried_out holds asked _ _ (map (λ b. b.id.now) c.deref-3.result.now) c.in-Ok.listings.items chosen (texts c.in_ok-ids.ids.items) c.new.result told c.in-Ok.ensures ascending (pairs_bytes c.in_ok-choose-in-Ok.field-0.items) all c.new.ensures

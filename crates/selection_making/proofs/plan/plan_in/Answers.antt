@@ -1,11 +1,12 @@
-use Rattle.std.proofs.Common.{Contains, map, subst}
+use Rattle.std.proofs.Common.{All, Contains, map, subst}
 use Rattle.std.proofs.lemmas.Result.{err_from_is_err_and}
 use Rattle.record_rules.specs.BinaryView.{binary_view}
 use Rattle.question_filters.specs.QuestionFilters.{question_view}
 use Rattle.selection_making.specs.Kept.{AreThose}
 use Rattle.selection_making.specs.Plans.{MayMatch}
-use Rattle.selection_making.specs.Questions.{Question}
-use Rattle.selection_making.proofs.PlanFacts.{plan_err, plan_made}
+use Rattle.selection_making.specs.ByteNames.{IsByteLabel}
+use Rattle.selection_making.specs.Questions.{HasByteTexts, Question}
+use Rattle.selection_making.proofs.PlanFacts.{is_spelled, plan_err, plan_made}
 use Rattle.selection_making.proofs.plan.plan_in.Goals as goal
 
 pub returns-in_err-filters : goal.returns-in_err-filters
@@ -22,4 +23,7 @@ returns c =
     let f = c.in_ok-filters.ensures.filters in
     let kept = c.in_ok-let_through.field-0.items in
     let those = subst (λ bs. AreThose (MayMatch q.asks (λ f. Contains on f) filters) bs (map binary_view kept)) c.into_binaries-all.ensures.binaries c.in_ok-let_through.ensures in
-    plan_made q on c.in_ok-on.ensures.on filters f.0 f.1.0 (f.1.1, f.1.2) f.2 kept c.in_ok-asked.asked.items those c.in_ok-asked.ensures.ascending c.in_ok-asked.ensures.all_of_them
+    let texts = subst HasByteTexts c.record.ensures.value c.record_names_are_bytes.ensures.texts in
+    let names = subst (All (λ f. IsByteLabel f.label)) c.as_slice.ensures.value c.feature_names_are_bytes.ensures.texts in
+    let spelled = is_spelled q on c.in_ok-on.ensures.on texts names in
+    plan_made q on c.in_ok-on.ensures.on filters f.0 f.1.0 (f.1.1, f.1.2) f.2 kept c.in_ok-asked.asked.items those c.in_ok-asked.ensures.ascending c.in_ok-asked.ensures.all_of_them spelled

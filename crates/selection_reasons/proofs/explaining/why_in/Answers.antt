@@ -1,10 +1,11 @@
-use Rattle.std.proofs.Common.{map, not, option_map, refl}
+use Rattle.std.proofs.Common.{All, map, not, option_map, refl, subst}
 use Rattle.std.proofs.lemmas.Result.{err_from_is_err_and}
 use Rattle.question_filters.specs.QuestionFilters.{question_view}
-use Rattle.selection_making.specs.Questions.{Question}
+use Rattle.selection_making.specs.ByteNames.{IsByteLabel}
+use Rattle.selection_making.specs.Questions.{HasByteTexts, Question}
 use Rattle.selection_making.specs.declared.asked_binaries.AskedBinaries.TheVariants.{LetThrough}
 use Rattle.selection_reasons.proofs.ExplainingFacts.{explained_by, given_iff, refused_so}
-use Rattle.selection_making.proofs.PlanFacts.{binaries_of_question, filters_of_question, on_of_question, plan_err_of_question}
+use Rattle.selection_making.proofs.PlanFacts.{binaries_of_question, filters_of_question, is_spelled, on_of_question, plan_err_of_question}
 use Rattle.selection_reasons.proofs.explaining.why_in.Goals as goal
 
 pub returns-in_err-filters : goal.returns-in_err-filters
@@ -22,4 +23,6 @@ returns g c =
     let filters = question_view c.in_ok-filters.filters in
     let f = filters_of_question q _ refl on c.in_ok-filters.filters c.in_ok-filters.ensures.filters in
     let given = not c.is_empty-are_given.result in
-    explained_by q c.args.id.now (option_map (λ t. t.now) c.args.test) _ on are_on filters f.0 f.1.0 (f.1.1, f.1.2) f.2 given (given_iff c.args.texts.now c.is_empty-are_given.result c.is_empty-are_given.ensures) _ (binaries_of_question q _ refl on _ c.binaries-all.ensures.binaries) _ c.among.result c.among.ensures
+    let texts = subst HasByteTexts c.record.ensures.value c.record_names_are_bytes.ensures.texts in
+    let names = subst (All (λ f. IsByteLabel f.label)) c.as_slice.ensures.value c.feature_names_are_bytes.ensures.texts in
+    explained_by q c.args.id.now (option_map (λ t. t.now) c.args.test) _ on are_on filters f.0 f.1.0 (f.1.1, f.1.2) f.2 (is_spelled q on are_on texts names) given (given_iff c.args.texts.now c.is_empty-are_given.result c.is_empty-are_given.ensures) _ (binaries_of_question q _ refl on _ c.binaries-all.ensures.binaries) _ c.among.result c.among.ensures
