@@ -1,10 +1,10 @@
 //! Packages named by ids, as a set of places.
 
-ghost use Rattle.std.specs.Prelude.{◌≡◌, ◌↔◌, ◌⊎◌, ◌<◌, ℕ, All, IfErr, IfOk, IsTrue, Some, length, map, position};
+ghost use Rattle.std.specs.Prelude.{◌≡◌, ◌↔◌, ◌<◌, ℕ, All, IfErr, IfOk, IsTrue, Some, length, map, position};
 ghost use Rattle.std.specs.Str.{bytes_eq};
 ghost use Rattle.numbered_graph.specs.Sets.{has};
 ghost use Rattle.guppy_package_table.specs.Tables.{ids_of};
-ghost use Rattle.guppy_package_graph.specs.Finding.{AreKnown, HasName, IsAt, IsMissing, IsNamed};
+ghost use Rattle.guppy_package_graph.specs.Finding.{AreKnown, HasName, IsMissing, IsNamed};
 ghost use Rattle.guppy_package_graph.specs.Workspaces.{IsMemberPlace};
 
 use crate::package_graph::PackageGraph;
@@ -27,33 +27,6 @@ pub(crate) fn set_of_ids(
     let places = places_of(alloc, graph, package_ids)?;
     let set = NodeSet::of(alloc, graph.package_count(), &places)?;
     Ok(set)
-}
-
-/// The places of those packages that have one of these ids; an id of no package is passed over.
-pub(crate) fn set_of_known(
-    alloc: Global,
-    graph: &PackageGraph,
-    package_ids: &[&PackageId],
-) -> Result<NodeSet, AllocError>
-    ensures sized { IfOk result (λ set. length set ≡ length graph.now.packages) }
-    ensures named { IfOk result (λ set. (v : ℕ) → IsTrue (has set v) ↔ IsNamed graph.now (map (λ id. id.now) package_ids.now) v) }
-{
-    let mut set = NodeSet::none(alloc, graph.package_count())?;
-    for package_id in package_ids {
-        insert_known(graph, *package_id, &mut set);
-    }
-    Ok(set)
-}
-
-/// Puts the place of the package with an id in, if there is such a package.
-fn insert_known(graph: &PackageGraph, package_id: &PackageId, set: &mut NodeSet)
-    requires sized { length set.old ≡ length graph.now.packages }
-    ensures sized { length set.new ≡ length set.old }
-    ensures members { (v : ℕ) → IsTrue (has set.new v) ↔ (IsTrue (has set.old v) ⊎ IsAt graph.now package_id.now v) }
-{
-    if let Ok(place) = graph.place_of(package_id) {
-        set.insert(place);
-    }
 }
 
 /// The places of the members of the workspace.

@@ -9,7 +9,7 @@ ghost use Rattle.guppy_package_graph.specs.Queries.{IsQueryOf};
 ghost use Rattle.guppy_package_graph.specs.Workspaces.{IsMemberPlace};
 
 use crate::found_members::{set_at_paths, set_called};
-use crate::found_packages::{set_of_ids, set_of_known, set_of_members};
+use crate::found_packages::{set_of_ids, set_of_members};
 use crate::package_graph::PackageGraph;
 use crate::package_query::PackageQuery;
 use guppy_package_parts::{DependencyDirection, Error, PackageId};
@@ -29,21 +29,6 @@ impl PackageGraph {
         ensures refused { IfErr result (IsMissing self.now (map (λ id. id.now) package_ids.now)) }
     {
         let set = set_of_ids(alloc, self, package_ids)?;
-        let query = query_of_set(alloc, self, direction, &set)?;
-        Ok(query)
-    }
-
-    /// A query in a direction from those packages that have one of these ids; an id of no package is
-    /// passed over.
-    pub fn query_known(
-        &self,
-        alloc: Global,
-        package_ids: &[&PackageId],
-        direction: DependencyDirection,
-    ) -> Result<PackageQuery<'_>, AllocError>
-        ensures query { IfOk result (IsQueryOf self.now direction (IsNamed self.now (map (λ id. id.now) package_ids.now))) }
-    {
-        let set = set_of_known(alloc, self, package_ids)?;
         let query = query_of_set(alloc, self, direction, &set)?;
         Ok(query)
     }

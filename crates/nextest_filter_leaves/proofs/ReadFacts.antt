@@ -1,5 +1,5 @@
 -- Leaves and their parts are read in one way alone.
-use Rattle.std.proofs.Common.{◌≡◌, ℕ, ◌+◌, ◌<◌, List, Option, Some, None, IfNone, length, refl, sym, ◌∙◌, ap, subst, arith, inl, inr}
+use Rattle.std.proofs.Common.{◌≡◌, ℕ, ◌+◌, ◌-◌, ◌<◌, ◌≤◌, ◌++◌, List, [], ◌∷◌, Option, Some, None, IfNone, length, refl, sym, ◌∙◌, ap, subst, arith, inl, inr}
 use Rattle.std.proofs.lemmas.Bool.{false≢true, cases_lt}
 use Rattle.nextest_filter_tokens.specs.Patterns.{ReadsPattern}
 use Rattle.nextest_filter_texts.specs.Texts.{ReadsText}
@@ -9,13 +9,19 @@ use Rattle.nextest_filter_matchers.specs.declared.source_span.SourceSpan.{Source
 use Rattle.nextest_filter_tokens.specs.Bytes.{skip}
 use Rattle.nextest_filter_tokens.specs.declared.heads.Predicate.{Predicate}
 use Rattle.nextest_filter_leaves.specs.Leaves.{Leaf, Named}
-use Rattle.nextest_filter_leaves.specs.LeafGrammar.{IsUpToClose, NamedFrom, PatternFrom, ReadsMatcher, ReadsSome, Stands, between}
+use Rattle.nextest_filter_leaves.specs.LeafGrammar.{IsUpToClose, NamedFrom, PatternFrom, ReadsMatcher, ReadsSome, Stands, between, leaf_places, matcher_places}
 use Rattle.nextest_filter_matchers.specs.Matchers.{Matcher}
 
 -- what stands in any case stands where a part is spoiled
 pub if_none : {A B : Type 0} (o : Option A) → B → IfNone o B
 if_none (Some x) b = tt
 if_none None b = b
+
+-- a pattern that was refused, between its places
+pub refused_at : {A B : Type 0} {olds news : List SourceSpan} {end after : ℕ} (start : ℕ) (o : Option A) → end ≡ after → (news ≡ olds ++ between start after ∷ [] → B) → IfNone o (news ≡ olds ++ between start end ∷ []) → IfNone o B
+refused_at start (Some x) same gives refused = tt
+refused_at {olds = olds} {news = news} start None same gives refused =
+    gives (subst (λ k. news ≡ olds ++ between start k ∷ []) same refused)
 
 module _ (text : List ℕ) where
   -- a text that is read is the one that is not empty, if one is
@@ -54,6 +60,9 @@ module _ (text : List ℕ) where
     is = is;
   }
 
-  pub named_some : (predicate : Predicate) (i inner start end j : ℕ) (m : Matcher) → Stands text i 40 inner → start ≡ skip text inner → ReadsMatcher text predicate start m end → Stands text end 41 j → (l : Leaf SourceSpan) × NamedFrom text predicate i l j
-  named_some predicate i inner start end j m opens place reads closes =
-      (Named predicate m (between inner end), named_is predicate i inner start end j m (Named predicate m (between inner end)) opens place reads closes refl)
+  pub named_some : (predicate : Predicate) (i inner start end j : ℕ) (m : Matcher) (news olds : List SourceSpan) → inner ≤ end → Stands text i 40 inner → start ≡ skip text inner → ReadsMatcher text predicate start m end → Stands text end 41 j → news ≡ olds ++ matcher_places m start end → (l : Leaf SourceSpan) × NamedFrom text predicate i l j × (news ≡ olds ++ leaf_places text l)
+  named_some predicate i inner start end j m news olds rises opens place reads closes refused =
+      let leaf = Named predicate m (between inner end) in
+      let last : end ≡ inner + (end - inner) = omega (arith, rises) in
+      let at = subst (λ k. news ≡ olds ++ matcher_places m k end) place refused in
+      (leaf, named_is predicate i inner start end j m leaf opens place reads closes refl, subst (λ k. news ≡ olds ++ matcher_places m (skip text inner) k) last at)

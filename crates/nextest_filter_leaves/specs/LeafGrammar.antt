@@ -1,5 +1,5 @@
 -- The grammar of leaves, between two places of a text.
-use Rattle.std.specs.Prelude.{◌≡◌, ℕ, ◌+◌, ◌-◌, ◌<◌, ◌≤◌, Bool, true, false, List, [], length, Option, Some, None, Result, Ok, Err, slice_range, if◌then◌else◌}
+use Rattle.std.specs.Prelude.{◌≡◌, ℕ, ◌+◌, ◌-◌, ◌<◌, ◌≤◌, Bool, true, false, List, [], ◌∷◌, length, Option, Some, None, Result, Ok, Err, slice_range, if◌then◌else◌}
 use Rattle.std.specs.Str.{chars, trim}
 use Rattle.nextest_filter_matchers.specs.declared.source_span.SourceSpan.{SourceSpan}
 use Rattle.nextest_filter_matchers.specs.declared.glob_error.GlobError.{GlobError}
@@ -71,6 +71,22 @@ abbrev pub nullary_leaf : Nullary → SourceSpan → Leaf SourceSpan
 nullary_leaf nullary.Default span = Default span
 nullary_leaf nullary.All span = All
 nullary_leaf nullary.None span = Nothing
+
+-- where the pattern of a matcher lies that stands between two places: between its slashes; others have none
+abbrev pub matcher_places : Matcher → ℕ → ℕ → List SourceSpan
+matcher_places (m.Regex pattern) i j = between (i + 1) (j - 1) ∷ []
+matcher_places (m.Equal value implicit) i j = []
+matcher_places (m.Contains value implicit) i j = []
+matcher_places (m.Glob value tokens implicit) i j = []
+
+-- where the pattern of a leaf lies, after the blanks behind its parenthesis
+abbrev pub leaf_places : List ℕ → Leaf SourceSpan → List SourceSpan
+leaf_places text (Named predicate matcher span) =
+    matcher_places matcher (skip text span.offset) (span.offset + span.len)
+leaf_places text (Platform platform span) = []
+leaf_places text (Default span) = []
+leaf_places text All = []
+leaf_places text Nothing = []
 
 module _ (text : List ℕ) where
   -- a text that is not empty

@@ -1,13 +1,13 @@
-ghost use Rattle.std.specs.Prelude.{◌≡◌, ◌≤◌, ◌<◌, ◌+◌, ℕ, List, Some, true, IfOk, IfSome, IfNone, OnOk, length, string_bytes, vec_len};
+ghost use Rattle.std.specs.Prelude.{◌≡◌, ◌≤◌, ◌<◌, ◌+◌, ◌++◌, ◌∷◌, ℕ, List, [], Some, true, IfOk, IfSome, IfNone, OnOk, length, string_bytes, vec_len};
 ghost use Rattle.std.specs.Str.{IsCharBoundary};
 ghost use Rattle.nextest_filter_matchers.specs.Matchers.{Matcher, Regex as IsPattern, matcher_of};
 ghost use Rattle.regex.specs.Strings.{regex_source};
 ghost use Rattle.nextest_filter_tokens.specs.Bytes.{is_byte};
-ghost use Rattle.nextest_filter_tokens.specs.FaultLists.{AreOver, AreWithin, IsOverPattern, syntax_faults};
+ghost use Rattle.nextest_filter_tokens.specs.FaultLists.{AreOver, AreWithin, BeginsMatcher, IsOverPattern, pattern_spans, syntax_faults};
 ghost use Rattle.nextest_filter_tokens.specs.ReadingSteps.{AreOf, GoesOn, GrowsUpTo, IsClean, Spoils, SpoilsSyntax};
 ghost use Rattle.nextest_filter_leaves.specs.declared.signs.Style.TheVariants.{Glob as Globs};
 ghost use Rattle.nextest_filter_leaves.specs.AsWritten.{IsAsWritten, IsMatcherAsWritten};
-ghost use Rattle.nextest_filter_leaves.specs.LeafGrammar.{PatternFrom, ReadsMatcher, ReadsSome, TextFrom, made_of};
+ghost use Rattle.nextest_filter_leaves.specs.LeafGrammar.{PatternFrom, ReadsMatcher, ReadsSome, TextFrom, made_of, matcher_places};
 
 use crate::places::close_place;
 use crate::signs::{Sign, Style, default_style, sign_of};
@@ -157,6 +157,7 @@ fn built(
     ensures within { OnOk result ((n : ℕ) → AreWithin n faults.old.list.items → span.offset + span.len ≤ n → AreWithin n faults.new.list.items) }
     ensures over { OnOk result ((text : List ℕ) → AreOver text faults.old.list.items → IsOverPattern text span.offset (span.offset + span.len) → AreOver text faults.new.list.items) }
     ensures read { IfOk result (λ r. IfSome r (λ m. matcher_of m ≡ IsPattern pattern.now)) }
+    ensures refused { IfOk result (λ r. IsClean faults.new → IfNone r (pattern_spans faults.new.list.items ≡ pattern_spans faults.old.list.items ++ span ∷ [])) }
     ensures as_written { IfOk result (λ r. IfSome r IsMatcherAsWritten) }
 {
     match regex_of(alloc, pattern)? {
@@ -178,6 +179,7 @@ fn pattern_matcher(
     at: usize,
     faults: &mut FaultList,
 ) -> Result<(Option<NameMatcher>, usize), AllocError>
+    requires begins { BeginsMatcher text.now at }
     requires slash { is_byte text.now at 47 ≡ true }
     requires at { at + 1 ≤ length text.now }
     requires boundary { IsCharBoundary text.now (at + 1) }
@@ -185,7 +187,7 @@ fn pattern_matcher(
     ensures goes_on { IfOk result (λ p. GoesOn text.now at p.1 faults.old faults.new) }
     ensures spoils { IfOk result (λ p. Spoils p.0 faults.old faults.new) }
     ensures read { IfOk result (λ p. IsClean faults.new → IfSome p.0 (λ m. PatternFrom text.now (at + 1) (matcher_of m) p.1)) }
-    ensures unbuilt { IfOk result (λ p. IsClean faults.new → IfNone p.0 ((x : Matcher) × PatternFrom text.now (at + 1) x p.1)) }
+    ensures unbuilt { IfOk result (λ p. IsClean faults.new → IfNone p.0 ((x : Matcher) × PatternFrom text.now (at + 1) x p.1 × (pattern_spans faults.new.list.items ≡ pattern_spans faults.old.list.items ++ matcher_places x at p.1))) }
     ensures as_written { IfOk result (λ p. IfSome p.0 IsMatcherAsWritten) }
     ensures only { IfOk result (λ p. IsClean faults.old → (x : Matcher) (j : ℕ) → PatternFrom text.now (at + 1) x j → (p.1 ≡ j) × IsClean faults.new) }
 {
@@ -220,12 +222,13 @@ pub(crate) fn matcher_from(
     faults: &mut FaultList,
 ) -> Result<(Option<NameMatcher>, usize), AllocError>
     requires at { at ≤ length text.now }
+    requires begins { BeginsMatcher text.now at }
     requires boundary { IsCharBoundary text.now at }
     requires faults { AreOf text.now faults.old }
     ensures goes_on { IfOk result (λ p. GoesOn text.now at p.1 faults.old faults.new) }
     ensures spoils { IfOk result (λ p. Spoils p.0 faults.old faults.new) }
     ensures read { IfOk result (λ p. IsClean faults.new → IfSome p.0 (λ m. ReadsMatcher text.now predicate at (matcher_of m) p.1)) }
-    ensures unbuilt { IfOk result (λ p. IsClean faults.new → IfNone p.0 ((x : Matcher) × ReadsMatcher text.now predicate at x p.1)) }
+    ensures unbuilt { IfOk result (λ p. IsClean faults.new → IfNone p.0 ((x : Matcher) × ReadsMatcher text.now predicate at x p.1 × (pattern_spans faults.new.list.items ≡ pattern_spans faults.old.list.items ++ matcher_places x at p.1))) }
     ensures as_written { IfOk result (λ p. IfSome p.0 IsMatcherAsWritten) }
     ensures only { IfOk result (λ p. IsClean faults.old → (x : Matcher) (j : ℕ) → ReadsMatcher text.now predicate at x j → (p.1 ≡ j) × IsClean faults.new) }
 {

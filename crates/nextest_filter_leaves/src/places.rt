@@ -1,4 +1,4 @@
-ghost use Rattle.std.specs.Prelude.{◌≡◌, ◌≤◌, ◌<◌, ℕ, false, IfOk, OnOk, length};
+ghost use Rattle.std.specs.Prelude.{◌≡◌, ◌⊎◌, ◌≤◌, ◌<◌, ℕ, false, IfOk, OnOk, length};
 ghost use Rattle.std.specs.Str.{IsCharBoundary};
 ghost use Rattle.nextest_filter_faults.specs.Faults.{is_pattern_fault};
 ghost use Rattle.nextest_filter_tokens.specs.Bytes.{is_byte, skip};
@@ -38,6 +38,7 @@ pub fn expect_byte(
     requires faults { AreOf text.now faults.old }
     ensures goes_on { IfOk result (λ e. GoesOn text.now at e faults.old faults.new) }
     ensures boundary { IfOk result (λ e. IsCharBoundary text.now at → IsCharBoundary text.now e) }
+    ensures place { IfOk result (λ e. (e ≡ at) ⊎ Stands text.now at byte e) }
     ensures keeps { OnOk result (KeepsPatterns faults.old faults.new) }
     ensures read { IfOk result (λ e. IsClean faults.new → Stands text.now at byte e) }
     ensures only { IfOk result (λ e. IsClean faults.old → (j : ℕ) → Stands text.now at byte j → (e ≡ j) × IsClean faults.new) }

@@ -1,13 +1,16 @@
-ghost use Rattle.std.specs.Prelude.{◌≡◌, ◌≤◌, ◌<◌, ◌+◌, ℕ, [], IfOk, IfSome, IfNone, OnOk, length, slice_range};
+ghost use Rattle.std.specs.Prelude.{◌≡◌, ◌≤◌, ◌<◌, ◌+◌, ◌++◌, ℕ, [], IfOk, IfSome, IfNone, OnOk, length, slice_range};
 ghost use Rattle.std.specs.Str.{IsCharBoundary, trim};
 ghost use Rattle.nextest_binaries.specs.Platforms.{platform_text};
 ghost use Rattle.nextest_binaries.specs.declared.build_platform.BuildPlatform as declared;
 ghost use Rattle.nextest_filter_matchers.specs.declared.source_span.SourceSpan as source;
+ghost use Rattle.nextest_filter_tokens.specs.FaultLists.{IsOpened, pattern_spans};
+ghost use Rattle.nextest_filter_tokens.specs.Heads.{head_at};
+ghost use Rattle.nextest_filter_tokens.specs.declared.heads.Head.TheVariants as head;
 ghost use Rattle.nextest_filter_tokens.specs.ReadingSteps.{AreOf, GoesOn, Grows, GrowsUpTo, IsClean, KeepsPatterns, Spoils, SpoilsSyntax};
 ghost use Rattle.nextest_filter_leaves.specs.AsWritten.{IsLeafAsWritten};
 ghost use Rattle.nextest_filter_leaves.specs.Leaves.{Leaf, leaf_of};
 ghost use Rattle.nextest_filter_leaves.specs.LeafGrammar as spec;
-ghost use Rattle.nextest_filter_leaves.specs.LeafGrammar.{IsUpToClose, NamedFrom, NullaryFrom, PlatformFrom};
+ghost use Rattle.nextest_filter_leaves.specs.LeafGrammar.{IsUpToClose, NamedFrom, NullaryFrom, PlatformFrom, leaf_places};
 
 use crate::matchers::{matcher_from, some_text};
 use crate::parsed_leaf::{ParsedLeaf, leaf_with};
@@ -36,6 +39,7 @@ fn opened_after(text: &str, at: usize, faults: &mut FaultList) -> Result<usize, 
     ensures goes_on { IfOk result (λ e. GoesOn text.now at e faults.old faults.new) }
     ensures boundary { IfOk result (λ e. IsCharBoundary text.now e) }
     ensures keeps { OnOk result (KeepsPatterns faults.old faults.new) }
+    ensures opened { IfOk result (IsOpened text.now at) }
     ensures read { IfOk result (λ e. IsClean faults.new → spec.Stands text.now at 40 e) }
     ensures only { IfOk result (λ e. IsClean faults.old → (j : ℕ) → spec.Stands text.now at 40 j → (e ≡ j) × IsClean faults.new) }
 {
@@ -53,13 +57,14 @@ pub fn named_set_from(
     at: usize,
     faults: &mut FaultList,
 ) -> Result<(Option<ParsedLeaf>, usize), AllocError>
+    requires named { (start : ℕ) × (head_at text.now start ≡ head.Names predicate at) }
     requires at { at ≤ length text.now }
     requires boundary { IsCharBoundary text.now at }
     requires faults { AreOf text.now faults.old }
     ensures goes_on { IfOk result (λ p. GoesOn text.now at p.1 faults.old faults.new) }
     ensures spoils { IfOk result (λ p. Spoils p.0 faults.old faults.new) }
     ensures read { IfOk result (λ p. IsClean faults.new → IfSome p.0 (λ l. NamedFrom text.now predicate at (leaf_of l) p.1)) }
-    ensures unbuilt { IfOk result (λ p. IsClean faults.new → IfNone p.0 ((x : Leaf source.SourceSpan) × NamedFrom text.now predicate at x p.1)) }
+    ensures unbuilt { IfOk result (λ p. IsClean faults.new → IfNone p.0 ((x : Leaf source.SourceSpan) × NamedFrom text.now predicate at x p.1 × (pattern_spans faults.new.list.items ≡ pattern_spans faults.old.list.items ++ leaf_places text.now x))) }
     ensures as_written { IfOk result (λ p. IfSome p.0 IsLeafAsWritten) }
     ensures only { IfOk result (λ p. IsClean faults.old → (x : Leaf source.SourceSpan) (j : ℕ) → NamedFrom text.now predicate at x j → (p.1 ≡ j) × IsClean faults.new) }
 {

@@ -1,28 +1,26 @@
 -- The steps of reading: what each takes from the parts before it, and gives to those after it.
-use Rattle.std.proofs.Common.{◌≡◌, ◌↔◌, ℕ, suc, ◌+◌, ◌-◌, ◌<◌, ◌≤◌, Bool, true, false, not, cond, List, [], ◌∷◌, Option, Some, None, IfSome, IfNone, length, vec_len, refl, sym, ◌∙◌, ap, subst, arith}
-use Rattle.std.proofs.lemmas.List.Sums.{sum_by-cons}
-use Rattle.std.specs.List.{count_by}
+use Rattle.std.proofs.Common.{◌≡◌, ◌↔◌, ℕ, suc, ◌+◌, ◌-◌, ◌<◌, ◌≤◌, ◌++◌, true, false, List, [], Option, Some, None, IfSome, IfNone, length, vec_len, refl, sym, ◌∙◌, ap, subst, arith}
 use Rattle.nextest_filter_matchers.specs.declared.source_span.SourceSpan.{SourceSpan}
 use Rattle.nextest_filter_faults.specs.declared.operators.NotOperator.{NotOperator}
-use Rattle.nextest_filter_faults.specs.Faults.{is_pattern_fault}
-use Rattle.nextest_filter_faults.specs.declared.parse_error.ParseSingleError.{ParseSingleError}
 use Rattle.nextest_filter_tokens.specs.Bytes.{skip}
-use Rattle.nextest_filter_tokens.specs.FaultLists.{pattern_faults, syntax_faults}
-use Rattle.nextest_filter_tokens.specs.ReadingSteps.{GoesOn, Grows, KeepsPatterns, Spoils, SpoilsSyntax}
+use Rattle.nextest_filter_tokens.specs.FaultLists.{AreSomeOf, pattern_spans}
+use Rattle.nextest_filter_tokens.specs.ReadingSteps.{GoesOn, Grows, KeepsPatterns, RefusesSomeOf, Spoils, SpoilsSyntax}
 use Rattle.nextest_filter_tokens.specs.declared.fault_list.FaultList.{FaultList}
+use Rattle.nextest_filter_tokens.proofs.SpanFacts.{refuses_all, refuses_both, refuses_none, refuses_then_none}
 use Rattle.nextest_filter_tokens.specs.Heads.{head_at}
 use Rattle.nextest_filter_tokens.specs.declared.heads.Head.{Head}
 use Rattle.nextest_filter_tokens.specs.declared.heads.Head.TheVariants.{Negates, Opens}
 use Rattle.nextest_filter_tokens.specs.declared.operators.Operator.{Operator}
+use Rattle.nextest_filter_tokens.specs.declared.operators.Operator.TheVariants.{Or, And, Minus}
 use Rattle.nextest_filter_tokens.specs.declared.operators.Found.{Found}
 use Rattle.nextest_filter_tokens.specs.declared.operators.Found.TheVariants.{Nothing, Joins, Wrong}
 use Rattle.nextest_filter_leaves.specs.Leaves.{Leaf, leaf_of}
-use Rattle.nextest_filter_leaves.specs.LeafGrammar.{LeafBy, Stands}
+use Rattle.nextest_filter_leaves.specs.LeafGrammar.{LeafBy, Stands, leaf_places}
 use Rattle.nextest_filter_leaves.specs.declared.parsed_leaf.ParsedLeaf.{ParsedLeaf}
 use Rattle.nextest_filter_leaves.proofs.StepFacts.{goes_from}
 use Rattle.nextest_filter_syntax.specs.declared.parsed_expr.ParsedExpr.{ParsedExpr}
 use Rattle.nextest_filter_syntax.specs.Trees.{Tree, not_of, parens_of, set_of, tree_of}
-use Rattle.nextest_filter_syntax.specs.Grammar.{MoreOf, Reads, ReadsWhole, chain, found_at, joined_of, leaf, negated, none, one, parens}
+use Rattle.nextest_filter_syntax.specs.Grammar.{MoreOf, Reads, ReadsWhole, chain, found_at, joined_of, leaf, negated, none, one, parens, tree_places}
 use Rattle.nextest_filter_syntax.specs.Reading.{Ends, IsReading, IsTree, is_wrong, joined_part, leaf_part, negated_part, parens_part, part_of, place_of}
 use Rattle.nextest_filter_syntax.proofs.GrammarFacts.{OperandOf, BehindOf, behind_at, level_of_chain, operand_at, part_ends, texts_read_as_one}
 
@@ -36,27 +34,14 @@ none_some e = cc
 no_room : {room d : ℕ} → room ≡ 0 → room ≡ suc d → ⊥
 no_room full some = omega (arith, full, some)
 
-one_of : (b : Bool) → cond (not b) 1 0 + cond b 1 0 ≡ 1
-one_of true = refl
-one_of false = refl
-
--- each fault is that of a refused pattern or another
-count_both : {A : Type 0} (p : A → Bool) (xs : List A) → count_by (λ x. not (p x)) xs + count_by p xs ≡ length xs
-count_both p [] = refl
-count_both p (x ∷ xs) =
-    omega (arith, sum_by-cons (λ y. cond (not (p y)) 1 0) x xs, sum_by-cons (λ y. cond (p y) 1 0) x xs, one_of (p x), count_both p xs)
-
-pub all_faults : (faults : List ParseSingleError) → syntax_faults faults + pattern_faults faults ≡ length faults
-all_faults faults = count_both is_pattern_fault faults
-
 -- where a spoiled part is a fault, it is one in a longer list
 pub spoiled_grows : {A : Type 0} (o : Option A) (n m : ℕ) → IfNone o (0 < n) → n ≤ m → IfNone o (0 < m)
 spoiled_grows (Some v) n m some more = tt
 spoiled_grows None n m some more = omega (arith, some, more)
 
 -- where a whole part has no refused pattern, there is none
-pub built_whole : {A : Type 0} (o : Option A) (i j k : ℕ) → i ≡ 0 → k ≡ j → IfSome o (λ _. j ≡ i) → IfSome o (λ _. k ≡ 0)
-built_whole (Some v) i j k empty last same = last ∙ same ∙ empty
+pub built_whole : {A : Type 0} (o : Option A) (i j k : List SourceSpan) → i ≡ [] → k ≡ j → IfSome o (λ _. j ≡ i) → IfSome o (λ _. length k ≡ 0)
+built_whole (Some v) i j k empty last same = ap length (last ∙ same ∙ empty)
 built_whole None i j k empty last same = tt
 
 -- a part is no spoiled one where a spoiled one is a fault and there is none
@@ -123,11 +108,11 @@ module _ (text : List ℕ) where
   set_read room at end start h l is begins r =
       leaf (subst (λ k. LeafBy text k l end (head_at text k)) is (subst (λ g. LeafBy text start l end g) begins r))
 
-  pub leaf_read : (room at end start : ℕ) (h : Head) (l : Option (ParsedLeaf SourceSpan)) (x : Option (ParsedExpr SourceSpan)) → start ≡ skip text at → h ≡ head_at text start → part_of x ≡ leaf_part l → IfSome l (λ v. LeafBy text start (leaf_of v) end h) → IfNone l ((m : Leaf SourceSpan) × LeafBy text start m end h) → IsReading text room 0 at x end
-  leaf_read room at end start h (Some w) x is begins same r otherwise =
-      (set_of (leaf_of w), set_read room at end start h (leaf_of w) is begins r, part_is x (set_of (leaf_of w)) same)
-  leaf_read room at end start h None x is begins same r otherwise =
-      (set_of otherwise.0, set_read room at end start h otherwise.0 is begins otherwise.1, part_none x (set_of otherwise.0) same)
+  pub leaf_read : (room at end start : ℕ) (h : Head) (l : Option (ParsedLeaf SourceSpan)) (x : Option (ParsedExpr SourceSpan)) → start ≡ skip text at → h ≡ head_at text start → part_of x ≡ leaf_part l → IfSome l (λ v. LeafBy text start (leaf_of v) end h) → (before after : FaultList) → IfSome l (λ _. KeepsPatterns before after) → IfNone l ((m : Leaf SourceSpan) × LeafBy text start m end h × (pattern_spans after.list.items ≡ pattern_spans before.list.items ++ leaf_places text m)) → IsReading text room 0 at x end before after
+  leaf_read room at end start h (Some w) x is begins same r before after keeps otherwise =
+      (set_of (leaf_of w), set_read room at end start h (leaf_of w) is begins r, part_is x (set_of (leaf_of w)) same, refuses_none _ _ _ keeps)
+  leaf_read room at end start h None x is begins same r before after keeps otherwise =
+      (set_of otherwise.0, set_read room at end start h otherwise.0 is begins otherwise.1, part_none x (set_of otherwise.0) same, refuses_all _ _ _ otherwise.2)
 
   -- what an operand is made of, where it is known what it begins with
   pub operand_is : (room at j start : ℕ) (t : Tree SourceSpan) (h : Head) → start ≡ skip text at → h ≡ head_at text start → Reads text room 0 at t j → OperandOf text room at t j h
@@ -138,11 +123,11 @@ module _ (text : List ℕ) where
   negated_is op (Some w) y t same is = part_is y (not_of op t) (same ∙ ap (λ u. Some (not_of op u)) is)
   negated_is op None y t same is = part_none y (not_of op t) same
 
-  pub negated_read : (room at start next end : ℕ) (op : NotOperator) (x y : Option (ParsedExpr SourceSpan)) → start ≡ skip text at → Negates op next ≡ head_at text start → 0 < room → part_of y ≡ negated_part op (part_of x) → IsReading text (room - 1) 0 next x end → IsReading text room 0 at y end
-  negated_read room at start next end op x y is begins some same w =
+  pub negated_read : (room at start next end : ℕ) (op : NotOperator) (x y : Option (ParsedExpr SourceSpan)) (before after : FaultList) → start ≡ skip text at → Negates op next ≡ head_at text start → 0 < room → part_of y ≡ negated_part op (part_of x) → IsReading text (room - 1) 0 next x end before after → IsReading text room 0 at y end before after
+  negated_read room at start next end op x y before after is begins some same w =
       let more : suc (room - 1) ≡ room = omega arith in
       let here = subst (λ d. Reads text d 0 at (not_of op w.0) end) more (negated (sym (begins ∙ ap (head_at text) is)) w.1) in
-      (not_of op w.0, here, negated_is op x y w.0 same w.2)
+      (not_of op w.0, here, negated_is op x y w.0 same w.2, w.3)
 
   pub negated_only : (room at start next j : ℕ) (op : NotOperator) (t : Tree SourceSpan) → start ≡ skip text at → Negates op next ≡ head_at text start → Reads text room 0 at t j → (x : Tree SourceSpan) × Reads text (room - 1) 0 next x j
   negated_only room at start next j op t is begins r =
@@ -154,11 +139,11 @@ module _ (text : List ℕ) where
   parens_is (Some w) y t same is = part_is y (parens_of t) (same ∙ ap (λ u. Some (parens_of u)) is)
   parens_is None y t same is = part_none y (parens_of t) same
 
-  pub parens_read : (room at start next end after : ℕ) (x y : Option (ParsedExpr SourceSpan)) → start ≡ skip text at → Opens next ≡ head_at text start → 0 < room → part_of y ≡ parens_part (part_of x) → IsReading text (room - 1) 2 next x end → Stands text end 41 after → IsReading text room 0 at y after
-  parens_read room at start next end after x y is begins some same w closes =
+  pub parens_read : (room at start next end after : ℕ) (x y : Option (ParsedExpr SourceSpan)) (f g h : FaultList) → start ≡ skip text at → Opens next ≡ head_at text start → 0 < room → part_of y ≡ parens_part (part_of x) → IsReading text (room - 1) 2 next x end f g → Stands text end 41 after → KeepsPatterns g h → IsReading text room 0 at y after f h
+  parens_read room at start next end after x y f g h is begins some same w closes keeps =
       let more : suc (room - 1) ≡ room = omega arith in
       let here = subst (λ d. Reads text d 0 at (parens_of w.0) after) more (parens (sym (begins ∙ ap (head_at text) is)) w.1 closes) in
-      (parens_of w.0, here, parens_is x y w.0 same w.2)
+      (parens_of w.0, here, parens_is x y w.0 same w.2, refuses_then_none _ _ _ _ w.3 keeps)
 
   pub parens_only : (room at start next j : ℕ) (t : Tree SourceSpan) → start ≡ skip text at → Opens next ≡ head_at text start → Reads text room 0 at t j → (x : Tree SourceSpan) × (k : ℕ) × Reads text (room - 1) 2 next x k × Stands text k 41 j
   parens_only room at start next j t is begins r =
@@ -178,14 +163,14 @@ module _ (text : List ℕ) where
       no_room full w.3
 
   -- a tree is that of the expression, and the parts that join it make a part of a level
-  abbrev pub IsBegun : ℕ → ℕ → ℕ → ℕ → Option (ParsedExpr SourceSpan) → ℕ → Type 0
-  IsBegun room level lower at x end =
-      (a : Tree SourceSpan) × IsTree x a × ((t : Tree SourceSpan) (j : ℕ) → MoreOf text room lower end a t j → Reads text room level at t j)
+  abbrev pub IsBegun : ℕ → ℕ → ℕ → ℕ → Option (ParsedExpr SourceSpan) → ℕ → FaultList → FaultList → Type 0
+  IsBegun room level lower at x end before after =
+      (a : Tree SourceSpan) × IsTree x a × RefusesSomeOf (tree_places text a) (pattern_spans before.list.items) (pattern_spans after.list.items) × ((t : Tree SourceSpan) (j : ℕ) → MoreOf text room lower end a t j → Reads text room level at t j)
 
   -- the first part of a level
-  pub first_read : (room level lower at end : ℕ) (x : Option (ParsedExpr SourceSpan)) → suc lower ≡ level → IsReading text room lower at x end → IsBegun room level lower at x end
-  first_read room level lower at end x is w =
-      (w.0, w.2, λ t j more. subst (λ l. Reads text room l at t j) is (chain w.1 more))
+  pub first_read : (room level lower at end : ℕ) (x : Option (ParsedExpr SourceSpan)) (before after : FaultList) → suc lower ≡ level → IsReading text room lower at x end before after → IsBegun room level lower at x end before after
+  first_read room level lower at end x before after is w =
+      (w.0, w.2, w.3, λ t j more. subst (λ l. Reads text room l at t j) is (chain w.1 more))
 
   pub first_only : (room level lower at j : ℕ) (t : Tree SourceSpan) → suc lower ≡ level → Reads text room level at t j → Ends text level j → (a : Tree SourceSpan) × (m : ℕ) × Reads text room lower at a m × MoreOf text room lower m a t j × Ends text lower m
   first_only room level lower at j t is r ends =
@@ -193,8 +178,9 @@ module _ (text : List ℕ) where
       (w.0, w.1, w.2, w.3, part_ends text room lower w.1 j w.0 t w.3 (subst (λ l. Ends text l j) (sym is) ends))
 
   -- the last one
-  pub last_read : (room level lower at end : ℕ) (x : Option (ParsedExpr SourceSpan)) → IsBegun room level lower at x end → IsReading text room level at x end
-  last_read room level lower at end x w = (w.0, w.2 w.0 end none, w.1)
+  pub last_read : (room level lower at end : ℕ) (x : Option (ParsedExpr SourceSpan)) (f g h : FaultList) → IsBegun room level lower at x end f g → KeepsPatterns g h → IsReading text room level at x end f h
+  last_read room level lower at end x f g h w keeps =
+      (w.0, w.3 w.0 end none, w.1, refuses_then_none _ _ _ _ w.2 keeps)
 
   pub nothing_of : (found : Found) → place_of found ≡ None → found ≡ Nothing
   nothing_of Nothing e = refl
@@ -211,17 +197,26 @@ module _ (text : List ℕ) where
   joined_is op m (Some v) None z a b same is also = part_none z (joined_of op a b) same
   joined_is op m None y z a b same is also = part_none z (joined_of op a b) same
 
+  joined_places : (op : Operator) (a b : Tree SourceSpan) → tree_places text a ++ tree_places text b ≡ tree_places text (joined_of op a b)
+  joined_places (Or op) a b = refl
+  joined_places (And op) a b = refl
+  joined_places Minus a b = refl
+
+  refuses_joined : (op : Operator) (a b : Tree SourceSpan) (i j k l : List SourceSpan) → RefusesSomeOf (tree_places text a) i j → k ≡ j → RefusesSomeOf (tree_places text b) k l → RefusesSomeOf (tree_places text (joined_of op a b)) i l
+  refuses_joined op a b i j k l first same second =
+      subst (λ places. RefusesSomeOf places i l) (joined_places op a b) (refuses_both _ _ _ _ _ (refuses_then_none _ _ _ _ first same) second)
+
   -- one part more
-  pub step_read : (room level lower at end next after : ℕ) (found : Found) (x y z : Option (ParsedExpr SourceSpan)) → found ≡ found_at text lower (skip text end) → place_of found ≡ Some next → (is_wrong found ≡ true → ⊥) → part_of z ≡ joined_part found (part_of x) (part_of y) → IsBegun room level lower at x end → IsReading text room lower next y after → IsBegun room level lower at z after
-  step_read room level lower at end next after Nothing x y z stands place right same first second = absurd (none_some place)
-  step_read room level lower at end next after (Wrong m) x y z stands place right same first second =
+  pub step_read : (room level lower at end next after : ℕ) (found : Found) (x y z : Option (ParsedExpr SourceSpan)) (f g h k : FaultList) → found ≡ found_at text lower (skip text end) → place_of found ≡ Some next → (is_wrong found ≡ true → ⊥) → part_of z ≡ joined_part found (part_of x) (part_of y) → IsBegun room level lower at x end f g → (is_wrong found ≡ false → KeepsPatterns g h) → IsReading text room lower next y after h k → IsBegun room level lower at z after f k
+  step_read room level lower at end next after Nothing x y z f g h k stands place right same first keeps second = absurd (none_some place)
+  step_read room level lower at end next after (Wrong m) x y z f g h k stands place right same first keeps second =
       absurd (right refl)
-  step_read room level lower at end next after (Joins op m) x y z stands place right same first second =
+  step_read room level lower at end next after (Joins op m) x y z f g h k stands place right same first keeps second =
       let here : m ≡ next = some_same place in
       let reads = subst (λ k. Reads text room lower k second.0 after) (sym here) second.1 in
-      (joined_of op first.0 second.0, joined_is op m x y z first.0 second.0 same first.1 second.2, λ t j more. first.2 t j (one (sym stands) reads more))
+      (joined_of op first.0 second.0, joined_is op m x y z first.0 second.0 same first.1 second.2, refuses_joined op first.0 second.0 _ _ _ _ first.2 (keeps refl) second.3, λ t j more. first.3 t j (one (sym stands) reads more))
 
-  pub step_patterns : (found : Found) (next i j k l : ℕ) (x y z : Option (ParsedExpr SourceSpan)) → place_of found ≡ Some next → part_of z ≡ joined_part found (part_of x) (part_of y) → IfSome x (λ _. j ≡ i) → (is_wrong found ≡ false → k ≡ j) → IfSome y (λ _. l ≡ k) → IfSome z (λ _. l ≡ i)
+  pub step_patterns : (found : Found) (next : ℕ) (i j k l : List SourceSpan) (x y z : Option (ParsedExpr SourceSpan)) → place_of found ≡ Some next → part_of z ≡ joined_part found (part_of x) (part_of y) → IfSome x (λ _. j ≡ i) → (is_wrong found ≡ false → k ≡ j) → IfSome y (λ _. l ≡ k) → IfSome z (λ _. l ≡ i)
   step_patterns found next i j k l x y None place same first right second = tt
   step_patterns Nothing next i j k l x y (Some v) place same first right second = absurd (none_some place)
   step_patterns (Wrong m) next i j k l x y (Some v) place same first right second = absurd (none_some (sym same))
@@ -268,9 +263,16 @@ module _ (text : List ℕ) where
       behind_step room lower end next j a t found place all (subst (BehindOf text room lower end a t j) (sym stands) (behind_at text room lower end j a t more all))
 
   -- the tree that is read is the only one
-  pub whole_tree : (end : ℕ) (x : Option (ParsedExpr SourceSpan)) (t : Tree SourceSpan) → IsReading text 256 2 0 x end → skip text end ≡ length text → ReadsWhole text t → IsTree x t
-  whole_tree end x t w stands whole =
+  pub whole_tree : (end : ℕ) (x : Option (ParsedExpr SourceSpan)) (t : Tree SourceSpan) (before after : FaultList) → IsReading text 256 2 0 x end before after → skip text end ≡ length text → ReadsWhole text t → IsTree x t
+  whole_tree end x t before after w stands whole =
       subst (IsTree x) (texts_read_as_one text w.0 t (end, w.1, stands) whole) w.2
+
+  -- and the patterns that are refused are some of its own
+  pub whole_places : (end : ℕ) (x : Option (ParsedExpr SourceSpan)) (t : Tree SourceSpan) (f g h : FaultList) → pattern_spans f.list.items ≡ [] → IsReading text 256 2 0 x end f g → KeepsPatterns g h → skip text end ≡ length text → ReadsWhole text t → AreSomeOf (pattern_spans h.list.items) (tree_places text t)
+  whole_places end x t f g h empty w keeps stands whole =
+      let all = w.3.1 ∙ ap (λ xs. xs ++ w.3.0) empty in
+      let some = subst (λ xs. AreSomeOf xs (tree_places text w.0)) (sym (keeps ∙ all)) w.3.2 in
+      subst (λ u. AreSomeOf (pattern_spans h.list.items) (tree_places text u)) (texts_read_as_one text w.0 t (end, w.1, stands) whole) some
 
   -- an expression that is not spoiled has the tree
   whole_part : (n : ℕ) (x : Option (ParsedExpr SourceSpan)) (t : Tree SourceSpan) → n ≡ 0 → IfNone x (0 < n) → IsTree x t → part_of x ≡ Some t

@@ -1,5 +1,5 @@
 -- The grammar of filters, between two places of a text.
-use Rattle.std.specs.Prelude.{◌≡◌, ℕ, zero, suc, List, length}
+use Rattle.std.specs.Prelude.{◌≡◌, ◌++◌, ℕ, zero, suc, List, length}
 use Rattle.nextest_filter_matchers.specs.declared.source_span.SourceSpan.{SourceSpan}
 use Rattle.nextest_filter_faults.specs.declared.operators.NotOperator.{NotOperator}
 use Rattle.nextest_filter_tokens.specs.Bytes.{skip}
@@ -11,7 +11,7 @@ use Rattle.nextest_filter_tokens.specs.declared.operators.Operator.TheVariants.{
 use Rattle.nextest_filter_tokens.specs.declared.operators.Found.{Found}
 use Rattle.nextest_filter_tokens.specs.declared.operators.Found.TheVariants.{Nothing, Joins}
 use Rattle.nextest_filter_leaves.specs.Leaves.{Leaf}
-use Rattle.nextest_filter_leaves.specs.LeafGrammar.{ReadsLeaf, Stands}
+use Rattle.nextest_filter_leaves.specs.LeafGrammar.{ReadsLeaf, Stands, leaf_places}
 use Rattle.nextest_filter_syntax.specs.Trees.{Tree, not_of, union_of, intersection_of, difference_of, parens_of, set_of}
 
 -- two trees, joined by the operator between them
@@ -38,6 +38,15 @@ mutual
   pub data MoreOf (text : List ℕ) : ℕ → ℕ → ℕ → Tree SourceSpan → Tree SourceSpan → ℕ → Type 0 where
     none : {room level k : ℕ} {a : Tree SourceSpan} → MoreOf text room level k a a k
     one : {room level k m n j : ℕ} {op : Operator} {a b t : Tree SourceSpan} → found_at text level (skip text k) ≡ Joins op m → Reads text room level m b n → MoreOf text room level n (joined_of op a b) t j → MoreOf text room level k a t j
+
+-- where the patterns of a tree lie, from left to right
+abbrev pub tree_places : List ℕ → Tree SourceSpan → List SourceSpan
+tree_places text (not_of op t) = tree_places text t
+tree_places text (union_of op a b) = tree_places text a ++ tree_places text b
+tree_places text (intersection_of op a b) = tree_places text a ++ tree_places text b
+tree_places text (difference_of a b) = tree_places text a ++ tree_places text b
+tree_places text (parens_of t) = tree_places text t
+tree_places text (set_of l) = leaf_places text l
 
 -- the whole text is a filter, with at most 256 parentheses and negations inside each other
 abbrev pub ReadsWhole : List ℕ → Tree SourceSpan → Type 0

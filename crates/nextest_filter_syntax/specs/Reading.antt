@@ -3,13 +3,16 @@ use Rattle.std.specs.Prelude.{◌≡◌, ℕ, ◌<◌, Bool, true, false, List, 
 use Rattle.nextest_filter_matchers.specs.declared.source_span.SourceSpan.{SourceSpan}
 use Rattle.nextest_filter_faults.specs.declared.operators.NotOperator.{NotOperator}
 use Rattle.nextest_filter_tokens.specs.Bytes.{skip}
+use Rattle.nextest_filter_tokens.specs.FaultLists.{pattern_spans}
+use Rattle.nextest_filter_tokens.specs.ReadingSteps.{RefusesSomeOf}
+use Rattle.nextest_filter_tokens.specs.declared.fault_list.FaultList.{FaultList}
 use Rattle.nextest_filter_tokens.specs.declared.operators.Found.{Found}
 use Rattle.nextest_filter_tokens.specs.declared.operators.Found.TheVariants.{Nothing, Joins, Wrong}
 use Rattle.nextest_filter_leaves.specs.Leaves.{leaf_of}
 use Rattle.nextest_filter_leaves.specs.declared.parsed_leaf.ParsedLeaf.{ParsedLeaf}
 use Rattle.nextest_filter_syntax.specs.declared.parsed_expr.ParsedExpr.{ParsedExpr}
 use Rattle.nextest_filter_syntax.specs.Trees.{Tree, not_of, parens_of, set_of, tree_of}
-use Rattle.nextest_filter_syntax.specs.Grammar.{Reads, found_at, joined_of}
+use Rattle.nextest_filter_syntax.specs.Grammar.{Reads, found_at, joined_of, tree_places}
 
 -- no operator of a lower level stands after the place
 abbrev pub Ends : List ℕ → ℕ → ℕ → Type 0
@@ -24,9 +27,10 @@ part_of None = None
 abbrev pub IsTree : Option (ParsedExpr SourceSpan) → Tree SourceSpan → Type 0
 IsTree part t = IfSome part (λ x. tree_of x ≡ t)
 
--- between two places a tree is read, and it is that of the expression, unless it is spoiled
-abbrev pub IsReading : List ℕ → ℕ → ℕ → ℕ → Option (ParsedExpr SourceSpan) → ℕ → Type 0
-IsReading text room level i part j = (t : Tree SourceSpan) × Reads text room level i t j × IsTree part t
+-- between two places a tree is read, and it is that of the expression, unless it is spoiled; the patterns that were refused on the way are some of the tree's
+abbrev pub IsReading : List ℕ → ℕ → ℕ → ℕ → Option (ParsedExpr SourceSpan) → ℕ → FaultList → FaultList → Type 0
+IsReading text room level i part j before after =
+    (t : Tree SourceSpan) × Reads text room level i t j × IsTree part t × RefusesSomeOf (tree_places text t) (pattern_spans before.list.items) (pattern_spans after.list.items)
 
 abbrev pub leaf_part : Option (ParsedLeaf SourceSpan) → Option (Tree SourceSpan)
 leaf_part (Some l) = Some (set_of (leaf_of l))

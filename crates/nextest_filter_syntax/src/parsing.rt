@@ -7,7 +7,7 @@ ghost use Rattle.nextest_filter_syntax.specs.AsWritten.{IsExprAsWritten};
 ghost use Rattle.nextest_filter_syntax.specs.Trees.{Tree, tree_of};
 ghost use Rattle.nextest_filter_syntax.specs.Grammar.{ReadsWhole};
 ghost use Rattle.nextest_filter_syntax.specs.Reading.{part_of};
-ghost use Rattle.nextest_filter_syntax.specs.Parsing.{ReadsSome};
+ghost use Rattle.nextest_filter_syntax.specs.Parsing.{AreOfTree, ReadsSome};
 
 use crate::parsed_expr::ParsedExpr;
 use crate::reading::{rest_of, tree_from};
@@ -57,6 +57,7 @@ pub fn parse_with_faults(
     ensures tree { IfOk result (λ r. (t : Tree source.SourceSpan) → ReadsWhole text.now t → IfSome r.0 (λ x. tree_of x ≡ t)) }
     ensures within { IfOk result (λ r. AreWithin (length text.now) r.1.items) }
     ensures over { IfOk result (λ r. AreOver text.now r.1.items) }
+    ensures of_tree { IfOk result (λ r. AreOfTree text.now r.1.items) }
 {
     let mut faults = FaultList::new(alloc);
     let (tree, end) = tree_from(alloc, text, 256, 2, 0, &mut faults)?;

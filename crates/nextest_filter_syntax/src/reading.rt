@@ -138,7 +138,7 @@ pub(crate) fn tree_from(
     requires faults { AreOf text.now faults.old }
     ensures goes_on { IfOk result (λ p. GoesOn text.now at p.1 faults.old faults.new) }
     ensures spoils { IfOk result (λ p. Spoils p.0 faults.old faults.new) }
-    ensures read { IfOk result (λ p. IsClean faults.new → IsReading text.now room level at p.0 p.1) }
+    ensures read { IfOk result (λ p. IsClean faults.new → IsReading text.now room level at p.0 p.1 faults.old faults.new) }
     ensures as_written { IfOk result (λ p. IfSome p.0 IsExprAsWritten) }
     ensures only { IfOk result (λ p. IsClean faults.old → (t : Tree source.SourceSpan) (j : ℕ) → Reads text.now room level at t j → Ends text.now level j → (p.1 ≡ j) × IsClean faults.new) }
 {
@@ -184,7 +184,7 @@ fn operand_from(
     requires faults { AreOf text.now faults.old }
     ensures goes_on { IfOk result (λ p. GoesOn text.now at p.1 faults.old faults.new) }
     ensures spoils { IfOk result (λ p. Spoils p.0 faults.old faults.new) }
-    ensures read { IfOk result (λ p. IsClean faults.new → IsReading text.now room 0 at p.0 p.1) }
+    ensures read { IfOk result (λ p. IsClean faults.new → IsReading text.now room 0 at p.0 p.1 faults.old faults.new) }
     ensures as_written { IfOk result (λ p. IfSome p.0 IsExprAsWritten) }
     ensures only { IfOk result (λ p. IsClean faults.old → (t : Tree source.SourceSpan) (j : ℕ) → Reads text.now room 0 at t j → (p.1 ≡ j) × IsClean faults.new) }
 {

@@ -1,2 +1,3 @@
 pub mod BlankFacts
 pub mod EndFacts
+pub mod SpanFacts

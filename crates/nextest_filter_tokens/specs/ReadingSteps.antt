@@ -1,6 +1,7 @@
 -- What each step of reading says of its place in the text, and of the faults.
-use Rattle.std.specs.Prelude.{◌≡◌, ℕ, ◌≤◌, ◌<◌, List, length, Option, IfSome, IfNone, vec_len}
-use Rattle.nextest_filter_tokens.specs.FaultLists.{AreOver, AreWithin, pattern_faults, syntax_faults}
+use Rattle.std.specs.Prelude.{◌≡◌, ℕ, ◌≤◌, ◌<◌, ◌++◌, List, length, Option, IfSome, IfNone, vec_len}
+use Rattle.nextest_filter_matchers.specs.declared.source_span.SourceSpan.{SourceSpan}
+use Rattle.nextest_filter_tokens.specs.FaultLists.{AreOver, AreSomeOf, AreWithin, pattern_spans, syntax_faults}
 use Rattle.nextest_filter_tokens.specs.declared.fault_list.FaultList.{FaultList}
 
 -- no fault was found but those of refused patterns
@@ -31,7 +32,11 @@ GrowsUpTo end before after =
 
 -- no pattern was refused
 abbrev pub KeepsPatterns : FaultList → FaultList → Type 0
-KeepsPatterns before after = pattern_faults after.list.items ≡ pattern_faults before.list.items
+KeepsPatterns before after = pattern_spans after.list.items ≡ pattern_spans before.list.items
+
+-- the refused patterns lay at the first places, and now also at some of these, in their order
+abbrev pub RefusesSomeOf : List SourceSpan → List SourceSpan → List SourceSpan → Type 0
+RefusesSomeOf places before after = (added : List SourceSpan) × (after ≡ before ++ added) × AreSomeOf added places
 
 -- a part is answered and no pattern was refused, or there is a fault
 abbrev pub Spoils : {A : Type 0} → Option A → FaultList → FaultList → Type 0

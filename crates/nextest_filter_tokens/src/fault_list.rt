@@ -16,7 +16,7 @@ impl FaultList {
     ghost use Rattle.std.specs.Prelude.{◌≡◌, ◌+◌, ◌≤◌, ◌<◌, ◌++◌, ◌∷◌, ℕ, List, [], false, true, IfOk, OnOk, vec_len};
     ghost use Rattle.nextest_filter_faults.specs.Faults.{is_pattern_fault};
     ghost use Rattle.nextest_filter_faults.specs.declared.parse_error.ParseSingleError.TheVariants.{UnsupportedExpression};
-    ghost use Rattle.nextest_filter_tokens.specs.FaultLists.{AreOver, AreWithin, LiesOver, LiesWithin, pattern_faults, syntax_faults};
+    ghost use Rattle.nextest_filter_tokens.specs.FaultLists.{AreOver, AreWithin, LiesOver, LiesWithin, pattern_spans, syntax_faults};
 
     /// No faults.
     pub fn new(alloc: Global) -> FaultList
@@ -36,7 +36,7 @@ impl FaultList {
         ensures syntax { OnOk result (is_pattern_fault fault ≡ false → 0 < syntax_faults self.new.list.items) }
         ensures pattern { OnOk result (is_pattern_fault fault ≡ true → syntax_faults self.new.list.items ≡ syntax_faults self.old.list.items) }
         ensures keeps_syntax { OnOk result (syntax_faults self.old.list.items ≤ syntax_faults self.new.list.items) }
-        ensures keeps_patterns { OnOk result (is_pattern_fault fault ≡ false → pattern_faults self.new.list.items ≡ pattern_faults self.old.list.items) }
+        ensures keeps_patterns { OnOk result (is_pattern_fault fault ≡ false → pattern_spans self.new.list.items ≡ pattern_spans self.old.list.items) }
         ensures within { (n : ℕ) → AreWithin n self.old.list.items → LiesWithin n fault → AreWithin n self.new.list.items }
         ensures over { (text : List ℕ) → AreOver text self.old.list.items → LiesOver text fault → AreOver text self.new.list.items }
         ensures same_over { (text : List ℕ) → AreOver text self.old.list.items → is_pattern_fault fault ≡ false → AreOver text self.new.list.items }

@@ -7,14 +7,14 @@ use Rattle.nextest_filter_matchers.specs.declared.source_span.SourceSpan.{Source
 use Rattle.nextest_filter_faults.specs.declared.filterset_kind.FiltersetKind.{FiltersetKind}
 use Rattle.nextest_filter_faults.specs.declared.parse_error.ParseSingleError.{ParseSingleError}
 use Rattle.nextest_filter_tokens.specs.FaultLists.{AreOver, AreWithin, syntax_faults}
+use Rattle.nextest_filter_tokens.proofs.SpanFacts.{all_faults}
 use Rattle.nextest_filter_syntax.specs.AsWritten.{IsExprAsWritten}
 use Rattle.nextest_filter_syntax.specs.Trees.{Tree, tree_of}
 use Rattle.nextest_filter_syntax.specs.Grammar.{ReadsWhole}
 use Rattle.nextest_filter_syntax.specs.Reading.{part_of}
-use Rattle.nextest_filter_syntax.specs.Parsing.{AreFaultsOf, ReadsSome}
+use Rattle.nextest_filter_syntax.specs.Parsing.{AreFaultsOf, AreOfTree, ReadsSome}
 use Rattle.nextest_filter_syntax.specs.declared.parsing.ParseExprError.TheVariants as unread
 use Rattle.nextest_filter_syntax.specs.declared.parsed_expr.ParsedExpr.{ParsedExpr}
-use Rattle.nextest_filter_syntax.proofs.StepFacts.{all_faults}
 use Rattle.nextest_filter_queries.specs.declared.groups.KnownGroups.{KnownGroups}
 use Rattle.nextest_filtering.specs.Contexts.{ContextValue}
 use Rattle.nextest_filtering.specs.Filters.{filter_of}
@@ -34,10 +34,10 @@ pub no_items : {X : Type 0} (xs : List X) (n : ℕ) → n ≡ length xs → n �
 no_items [] n e z = refl
 no_items (x ∷ xs) n e z = absurd (omega (arith, e, z))
 
-pub unread_as : (text lent : Text) (v : Vec ParseSingleError Global) → lent ≡ text → 0 < v.len → AreWithin (length lent) v.items → AreOver lent v.items → (syntax_faults v.items ≡ 0 ↔ ReadsSome lent) → AreFaultsOf text (unread.Faults v)
-unread_as text lent v e some within over reads =
+pub unread_as : (text lent : Text) (v : Vec ParseSingleError Global) → lent ≡ text → 0 < v.len → AreWithin (length lent) v.items → AreOver lent v.items → AreOfTree lent v.items → (syntax_faults v.items ≡ 0 ↔ ReadsSome lent) → AreFaultsOf text (unread.Faults v)
+unread_as text lent v e some within over of_tree reads =
     subst (λ xs. AreFaultsOf xs (unread.Faults v)) e
-    (some, within, over, reads, λ r. let zero = reads.1 r in let all = all_faults v.items in let size = v.ok.0 in omega (arith, zero, all, size, some))
+    (some, within, over, of_tree, reads, λ r. let zero = reads.1 r in let all = all_faults v.items in let size = v.ok.0 in omega (arith, zero, all, size, some))
 
 some_same : {A : Type 0} (d a b : A) → Some a ≡ Some b → a ≡ b
 some_same d a b e = search rules

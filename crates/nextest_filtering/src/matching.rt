@@ -1,14 +1,15 @@
 //! Names and paths of a context, as matchers ask for them.
 
-ghost use Rattle.std.specs.Prelude.{◌≡◌, ◌↔◌, ◌++◌, ◌∷◌, [], Contains, IfOk, IsTrue, OnOk, if◌then◌else◌, map, string_bytes};
+ghost use Rattle.std.specs.Prelude.{◌≡◌, ◌↔◌, ◌++◌, ◌∷◌, [], ℕ, Contains, IfOk, IsTrue, OnOk, if◌then◌else◌, map, string_bytes};
 ghost use Rattle.workspace_record.specs.Records.{Text};
+ghost use Rattle.guppy_package_graph.specs.Finding.{AreKnown, IsNamed};
 ghost use Rattle.nextest_filter_queries.specs.NameTests.{Suits, SuitsOneOf, name_test};
 ghost use Rattle.nextest_filtering.specs.Meaning.{IsFeatured, IsMatched, IsReachedOf};
 ghost use Rattle.nextest_filtering.specs.ContextViews.{ArePicked, IsInSet};
 
 use crate::context_names::{NamedBinary, NamedPackage};
 use crate::parse_context::ParseContext;
-use guppy_package_graph::{DependencyDirection, PackageId, PackageSet};
+use guppy_package_graph::{DependencyDirection, PackageGraph, PackageId, PackageSet};
 use nextest_filter_matchers::NameMatcher;
 use nextest_filter_queries::suits;
 use std::alloc::{AllocError, Global};
@@ -37,10 +38,15 @@ impl ParseContext<'_> {
     ) -> Result<Vec<&PackageId>, AllocError>
         ensures { IfOk result (λ v. (id : Text) → Contains (map (λ i. i.now) v.items) id ↔ IsReachedOf self.now (Contains (map (λ i. i.now) starts.now)) direction id) }
     {
-        let query = self.graph().query_known(alloc, starts, direction)?;
-        let reached = query.resolve(alloc)?;
-        let ids = in_set(alloc, self.packages(), &reached)?;
-        Ok(ids)
+        let known = known_to(alloc, self.graph(), starts)?;
+        match self.graph().query_directed(alloc, &known, direction) {
+            Ok(query) => {
+                let reached = query.resolve(alloc)?;
+                let ids = in_set(alloc, self.packages(), &reached)?;
+                Ok(ids)
+            }
+            Err(_) => Err(AllocError),
+        }
     }
 
     /// The ids of the packages with a feature that is said to be on and that the matcher matches.
@@ -89,6 +95,24 @@ impl ParseContext<'_> {
     {
         some_name_suits(alloc, self.binaries(), matcher)
     }
+}
+
+/// Those of the ids that are of packages of the graph.
+fn known_to<'a>(
+    alloc: Global,
+    graph: &PackageGraph,
+    ids: &[&'a PackageId],
+) -> Result<Vec<&'a PackageId>, AllocError>
+    ensures known { IfOk result (λ v. AreKnown graph.now (map (λ i. i.now) v.items)) }
+    ensures same { IfOk result (λ v. (place : ℕ) → IsNamed graph.now (map (λ i. i.now) v.items) place ↔ IsNamed graph.now (map (λ i. i.now) ids.entry.now) place) }
+{
+    let mut known = Vec::new(alloc);
+    for id in ids {
+        if graph.metadata(*id).is_ok() {
+            known.push(*id)?;
+        }
+    }
+    Ok(known)
 }
 
 fn named_so<'a>(

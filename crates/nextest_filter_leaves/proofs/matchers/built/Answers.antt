@@ -1,3 +1,5 @@
+use Rattle.std.proofs.Common.{◌≡◌, ◌∙◌, Bool, true, false, refl, sym, arith}
+use Rattle.nextest_filter_tokens.proofs.SpanFacts.{open_where_clean, spans_more}
 use Rattle.nextest_filter_leaves.proofs.matchers.built.Goals as goal
 
 pub returns-in_ok-regex-in-Some-clause-within : goal.returns-in_ok-regex-in-Some-clause-within
@@ -18,3 +20,9 @@ returns-in_ok-report-in-None-clause-spoils c =
 
 pub returns-in_ok-report-in-None-clause-over : goal.returns-in_ok-report-in-None-clause-over
 returns-in_ok-report-in-None-clause-over c text old lies = c.in_ok-report-in-None.ensures.over text old (λ _. lies)
+
+pub returns-in_ok-report-in-None-clause-refused : goal.returns-in_ok-report-in-None-clause-refused
+returns-in_ok-report-in-None-clause-refused c clean =
+    let report = c.in_ok-report-in-None.ensures in
+    let open = open_where_clean c.args.faults.now (sym (report.pattern refl) ∙ clean) in
+    rw report.added open (spans_more c.args.faults.now.list.items _ refl)

@@ -1,6 +1,7 @@
-use Rattle.std.proofs.Common.{◌+◌, true, IfSome, IfNone, sym, subst, arith}
+use Rattle.std.proofs.Common.{◌≡◌, ◌+◌, ◌++◌, true, IfSome, IfNone, sym, subst, arith}
 use Rattle.nextest_filter_matchers.specs.Matchers.{Matcher, matcher_of}
-use Rattle.nextest_filter_leaves.specs.LeafGrammar.{MatcherBy, TextFrom}
+use Rattle.nextest_filter_tokens.specs.FaultLists.{pattern_spans}
+use Rattle.nextest_filter_leaves.specs.LeafGrammar.{MatcherBy, TextFrom, matcher_places}
 use Rattle.nextest_filter_leaves.proofs.SignFacts.{SignEnds, sign_ends}
 use Rattle.nextest_filter_leaves.proofs.StepFacts.{goes_from, none_clean, spoils_any}
 use Rattle.nextest_filter_leaves.proofs.matchers.matcher_from.Goals as goal
@@ -27,7 +28,7 @@ returns-in_ok-matcher-in-Slash-clause-only c clean m j from =
 
 pub returns-in_ok-matcher-in-Slash-clause-unbuilt : goal.returns-in_ok-matcher-in-Slash-clause-unbuilt
 returns-in_ok-matcher-in-Slash-clause-unbuilt c clean =
-    subst (λ s. IfNone c.in_ok-matcher-in-Slash.matcher ((x : Matcher) × MatcherBy c.args.text.now c.args.predicate c.args.at x c.in_ok-matcher-in-Slash.end s)) c.in-Slash.ensures (c.in_ok-matcher-in-Slash.ensures.unbuilt clean)
+    subst (λ s. IfNone c.in_ok-matcher-in-Slash.matcher ((x : Matcher) × MatcherBy c.args.text.now c.args.predicate c.args.at x c.in_ok-matcher-in-Slash.end s × (pattern_spans c.pattern_matcher.new.faults.list.items ≡ pattern_spans c.args.faults.now.list.items ++ matcher_places x c.args.at c.in_ok-matcher-in-Slash.end))) c.in-Slash.ensures (c.in_ok-matcher-in-Slash.ensures.unbuilt clean)
 
 pub returns-in_ok-matcher-in-Says-clause-goes_on : goal.returns-in_ok-matcher-in-Says-clause-goes_on
 returns-in_ok-matcher-in-Says-clause-goes_on c =

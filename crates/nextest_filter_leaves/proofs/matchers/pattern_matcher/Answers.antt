@@ -1,8 +1,7 @@
-use Rattle.std.proofs.Common.{◌+◌, ◌-◌, ◌≡◌, ◌∙◌, refl, sym, subst, arith, true, length, string_bytes}
+use Rattle.std.proofs.Common.{◌+◌, ◌-◌, ◌≡◌, refl, sym, ◌∙◌, subst, arith, length, string_bytes}
 use Rattle.nextest_filter_matchers.specs.Matchers.{Regex}
-use Rattle.nextest_filter_tokens.specs.Bytes.{is_byte}
 use Rattle.nextest_filter_tokens.specs.Patterns.{ReadsPattern}
-use Rattle.nextest_filter_leaves.proofs.ReadFacts.{if_none, pattern_is}
+use Rattle.nextest_filter_leaves.proofs.ReadFacts.{pattern_is, refused_at}
 use Rattle.nextest_filter_leaves.proofs.matchers.pattern_matcher.Goals as goal
 
 pub returns-in_ok-matcher-in-Some-clause-spoils : goal.returns-in_ok-matcher-in-Some-clause-spoils
@@ -42,10 +41,8 @@ returns-in_ok-matcher-in-Some-clause-goes_on c =
     let read = rw c.in-Some.is at c.in_ok-pattern.ensures.read in
     let same : c.in-Some.end ≡ start + (c.in-Some.end - start) = omega (arith, rises) in
     let reads = subst (λ k. ReadsPattern c.args.text.now start (string_bytes c.in-Some.pattern) k) same read in
-    let place : c.args.at ≡ start - 1 = omega arith in
-    let slash = subst (λ k. is_byte c.args.text.now k 47 ≡ true) place c.requires.slash in
     let within = matcher.within (length c.args.text.now) c.requires.faults.0 (omega (arith, rises, ends)) in
-    let over = matcher.over c.args.text.now c.requires.faults.1 (string_bytes c.in-Some.pattern, omega arith, slash, reads) in
+    let over = matcher.over c.args.text.now c.requires.faults.1 (record { slash = c.args.at; pattern = string_bytes c.in-Some.pattern; begins = c.requires.begins; stands = c.requires.slash; after = refl; reads = reads }) in
     (omega (arith, rises), omega (arith, ends), (matcher.grows, omega (arith, matcher.syntax), (within, over)))
 
 pub returns-in_ok-matcher-in-Some-clause-only : goal.returns-in_ok-matcher-in-Some-clause-only
@@ -56,4 +53,6 @@ returns-in_ok-matcher-in-Some-clause-only c clean m j from =
 pub returns-in_ok-matcher-in-Some-clause-unbuilt : goal.returns-in_ok-matcher-in-Some-clause-unbuilt
 returns-in_ok-matcher-in-Some-clause-unbuilt c clean =
     let reads = rw c.in-Some.is at c.in_ok-pattern.ensures.read in
-    if_none c.in_ok-matcher-in-Some.matcher (Regex (string_bytes c.in-Some.pattern), record { bytes = string_bytes c.in-Some.pattern; end = c.in-Some.end; reads = reads; is = refl; after = refl })
+    let from = record { bytes = string_bytes c.in-Some.pattern; end = c.in-Some.end; reads = reads; is = refl; after = refl } in
+    let same : c.in-Some.end ≡ (c.in-Some.end + 1) - 1 = omega arith in
+    refused_at (c.args.at + 1) c.in_ok-matcher-in-Some.matcher same (λ refused. (Regex (string_bytes c.in-Some.pattern), from, refused)) (c.in_ok-matcher-in-Some.ensures.refused clean)

@@ -1,5 +1,5 @@
 use Rattle.std.proofs.Common.{◌≡◌, ◌∙◌, refl, ap, arith, length, string_bytes}
-use Rattle.nextest_filter_tokens.specs.FaultLists.{pattern_faults, syntax_faults}
+use Rattle.nextest_filter_tokens.specs.FaultLists.{pattern_spans, syntax_faults}
 use Rattle.nextest_filter_leaves.proofs.ReadFacts.{some_is}
 use Rattle.nextest_filter_leaves.proofs.matchers.some_text.Goals as goal
 
@@ -13,7 +13,7 @@ returns-then-is_empty-clause-goes_on c =
 pub returns-then-is_empty-clause-spoils : goal.returns-then-is_empty-clause-spoils
 returns-then-is_empty-clause-spoils c =
     let whole = rw c.in-Some.is at c.in_ok-value.ensures.whole in
-    (c.in_ok-report-in-Some.ensures.keeps_patterns refl ∙ ap pattern_faults whole.1, tt)
+    (c.in_ok-report-in-Some.ensures.keeps_patterns refl ∙ ap pattern_spans whole.1, tt)
 
 pub returns-then-is_empty-clause-read : goal.returns-then-is_empty-clause-read
 returns-then-is_empty-clause-read c clean =
@@ -26,7 +26,7 @@ returns-else-is_empty-clause-goes_on c =
 pub returns-else-is_empty-clause-spoils : goal.returns-else-is_empty-clause-spoils
 returns-else-is_empty-clause-spoils c =
     let whole = rw c.in-Some.is at c.in_ok-value.ensures.whole in
-    (ap pattern_faults whole.1, tt)
+    (ap pattern_spans whole.1, tt)
 
 pub returns-in-None-clause-goes_on : goal.returns-in-None-clause-goes_on
 returns-in-None-clause-goes_on c =

@@ -1,4 +1,4 @@
-use Rattle.std.proofs.Common.{◌≡◌, ◌∙◌, ◌+◌, true, sym, ap, subst, arith, length}
+use Rattle.std.proofs.Common.{◌≡◌, ◌∙◌, ◌+◌, true, refl, inl, inr, sym, ap, subst, arith, length}
 use Rattle.std.proofs.lemmas.Bool.{false≢true}
 use Rattle.nextest_filter_tokens.specs.Bytes.{is_byte}
 use Rattle.nextest_filter_tokens.proofs.BlankFacts.{boundary_after_byte, byte_within}
@@ -14,6 +14,14 @@ pub returns-then-has_byte-clause-read : goal.returns-then-has_byte-clause-read
 returns-then-has_byte-clause-read c clean =
     let stands = sym c.has_byte.ensures ∙ c.if-has_byte.true in
     (subst (λ k. is_byte c.args.text.now k c.args.byte ≡ true) c.skip_blanks-place.ensures.value stands, ap (λ k. k + 1) c.skip_blanks-place.ensures.value)
+
+pub returns-then-has_byte-clause-place : goal.returns-then-has_byte-clause-place
+returns-then-has_byte-clause-place c =
+    let stands = sym c.has_byte.ensures ∙ c.if-has_byte.true in
+    inr (subst (λ k. is_byte c.args.text.now k c.args.byte ≡ true) c.skip_blanks-place.ensures.value stands, ap (λ k. k + 1) c.skip_blanks-place.ensures.value)
+
+pub returns-clause-place : goal.returns-clause-place
+returns-clause-place c = inl refl
 
 pub returns-then-has_byte-clause-only : goal.returns-then-has_byte-clause-only
 returns-then-has_byte-clause-only c clean j stands =

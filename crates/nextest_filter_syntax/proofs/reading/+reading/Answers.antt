@@ -6,6 +6,7 @@ use Rattle.nextest_filter_leaves.specs.LeafGrammar.{NullaryFrom, Stands}
 use Rattle.nextest_filter_syntax.specs.Trees.{set_of}
 use Rattle.nextest_filter_syntax.specs.Grammar.{MoreOf, Reads, joined_of}
 use Rattle.nextest_filter_syntax.specs.Reading.{IsReading, is_wrong}
+use Rattle.nextest_filter_tokens.proofs.SpanFacts.{refuses_none}
 use Rattle.nextest_filter_syntax.proofs.OperatorFacts.{close_ends}
 use Rattle.nextest_filter_leaves.proofs.StepFacts.{goes_both}
 use Rattle.nextest_filter_syntax.proofs.StepFacts.{fault_none, first_only, first_read, goes_after, goes_from_head, last_only, last_read, leaf_read, leaf_spoils, negated_deep, negated_only, negated_read, negated_spoils, nothing_of, operand_is, parens_deep, parens_only, parens_read, parens_spoils, platform_spoils, set_read, spoils_after, stays, step_only, step_patterns, step_read, step_spoiled}
@@ -202,15 +203,15 @@ tree_from-returns-in_default-clause-as_written n c =
 
 pub operand_from-returns-in_ok-leaf-in-Names-clause-read : goal.operand_from-returns-in_ok-leaf-in-Names-clause-read
 operand_from-returns-in_ok-leaf-in-Names-clause-read n c clean =
-    leaf_read c.args.text.now c.args.room c.args.at c.in_ok-leaf-in-Names.end c.skip_blanks-start.result _ c.in_ok-leaf-in-Names.leaf _ c.skip_blanks-start.ensures.value c.in-Names.ensures.value c.leaf_expr.ensures.value (c.in_ok-leaf-in-Names.ensures.read clean) (c.in_ok-leaf-in-Names.ensures.unbuilt clean)
+    leaf_read c.args.text.now c.args.room c.args.at c.in_ok-leaf-in-Names.end c.skip_blanks-start.result _ c.in_ok-leaf-in-Names.leaf _ c.skip_blanks-start.ensures.value c.in-Names.ensures.value c.leaf_expr.ensures.value (c.in_ok-leaf-in-Names.ensures.read clean) c.args.faults.now c.named_set_from.new.faults c.in_ok-leaf-in-Names.ensures.spoils.0 (c.in_ok-leaf-in-Names.ensures.unbuilt clean)
 
 pub operand_from-returns-in_ok-leaf-in-Platform-clause-read : goal.operand_from-returns-in_ok-leaf-in-Platform-clause-read
 operand_from-returns-in_ok-leaf-in-Platform-clause-read n c clean =
-    leaf_read c.args.text.now c.args.room c.args.at c.in_ok-leaf-in-Platform.end c.skip_blanks-start.result _ c.in_ok-leaf-in-Platform.leaf _ c.skip_blanks-start.ensures.value c.in-Platform.ensures.value c.leaf_expr-in-Platform.ensures.value (c.in_ok-leaf-in-Platform.ensures.read clean) (fault_none _ c.in_ok-leaf-in-Platform.leaf _ _ clean c.in_ok-leaf-in-Platform.ensures.spoils.1)
+    leaf_read c.args.text.now c.args.room c.args.at c.in_ok-leaf-in-Platform.end c.skip_blanks-start.result _ c.in_ok-leaf-in-Platform.leaf _ c.skip_blanks-start.ensures.value c.in-Platform.ensures.value c.leaf_expr-in-Platform.ensures.value (c.in_ok-leaf-in-Platform.ensures.read clean) c.args.faults.now c.platform_set_from.new.faults c.in_ok-leaf-in-Platform.ensures.spoils.0 (fault_none _ c.in_ok-leaf-in-Platform.leaf _ _ clean c.in_ok-leaf-in-Platform.ensures.spoils.1)
 
 pub operand_from-returns-in_ok-leaf-in-Says-clause-read : goal.operand_from-returns-in_ok-leaf-in-Says-clause-read
 operand_from-returns-in_ok-leaf-in-Says-clause-read n c clean =
-    (set_of (leaf_of c.in_ok-leaf-in-Says.leaf), set_read c.args.text.now c.args.room c.args.at c.in_ok-leaf-in-Says.end c.skip_blanks-start.result _ (leaf_of c.in_ok-leaf-in-Says.leaf) c.skip_blanks-start.ensures.value c.in-Says.ensures.value (c.in_ok-leaf-in-Says.ensures.read clean), refl)
+    (set_of (leaf_of c.in_ok-leaf-in-Says.leaf), set_read c.args.text.now c.args.room c.args.at c.in_ok-leaf-in-Says.end c.skip_blanks-start.result _ (leaf_of c.in_ok-leaf-in-Says.leaf) c.skip_blanks-start.ensures.value c.in-Says.ensures.value (c.in_ok-leaf-in-Says.ensures.read clean), refl, refuses_none _ _ _ c.in_ok-leaf-in-Says.ensures.keeps)
 
 pub operand_from-returns-in_ok-leaf-in-Says-clause-only : goal.operand_from-returns-in_ok-leaf-in-Says-clause-only
 operand_from-returns-in_ok-leaf-in-Says-clause-only n c clean t j r =
@@ -219,7 +220,7 @@ operand_from-returns-in_ok-leaf-in-Says-clause-only n c clean t j r =
 
 pub operand_from-returns-in_ok-tree-in-Negates-2-clause-read : goal.operand_from-returns-in_ok-tree-in-Negates-2-clause-read
 operand_from-returns-in_ok-tree-in-Negates-2-clause-read n c clean =
-    negated_read c.args.text.now c.args.room c.args.at c.skip_blanks-start.result c.in-Negates.next c.in_ok-tree-in-Negates.end c.in-Negates.op c.in_ok-tree-in-Negates.tree c.in_ok-tree-in-Negates-2.tree c.skip_blanks-start.ensures.value c.in-Negates.ensures.value (omega arith) c.in_ok-tree-in-Negates-2.ensures.value (c.in_ok-tree-in-Negates.ensures.read clean)
+    negated_read c.args.text.now c.args.room c.args.at c.skip_blanks-start.result c.in-Negates.next c.in_ok-tree-in-Negates.end c.in-Negates.op c.in_ok-tree-in-Negates.tree c.in_ok-tree-in-Negates-2.tree c.args.faults.now c.operand_from.new.faults c.skip_blanks-start.ensures.value c.in-Negates.ensures.value (omega arith) c.in_ok-tree-in-Negates-2.ensures.value (c.in_ok-tree-in-Negates.ensures.read clean)
 
 pub operand_from-returns-in_ok-tree-in-Negates-2-clause-only : goal.operand_from-returns-in_ok-tree-in-Negates-2-clause-only
 operand_from-returns-in_ok-tree-in-Negates-2-clause-only n c clean t j r =
@@ -229,7 +230,7 @@ operand_from-returns-in_ok-tree-in-Negates-2-clause-only n c clean t j r =
 pub operand_from-returns-in_ok-tree-in-Opens-2-clause-read : goal.operand_from-returns-in_ok-tree-in-Opens-2-clause-read
 operand_from-returns-in_ok-tree-in-Opens-2-clause-read n c clean =
     let before : IsClean c.tree_from.new.faults = omega (arith, clean, c.in_ok-tree-in-Opens-2.ensures.goes_on.2.1) in
-    parens_read c.args.text.now c.args.room c.args.at c.skip_blanks-start.result c.in-Opens.next c.in_ok-tree-in-Opens.end c.in_ok-tree-in-Opens-2.after c.in_ok-tree-in-Opens.tree c.in_ok-tree-in-Opens-2.tree c.skip_blanks-start.ensures.value c.in-Opens.ensures.value (omega arith) c.in_ok-tree-in-Opens-2.ensures.value (c.in_ok-tree-in-Opens.ensures.read before) (c.in_ok-tree-in-Opens-2.ensures.read clean)
+    parens_read c.args.text.now c.args.room c.args.at c.skip_blanks-start.result c.in-Opens.next c.in_ok-tree-in-Opens.end c.in_ok-tree-in-Opens-2.after c.in_ok-tree-in-Opens.tree c.in_ok-tree-in-Opens-2.tree c.args.faults.now c.tree_from.new.faults c.closed_parens.new.faults c.skip_blanks-start.ensures.value c.in-Opens.ensures.value (omega arith) c.in_ok-tree-in-Opens-2.ensures.value (c.in_ok-tree-in-Opens.ensures.read before) (c.in_ok-tree-in-Opens-2.ensures.read clean) c.in_ok-tree-in-Opens-2.ensures.keeps
 
 pub operand_from-returns-in_ok-tree-in-Opens-2-clause-only : goal.operand_from-returns-in_ok-tree-in-Opens-2-clause-only
 operand_from-returns-in_ok-tree-in-Opens-2-clause-only n c clean t j r =
@@ -247,7 +248,7 @@ tree_from-loop-found-init n c =
     record {
       goes_on = first.goes_on;
       spoils = first.spoils;
-      read = λ clean. first_read text c.args.room c.args.level lower c.args.at c.in_ok-tree-2.end c.in_ok-tree-2.tree is (first.read clean);
+      read = λ clean. first_read text c.args.room c.args.level lower c.args.at c.in_ok-tree-2.end c.in_ok-tree-2.tree c.args.faults.now c.tree_from-2.new.faults is (first.read clean);
       as_written = first.as_written;
       only = λ clean t j r ends.
           let from = first_only text c.args.room c.args.level lower c.args.at j t is r ends in
@@ -258,7 +259,8 @@ tree_from-loop-found-init n c =
 pub tree_from-returns-in_default-clause-read : goal.tree_from-returns-in_default-clause-read
 tree_from-returns-in_default-clause-read n c clean =
     let before : IsClean c.loop-found.faults = omega (arith, clean, c.in-Ok.ensures.grows.1) in
-    last_read c.args.text.now c.args.room c.args.level (c.args.level - 1) c.args.at c.loop-found.end c.loop-found.tree (c.loop-found.invariant.read before)
+    let nothing = nothing_of c.args.text.now c.in-Ok.found (sym c.place_after.ensures ∙ c.in_default.is) in
+    last_read c.args.text.now c.args.room c.args.level (c.args.level - 1) c.args.at c.loop-found.end c.loop-found.tree c.args.faults.now c.loop-found.faults c.operator_after.new.faults (c.loop-found.invariant.read before) (c.in-Ok.ensures.keeps (ap is_wrong nothing))
 
 pub tree_from-returns-in_default-clause-only : goal.tree_from-returns-in_default-clause-only
 tree_from-returns-in_default-clause-only n c clean t j r ends =
@@ -288,7 +290,7 @@ tree_from-loop-found-preserved n c =
       spoils = (step_patterns text c.in-Ok.found c.in-Some.next _ _ _ _ c.loop-found.tree c.in-Ok-tree_from.right c.in_ok-tree-in-Ok-tree_from.tree place c.in_ok-tree-in-Ok-tree_from.ensures.value before.spoils.0 found.keeps right.spoils.0, step_spoiled text c.in-Ok.found c.in-Some.next _ _ _ c.loop-found.tree c.in-Ok-tree_from.right c.in_ok-tree-in-Ok-tree_from.tree place c.in_ok-tree-in-Ok-tree_from.ensures.value before.spoils.1 (λ wrong. (found.wrong wrong).0) right.spoils.1 (omega (arith, found.grows.0, on.2.0)) on.2.0);
       read = λ clean.
           let first : IsClean c.loop-found.faults = omega (arith, clean, on.2.1, found.grows.1) in
-          step_read text room level lower c.args.at c.loop-found.end c.in-Some.next c.in-Ok-tree_from.after c.in-Ok.found c.loop-found.tree c.in-Ok-tree_from.right c.in_ok-tree-in-Ok-tree_from.tree found.value place (λ wrong. omega (arith, clean, on.2.1, (found.wrong wrong).1)) c.in_ok-tree-in-Ok-tree_from.ensures.value (before.read first) (right.read clean);
+          step_read text room level lower c.args.at c.loop-found.end c.in-Some.next c.in-Ok-tree_from.after c.in-Ok.found c.loop-found.tree c.in-Ok-tree_from.right c.in_ok-tree-in-Ok-tree_from.tree c.args.faults.now c.loop-found.faults c.operator_after.new.faults c.tree_from-in-Some.new.faults found.value place (λ wrong. omega (arith, clean, on.2.1, (found.wrong wrong).1)) c.in_ok-tree-in-Ok-tree_from.ensures.value (before.read first) found.keeps (right.read clean);
       as_written = c.in_ok-tree-in-Ok-tree_from.ensures.as_written before.as_written right.as_written;
       only = λ clean t j r ends.
           let from = before.only clean t j r ends in
@@ -296,3 +298,6 @@ tree_from-loop-found-preserved n c =
           let operand = right.only (found.same step.right ∙ from.0) step.operand step.after step.reads step.ends in
           (operand.1, (joined_of step.op from.1.0 step.operand, subst (λ k. MoreOf text room lower k (joined_of step.op from.1.0 step.operand) t j) (sym operand.0) step.more));
     }
+
+pub operand_from-named_set_from-requires-clause-named : goal.operand_from-named_set_from-requires-clause-named
+operand_from-named_set_from-requires-clause-named n c = (c.skip_blanks-start.result, sym c.in-Names.ensures.value)

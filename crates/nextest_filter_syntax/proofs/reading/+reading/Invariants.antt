@@ -18,7 +18,7 @@ abbrev pub invariant-tree_from-loop-found : goal.invariant-tree_from-loop-found
 invariant-tree_from-loop-found l = record {
   goes_on : GoesOn l.text l.at l.end l.fn.faults l.faults;
   spoils : Spoils l.tree l.fn.faults l.faults;
-  read : IsClean l.faults → IsBegun l.text l.room l.level (l.level - 1) l.at l.tree l.end;
+  read : IsClean l.faults → IsBegun l.text l.room l.level (l.level - 1) l.at l.tree l.end l.fn.faults l.faults;
   as_written : IfSome l.tree IsExprAsWritten;
   only : IsClean l.fn.faults → (t : Tree SourceSpan) (j : ℕ) → Reads l.text l.room l.level l.at t j → Ends l.text l.level j → IsClean l.faults × ((a : Tree SourceSpan) × MoreOf l.text l.room (l.level - 1) l.end a t j);
 }

@@ -1,5 +1,5 @@
 use Rattle.std.proofs.Common.{arith}
-use Rattle.nextest_filter_syntax.proofs.StepFacts.{all_faults}
+use Rattle.nextest_filter_tokens.proofs.SpanFacts.{all_faults}
 use Rattle.nextest_filter_syntax.proofs.parsing.ParsedExpr+SourceSpan.parse.Goals as goal
 
 pub returns-in-Some-clause-tree : goal.returns-in-Some-clause-tree
@@ -13,4 +13,4 @@ returns-in-None-clause-faults c =
     let ok = c.in-Ok.ensures in
     let faults = c.in-Ok.answer.1 in
     let some = rw c.in-None.is at ok.spoiled in
-    (some, ok.within, ok.over, ok.reads, λ reads. omega (arith, some, all_faults faults.items, faults.ok.0, ok.reads.1 reads))
+    (some, ok.within, ok.over, ok.of_tree, ok.reads, λ reads. omega (arith, some, all_faults faults.items, faults.ok.0, ok.reads.1 reads))

@@ -9,12 +9,12 @@ use Rattle.nextest_filtering.proofs.filterset.Filterset.parse.Goals as goal
 pub returns-then-not-is_empty-clause-refused : goal.returns-then-not-is_empty-clause-refused
 returns-then-not-is_empty-clause-refused c =
     let read = c.in_ok-tree.ensures in
-    rw c.refused.ensures (refl, inl (unread_as (string_bytes c.args.input) _ c.in_ok-tree.faults c.as_str.ensures.value (some_in _ _ c.is_empty.ensures c.if-not-is_empty.true) read.within read.over read.reads))
+    rw c.refused.ensures (refl, inl (unread_as (string_bytes c.args.input) _ c.in_ok-tree.faults c.as_str.ensures.value (some_in _ _ c.is_empty.ensures c.if-not-is_empty.true) read.within read.over read.of_tree read.reads))
 
 pub returns-in-None-clause-refused : goal.returns-in-None-clause-refused
 returns-in-None-clause-refused c =
     let read = c.in_ok-tree.ensures in
-    rw c.refused-in-None.ensures (refl, inl (unread_as (string_bytes c.args.input) _ c.in_ok-tree.faults c.as_str.ensures.value (rw c.in-None.is at read.spoiled) read.within read.over read.reads))
+    rw c.refused-in-None.ensures (refl, inl (unread_as (string_bytes c.args.input) _ c.in_ok-tree.faults c.as_str.ensures.value (rw c.in-None.is at read.spoiled) read.within read.over read.of_tree read.reads))
 
 pub returns-then-not-is_empty-2-clause-refused : goal.returns-then-not-is_empty-2-clause-refused
 returns-then-not-is_empty-2-clause-refused c =
