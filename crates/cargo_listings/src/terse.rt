@@ -38,7 +38,11 @@ pub fn terse_tests(alloc: Global, text: &str) -> Result<Vec<String>, TerseFault>
 fn lines_of<'a>(alloc: Global, text: &'a str) -> Result<Vec<&'a str>, AllocError>
     ensures { IfOk result (λ v. map (λ line. line.now) v.items ≡ lines text.entry.now) }
 {
-    text.lines().collect(alloc)
+    let mut lines = Vec::new(alloc);
+    for line in text.lines() {
+        lines.push(line)?;
+    }
+    Ok(lines)
 }
 
 fn tests_among(alloc: Global, lines: &[&str]) -> Result<Vec<String>, TerseFault>

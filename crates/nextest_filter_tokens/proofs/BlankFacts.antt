@@ -1,9 +1,9 @@
 -- Blanks are passed one at a time.
-use Rattle.std.proofs.Common.{◌≡◌, ℕ, zero, suc, ◌+◌, ◌-◌, ◌<◌, ◌≤◌, true, List, [], ◌∷◌, length, nat_eq, cond, refl, ◌∙◌, ap, arith}
-use Rattle.std.proofs.lemmas.Bool.{ne_eqb, eq-eqb, eqb-true, and_parts, ltb-true, cond_both}
+use Rattle.std.proofs.Common.{◌≡◌, ℕ, zero, suc, ◌+◌, ◌-◌, ◌<◌, ◌≤◌, true, List, [], ◌∷◌, length, nat_eq, cond, refl, sym, ◌∙◌, ap, subst, arith, false, ◌&&◌, inl, inr}
+use Rattle.std.proofs.lemmas.Bool.{cases_lt, ne_eqb, eq-eqb, eqb-true, and_parts, le-ltb, ltb-true, cond_both}
 use Rattle.std.proofs.lemmas.Str.{IsCharBoundary-after_ascii}
 use Rattle.std.specs.Str.{IsUtf8, IsCharBoundary}
-use Rattle.nextest_filter_tokens.specs.Bytes.{blank_length, blanks_from, byte, has_word, is_byte, skip}
+use Rattle.nextest_filter_tokens.specs.Bytes.{BlanksReadOnce, ReadsBlanks, blank_length, blanks_from, byte, has_word, is_byte, none, one, skip}
 
 pub blanks_from-more : (text : List ℕ) (n i : ℕ) → 0 < n → (blank_length text i ≡ 0 → ⊥) → blanks_from text n i ≡ blanks_from text (n - 1) (i + blank_length text i)
 blanks_from-more text zero i h ne = absurd (omega arith)
@@ -49,3 +49,41 @@ blanks_rise text (suc n) i =
 pub skip_rises : (text : List ℕ) (i : ℕ) → i ≤ skip text i
 unfolding skip
 skip_rises text i = blanks_rise text (length text) i
+
+no_byte : (text : List ℕ) (i c : ℕ) → length text ≤ i → is_byte text i c ≡ false
+no_byte text i c past = ap (λ b. b && nat_eq (byte text i) c) (le-ltb i (length text) past)
+
+no_blank : (text : List ℕ) (i : ℕ) → length text ≤ i → blank_length text i ≡ 0
+unfolding blank_length
+no_blank text i past = rw (no_byte text i 32 past, no_byte text i 10 past, no_byte text i 13 past) refl
+
+-- as many steps as there are bytes suffice
+blanks_end : (text : List ℕ) (n i : ℕ) → length text ≤ i + n → ReadsBlanks text i (blanks_from text n i)
+blanks_end text zero i enough = none (no_blank text i (omega (arith, enough)))
+blanks_end text (suc n) i enough =
+    let length = blank_length text i in
+    elim (cases_lt 0 length) [
+      | inl some ↦
+          let ne : length ≡ 0 → ⊥ = λ e. omega (arith, e, some) in
+          let step : blanks_from text (suc n) i ≡ blanks_from text n (i + length) = ap (λ b. cond b i (blanks_from text n (i + length))) (ne_eqb length 0 ne) in
+          subst (λ k. ReadsBlanks text i k) (sym step) (one ne (blanks_end text n (i + length) (omega (arith, enough, some))))
+      | inr less ↦
+          let nothing : length ≡ 0 = omega (arith, less) in
+          subst (λ k. ReadsBlanks text i k) (sym (blanks_from-none text (suc n) i nothing)) (none nothing)
+    ]
+
+skip_reads : (text : List ℕ) (i : ℕ) → ReadsBlanks text i (skip text i)
+unfolding skip
+skip_reads text i = blanks_end text (length text) i (omega arith)
+
+read_once : {text : List ℕ} {i j k : ℕ} → ReadsBlanks text i j → ReadsBlanks text i k → j ≡ k
+read_once (none e) (none f) = refl
+read_once (none e) (one ne q) = absurd (ne e)
+read_once (one ne p) (none e) = absurd (ne e)
+read_once (one ne p) (one me q) = read_once p q
+
+pub blanks_read_once : BlanksReadOnce
+blanks_read_once text i j = (
+  λ reads. read_once reads (skip_reads text i),
+  λ is. subst (λ k. ReadsBlanks text i k) (sym is) (skip_reads text i),
+)

@@ -1,5 +1,5 @@
 -- The bytes of a text by their places.
-use Rattle.std.specs.Prelude.{ℕ, zero, suc, ◌+◌, ◌<◌, ◌≤◌, Bool, true, ◌&&◌, ◌||◌, not, List, [], ◌∷◌, length, nat_eq, nat_lt, nat_le, slice_index_or, if◌then◌else◌}
+use Rattle.std.specs.Prelude.{◌≡◌, ◌↔◌, ℕ, zero, suc, ◌+◌, ◌<◌, ◌≤◌, Bool, true, ◌&&◌, ◌||◌, not, List, [], ◌∷◌, length, nat_eq, nat_lt, nat_le, slice_index_or, if◌then◌else◌}
 use Rattle.std.specs.Str.{IsCharBoundary}
 
 -- what begins at i ends at j, within the text and where it may be cut
@@ -44,3 +44,12 @@ blanks_from text (suc n) i = if nat_eq (blank_length text i) 0 then i else blank
 -- the place after the blanks
 unfoldable pub skip : List ℕ → ℕ → ℕ
 skip text i = blanks_from text (length text) i
+
+-- from a place on one blank after another, up to the place where none stands
+pub data ReadsBlanks (text : List ℕ) : ℕ → ℕ → Type 0 where
+  none : {i : ℕ} → blank_length text i ≡ 0 → ReadsBlanks text i i
+  one : {i j : ℕ} → (blank_length text i ≡ 0 → ⊥) → ReadsBlanks text (i + blank_length text i) j → ReadsBlanks text i j
+
+-- from each place on the blanks end at one place, which is the one after them
+abbrev pub BlanksReadOnce : Type 0
+BlanksReadOnce = (text : List ℕ) (i j : ℕ) → ReadsBlanks text i j ↔ (j ≡ skip text i)

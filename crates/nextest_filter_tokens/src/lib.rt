@@ -7,6 +7,7 @@ mod bytes;
 mod escapes;
 mod fault_list;
 mod heads;
+pub mod laws;
 mod operators;
 
 pub use crate::blanks::skip_blanks;

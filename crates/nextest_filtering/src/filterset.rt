@@ -5,7 +5,7 @@ ghost use Rattle.std.specs.Str.Iter.{HasSubslice};
 ghost use Rattle.nextest_filter_faults.specs.declared.filterset_kind.FiltersetKind.TheVariants.{Test};
 ghost use Rattle.nextest_filter_syntax.specs.Grammar.{ReadsWhole};
 ghost use Rattle.nextest_filter_syntax.specs.AsWritten.{IsExprAsWritten};
-ghost use Rattle.nextest_filter_syntax.specs.Trees.{tree_of};
+ghost use Rattle.nextest_filter_syntax.specs.Trees.{patterns_of, tree_of};
 ghost use Rattle.nextest_filter_queries.specs.Groups.{AreKnown};
 ghost use Rattle.nextest_filter_queries.specs.NameTests.{NameTest};
 ghost use Rattle.nextest_binaries.specs.Queries.{binary_of, test_of};
@@ -89,10 +89,11 @@ impl Filterset {
         nextest_filter_syntax::needs_deps(text)
     }
 
-    /// An equal filter in memory of its own.
+    /// An equal filter in memory of its own, whose leaves match the same names.
     pub fn copy(&self, alloc: Global) -> Result<Filterset, AllocError>
         ensures input { IfOk result (λ c. string_bytes c.input ≡ string_bytes self.now.input) }
         ensures parsed { IfOk result (λ c. tree_of c.parsed ≡ tree_of self.now.parsed) }
+        ensures patterns { IfOk result (λ c. patterns_of c.parsed ≡ patterns_of self.now.parsed) }
         ensures compiled { IfOk result (λ c. compiled_of c.compiled ≡ compiled_of self.now.compiled) }
     {
         let input = String::from_str(alloc, self.input.as_str())?;
