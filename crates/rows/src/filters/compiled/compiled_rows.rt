@@ -1,4 +1,5 @@
-ghost use Rattle.std.specs.Prelude.{IfOk};
+ghost use Rattle.std.specs.Prelude.{◌≡◌, IfOk};
+ghost use Rattle.nextest_filter_faults.specs.declared.filterset_kind.FiltersetKind.TheVariants as kinds;
 ghost use Rattle.nextest_filter_queries.specs.Groups.{AreKnown};
 
 use crate::filters::compiled::contexts::{context_in, graph_in};
@@ -16,8 +17,8 @@ use serde_json::Value;
 use std::alloc::Global;
 
 /// Rows of one filter each: its `text` and its `kind` (test, archive, override or default), over the
-/// `record`, and over the packages under `context`, with the features under `on`; `groups` are known, and `default` is the filter
-/// that stands for `default()`, all tests where there is none. Asked are the `owners`, `binary_names`, `binary_kinds`, `platforms` or
+/// `record`, and over the packages under `context`, with the features under `on`; `groups` are known (to filters that are not of
+/// tests, only where they stand there), and `default` is the filter that stands for `default()`, all tests where there is none. Asked are the `owners`, `binary_names`, `binary_kinds`, `platforms` or
 /// `test_names` that are listed, with `owner`, `binary_name`, `binary_kind`, `built_for` and
 /// `test_name` for the rest, of tests in the group `member_of`. Told is besides whether a group is
 /// called `group_name`, and whether the reference of filters names what stands under `word`.
@@ -68,18 +69,24 @@ fn tell_graph(
     answers: &mut Answers,
 ) -> Result<(), RowFault> {
     let cx = context_in(alloc, row, graph)?;
-    let groups = groups_in(alloc, row)?;
-    tell_groups(alloc, row, &groups, answers);
+    let kind = kind_in(row);
+    let groups = groups_in(alloc, row, kind)?;
+    if let FiltersetKind::Test = kind {
+        tell_groups(alloc, row, &groups, answers);
+    }
     match row.get("default").and_then(Value::as_str) {
-        Some(text) => tell_with_default(alloc, row, &cx, &groups, text, answers),
-        None => tell_filter(alloc, row, &cx, &groups, &CompiledExpr::ALL, answers),
+        Some(text) => tell_with_default(alloc, row, &cx, kind, &groups, text, answers),
+        None => tell_filter(alloc, row, &cx, kind, &groups, &CompiledExpr::ALL, answers),
     }
 }
 
-/// The groups under `groups`.
-fn groups_in(alloc: Global, row: Row<'_>) -> Result<KnownGroups, RowFault>
-    ensures known { IfOk result AreKnown }
+/// The groups under `groups`; where none stand there, they are unavailable to all filters but those of tests.
+fn groups_in(alloc: Global, row: Row<'_>, kind: FiltersetKind) -> Result<KnownGroups, RowFault>
+    ensures known { kind ≡ kinds.Test → IfOk result AreKnown }
 {
+    if !matches!(kind, FiltersetKind::Test) && row.get("groups").is_none() {
+        return Ok(KnownGroups::Unavailable);
+    }
     let names = row.texts(alloc, "groups")?;
     Ok(known_groups(alloc, &names)?)
 }
@@ -89,15 +96,16 @@ fn tell_with_default(
     alloc: Global,
     row: Row<'_>,
     cx: &ParseContext<'_>,
+    kind: FiltersetKind,
     groups: &KnownGroups,
     text: &str,
     answers: &mut Answers,
 ) -> Result<(), RowFault>
-    requires known { AreKnown groups.now }
+    requires known { kind ≡ kinds.Test → AreKnown groups.now }
 {
     let input = String::from_str(alloc, text)?;
     match Filterset::parse(alloc, input, cx, FiltersetKind::DefaultFilter, groups) {
-        Ok(default) => tell_filter(alloc, row, cx, groups, &default.compiled, answers),
+        Ok(default) => tell_filter(alloc, row, cx, kind, groups, &default.compiled, answers),
         Err(FiltersetError::Parse(_)) => Err(RowFault::Key("default")),
         Err(FiltersetError::Memory) => Err(RowFault::Memory),
     }
@@ -107,17 +115,18 @@ fn tell_filter(
     alloc: Global,
     row: Row<'_>,
     cx: &ParseContext<'_>,
+    kind: FiltersetKind,
     groups: &KnownGroups,
     default: &CompiledExpr,
     answers: &mut Answers,
 ) -> Result<(), RowFault>
-    requires known { AreKnown groups.now }
+    requires known { kind ≡ kinds.Test → AreKnown groups.now }
 {
     let Some(eval) = EvalContext::new(default) else {
         return Err(RowFault::Key("default"));
     };
     let input = String::from_str(alloc, row.text("text")?)?;
-    match Filterset::parse(alloc, input, cx, kind_in(row), groups) {
+    match Filterset::parse(alloc, input, cx, kind, groups) {
         Ok(filter) => tell_parsed(alloc, row, &filter, &eval, answers),
         Err(FiltersetError::Parse(refused)) => {
             tell_faults(&refused.errors, answers);
