@@ -48,7 +48,7 @@ pub all_of : {A : Type 0} (xs : List A) → AreSomeOf xs xs
 all_of [] = none
 all_of (x ∷ xs) = kept (all_of xs)
 
-some_both : {A : Type 0} {as bs xs ys : List A} → AreSomeOf as bs → AreSomeOf xs ys → AreSomeOf (as ++ xs) (bs ++ ys)
+some_both : {A : Type 0} {ps qs xs ys : List A} → AreSomeOf ps qs → AreSomeOf xs ys → AreSomeOf (ps ++ xs) (qs ++ ys)
 some_both none q = q
 some_both (kept p) q = kept (some_both p q)
 some_both (left_out p) q = left_out (some_both p q)
