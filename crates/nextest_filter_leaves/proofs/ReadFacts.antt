@@ -18,9 +18,9 @@ if_none (Some x) b = tt
 if_none None b = b
 
 -- a pattern that was refused, between its places
-pub refused_at : {A B : Type 0} {olds news : List SourceSpan} {end after : ℕ} (start : ℕ) (o : Option A) → end ≡ after → (news ≡ olds ++ between start after ∷ [] → B) → IfNone o (news ≡ olds ++ between start end ∷ []) → IfNone o B
-refused_at start (Some x) same gives refused = tt
-refused_at {olds = olds} {news = news} start None same gives refused =
+pub refused_at : {A B : Type 0} (olds news : List SourceSpan) (start end after : ℕ) (o : Option A) → end ≡ after → (news ≡ olds ++ between start after ∷ [] → B) → IfNone o (news ≡ olds ++ between start end ∷ []) → IfNone o B
+refused_at olds news start end after (Some x) same gives refused = tt
+refused_at olds news start end after None same gives refused =
     gives (subst (λ k. news ≡ olds ++ between start k ∷ []) same refused)
 
 module _ (text : List ℕ) where

@@ -24,5 +24,5 @@ returns-in_ok-report-in-None-clause-over c text old lies = c.in_ok-report-in-Non
 pub returns-in_ok-report-in-None-clause-refused : goal.returns-in_ok-report-in-None-clause-refused
 returns-in_ok-report-in-None-clause-refused c clean =
     let report = c.in_ok-report-in-None.ensures in
-    let open = open_where_clean c.args.faults.now (sym (report.pattern refl) ∙ clean) in
-    rw report.added open (spans_more c.args.faults.now.list.items _ refl)
+    let unclosed = open_where_clean c.args.faults.now (sym (report.pattern refl) ∙ clean) in
+    rw (report.added unclosed) (spans_more c.args.faults.now.list.items _ refl)

@@ -1,6 +1,7 @@
 use Rattle.std.proofs.Common.{◌+◌, ◌-◌, ◌≡◌, refl, sym, ◌∙◌, subst, arith, length, string_bytes}
 use Rattle.nextest_filter_matchers.specs.Matchers.{Regex}
 use Rattle.nextest_filter_tokens.specs.Patterns.{ReadsPattern}
+use Rattle.nextest_filter_leaves.specs.LeafGrammar.{PatternFrom}
 use Rattle.nextest_filter_leaves.proofs.ReadFacts.{pattern_is, refused_at}
 use Rattle.nextest_filter_leaves.proofs.matchers.pattern_matcher.Goals as goal
 
@@ -53,6 +54,6 @@ returns-in_ok-matcher-in-Some-clause-only c clean m j from =
 pub returns-in_ok-matcher-in-Some-clause-unbuilt : goal.returns-in_ok-matcher-in-Some-clause-unbuilt
 returns-in_ok-matcher-in-Some-clause-unbuilt c clean =
     let reads = rw c.in-Some.is at c.in_ok-pattern.ensures.read in
-    let from = record { bytes = string_bytes c.in-Some.pattern; end = c.in-Some.end; reads = reads; is = refl; after = refl } in
+    let from : PatternFrom c.args.text.now (c.args.at + 1) (Regex (string_bytes c.in-Some.pattern)) (c.in-Some.end + 1) = record { bytes = string_bytes c.in-Some.pattern; end = c.in-Some.end; reads = reads; is = refl; after = refl } in
     let same : c.in-Some.end ≡ (c.in-Some.end + 1) - 1 = omega arith in
-    refused_at (c.args.at + 1) c.in_ok-matcher-in-Some.matcher same (λ refused. (Regex (string_bytes c.in-Some.pattern), from, refused)) (c.in_ok-matcher-in-Some.ensures.refused clean)
+    refused_at _ _ (c.args.at + 1) c.in-Some.end ((c.in-Some.end + 1) - 1) c.in_ok-matcher-in-Some.matcher same (λ refused. (Regex (string_bytes c.in-Some.pattern), from, refused)) (c.in_ok-matcher-in-Some.ensures.refused clean)

@@ -1,4 +1,4 @@
-use Rattle.std.proofs.Common.{◌∙◌, ◌++◌, sym, ap, subst, arith}
+use Rattle.std.proofs.Common.{◌≤◌, ◌∙◌, ◌++◌, sym, ap, subst, arith}
 use Rattle.nextest_filter_matchers.specs.Matchers.{matcher_of}
 use Rattle.nextest_filter_tokens.specs.Bytes.{skip}
 use Rattle.nextest_filter_tokens.specs.ReadingSteps.{IsClean}
@@ -75,7 +75,7 @@ returns-in-None-clause-unbuilt c clean =
     let after : IsClean c.matcher_from.new.faults = omega (arith, clean, c.in_ok-after.ensures.goes_on.2.1) in
     let opened : IsClean c.opened_after.new.faults = omega (arith, after, c.in_ok-matcher.ensures.goes_on.2.1) in
     let unbuilt = rw c.in-None.is at c.in_ok-matcher.ensures.unbuilt after in
-    let rises = omega (arith, c.skip_blanks-start.ensures.rises, c.in_ok-matcher.ensures.goes_on.0) in
+    let rises : c.in_ok-inner.inner ≤ c.in_ok-matcher.end = omega (arith, c.skip_blanks-start.ensures.rises, c.in_ok-matcher.ensures.goes_on.0) in
     let refused = c.in_ok-after.ensures.keeps ∙ unbuilt.2 ∙ ap (λ xs. xs ++ matcher_places unbuilt.0 c.skip_blanks-start.result c.in_ok-matcher.end) c.in_ok-inner.ensures.keeps in
     named_some c.args.text.now c.args.predicate c.args.at c.in_ok-inner.inner c.skip_blanks-start.result c.in_ok-matcher.end c.in_ok-after.after unbuilt.0 _ _ rises (c.in_ok-inner.ensures.read opened) c.skip_blanks-start.ensures.value unbuilt.1 (c.in_ok-after.ensures.read clean) refused
 
