@@ -56,7 +56,7 @@ pub returns-in-Ok-clause-tree : goal.returns-in-Ok-clause-tree
 returns-in-Ok-clause-tree c t whole =
     let text = c.args.text.now in
     let tree = c.in_ok-tree.ensures.only (ap syntax_faults c.new-faults.ensures) t whole.0 whole.1 (whole_ends text whole.0 2 whole.2) in
-    whole_tree text c.in_ok-tree.end c.in_ok-tree.tree t _ _ (c.in_ok-tree.ensures.read tree.1) (ap (skip text) tree.0 ∙ whole.2) whole
+    whole_tree text c.in_ok-tree.end c.in_ok-tree.tree t c.new-faults.result c.tree_from.new.faults (c.in_ok-tree.ensures.read tree.1) (ap (skip text) tree.0 ∙ whole.2) whole
 
 pub returns-in-Ok-clause-built : goal.returns-in-Ok-clause-built
 returns-in-Ok-clause-built c =
@@ -66,4 +66,4 @@ pub returns-in-Ok-clause-of_tree : goal.returns-in-Ok-clause-of_tree
 returns-in-Ok-clause-of_tree c t whole =
     let text = c.args.text.now in
     let tree = c.in_ok-tree.ensures.only (ap syntax_faults c.new-faults.ensures) t whole.0 whole.1 (whole_ends text whole.0 2 whole.2) in
-    whole_places text c.in_ok-tree.end c.in_ok-tree.tree t _ _ c.expect_end.new.faults (ap pattern_spans c.new-faults.ensures) (c.in_ok-tree.ensures.read tree.1) c.in-Ok.ensures.keeps (ap (skip text) tree.0 ∙ whole.2) whole
+    whole_places text c.in_ok-tree.end c.in_ok-tree.tree t c.new-faults.result c.tree_from.new.faults c.expect_end.new.faults (ap pattern_spans c.new-faults.ensures) (c.in_ok-tree.ensures.read tree.1) c.in-Ok.ensures.keeps (ap (skip text) tree.0 ∙ whole.2) whole

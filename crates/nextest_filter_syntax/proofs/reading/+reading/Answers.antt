@@ -182,7 +182,7 @@ operand_from-returns-in_ok-report_no_operand-in-Unknown-clause-read n c clean =
 
 pub tree_from-returns-then-level-eq0-clause-read : goal.tree_from-returns-then-level-eq0-clause-read
 tree_from-returns-then-level-eq0-clause-read n c clean =
-    subst (λ l. IsReading c.args.text.now c.args.room l c.args.at c.in_ok-tree.tree c.in_ok-tree.end) (sym c.if-level-eq0.true) (c.in_ok-tree.ensures.read clean)
+    subst (λ l. IsReading c.args.text.now c.args.room l c.args.at c.in_ok-tree.tree c.in_ok-tree.end c.args.faults.now c.operand_from.new.faults) (sym c.if-level-eq0.true) (c.in_ok-tree.ensures.read clean)
 
 pub tree_from-returns-then-level-eq0-clause-only : goal.tree_from-returns-then-level-eq0-clause-only
 tree_from-returns-then-level-eq0-clause-only n c clean t j r ends =
@@ -248,7 +248,7 @@ tree_from-loop-found-init n c =
     record {
       goes_on = first.goes_on;
       spoils = first.spoils;
-      read = λ clean. first_read text c.args.room c.args.level lower c.args.at c.in_ok-tree-2.end c.in_ok-tree-2.tree c.args.faults.now c.tree_from-2.new.faults is (first.read clean);
+      read = λ clean. first_read text c.args.room c.args.level lower c.args.at c.in_ok-tree-2.end c.in_ok-tree-2.tree c.args.faults.now c.tree_from.new.faults is (first.read clean);
       as_written = first.as_written;
       only = λ clean t j r ends.
           let from = first_only text c.args.room c.args.level lower c.args.at j t is r ends in
@@ -290,7 +290,7 @@ tree_from-loop-found-preserved n c =
       spoils = (step_patterns text c.in-Ok.found c.in-Some.next _ _ _ _ c.loop-found.tree c.in-Ok-tree_from.right c.in_ok-tree-in-Ok-tree_from.tree place c.in_ok-tree-in-Ok-tree_from.ensures.value before.spoils.0 found.keeps right.spoils.0, step_spoiled text c.in-Ok.found c.in-Some.next _ _ _ c.loop-found.tree c.in-Ok-tree_from.right c.in_ok-tree-in-Ok-tree_from.tree place c.in_ok-tree-in-Ok-tree_from.ensures.value before.spoils.1 (λ wrong. (found.wrong wrong).0) right.spoils.1 (omega (arith, found.grows.0, on.2.0)) on.2.0);
       read = λ clean.
           let first : IsClean c.loop-found.faults = omega (arith, clean, on.2.1, found.grows.1) in
-          step_read text room level lower c.args.at c.loop-found.end c.in-Some.next c.in-Ok-tree_from.after c.in-Ok.found c.loop-found.tree c.in-Ok-tree_from.right c.in_ok-tree-in-Ok-tree_from.tree c.args.faults.now c.loop-found.faults c.operator_after.new.faults c.tree_from-in-Some.new.faults found.value place (λ wrong. omega (arith, clean, on.2.1, (found.wrong wrong).1)) c.in_ok-tree-in-Ok-tree_from.ensures.value (before.read first) found.keeps (right.read clean);
+          step_read text room level lower c.args.at c.loop-found.end c.in-Some.next c.in-Ok-tree_from.after c.in-Ok.found c.loop-found.tree c.in-Ok-tree_from.right c.in_ok-tree-in-Ok-tree_from.tree c.args.faults.now c.loop-found.faults c.operator_after.new.faults c.tree_from-in-loop-found.new.faults found.value place (λ wrong. omega (arith, clean, on.2.1, (found.wrong wrong).1)) c.in_ok-tree-in-Ok-tree_from.ensures.value (before.read first) found.keeps (right.read clean);
       as_written = c.in_ok-tree-in-Ok-tree_from.ensures.as_written before.as_written right.as_written;
       only = λ clean t j r ends.
           let from = before.only clean t j r ends in
