@@ -3,7 +3,6 @@ ghost use Rattle.std.specs.Prelude.{◌≡◌, IfOk};
 use guppy_row_parts::PackageId;
 use nextest_filter_faults::BuildPlatform;
 use nextest_filter_matchers::{NameMatcher, SourceSpan};
-use nextest_filter_queries::same_matcher;
 use std::alloc::{AllocError, Global};
 use std::collections::BTreeSet;
 
@@ -53,26 +52,26 @@ impl FiltersetLeaf {
                 Ok(FiltersetLeaf::Packages(ids))
             }
             FiltersetLeaf::Kind(matcher, span) => {
-                let matcher = same_matcher(alloc, matcher)?;
+                let matcher = matcher.copy(alloc)?;
                 Ok(FiltersetLeaf::Kind(matcher, *span))
             }
             FiltersetLeaf::Platform(platform, span) => {
                 Ok(FiltersetLeaf::Platform(*platform, *span))
             }
             FiltersetLeaf::Binary(matcher, span) => {
-                let matcher = same_matcher(alloc, matcher)?;
+                let matcher = matcher.copy(alloc)?;
                 Ok(FiltersetLeaf::Binary(matcher, *span))
             }
             FiltersetLeaf::BinaryId(matcher, span) => {
-                let matcher = same_matcher(alloc, matcher)?;
+                let matcher = matcher.copy(alloc)?;
                 Ok(FiltersetLeaf::BinaryId(matcher, *span))
             }
             FiltersetLeaf::Test(matcher, span) => {
-                let matcher = same_matcher(alloc, matcher)?;
+                let matcher = matcher.copy(alloc)?;
                 Ok(FiltersetLeaf::Test(matcher, *span))
             }
             FiltersetLeaf::Group(matcher, span) => {
-                let matcher = same_matcher(alloc, matcher)?;
+                let matcher = matcher.copy(alloc)?;
                 Ok(FiltersetLeaf::Group(matcher, *span))
             }
             FiltersetLeaf::Default => Ok(FiltersetLeaf::Default),

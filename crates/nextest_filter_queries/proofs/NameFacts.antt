@@ -1,11 +1,33 @@
 -- What is said of matchers and lists of names.
-use Rattle.std.proofs.Common.{◌≡◌, ◌∙◌, ◌↔◌, Bool, false, true≢false, List, [], ◌∷◌, Result, Ok, Err, IfOk, IsTrue, Contains, subst, sym, ⊎_elim}
+use Rattle.std.proofs.Common.{◌≡◌, ◌∙◌, ◌↔◌, Bool, false, true≢false, List, [], ◌∷◌, Option, Some, None, Result, Ok, Err, IfOk, IsTrue, Contains, refl, ap₂, subst, sym, ⊎_elim}
 use Rattle.list_facts.proofs.Membership.{Contains-none, Contains-first, Contains-rest, Contains-cons_cases}
 use Rattle.workspace_record.specs.Records.{Text}
-use Rattle.nextest_filter_matchers.specs.Matchers.{MatchesName}
+use Rattle.regex.specs.Strings.{regex_pattern}
+use Rattle.regex.specs.declared.string.regex.Regex.{Regex}
+use Rattle.nextest_filter_matchers.specs.Copies.{pattern_of}
+use Rattle.nextest_filter_matchers.specs.Matchers as m
+use Rattle.nextest_filter_matchers.specs.Matchers.{MatchesName, Matcher, matcher_of}
 use Rattle.nextest_filter_matchers.specs.declared.name_matcher.NameMatcher.{NameMatcher}
 use Rattle.nextest_filter_matchers.specs.declared.name_matcher.NameMatcher.TheVariants as name
-use Rattle.nextest_filter_queries.specs.NameTests.{NameTest, Suits, SuitsOneOf, name_test}
+use Rattle.nextest_filter_queries.specs.NameTests.{Containing, EqualTo, NameTest, OfGlob, OfPattern, Suits, SuitsOneOf, name_test}
+
+-- what a matcher looks for, by its value and its pattern
+abbrev test_of : Matcher → Option Regex → NameTest
+test_of (m.Equal value implicit) pattern = EqualTo value implicit
+test_of (m.Contains value implicit) pattern = Containing value implicit
+test_of (m.Glob text tokens implicit) pattern = OfGlob text tokens implicit
+test_of (m.Regex text) (Some regex) = OfPattern text (regex_pattern regex)
+test_of (m.Regex text) None = EqualTo text false
+
+test_is : (a : NameMatcher) → name_test a ≡ test_of (matcher_of a) (pattern_of a)
+test_is (name.Equal value implicit) = refl
+test_is (name.Contains value implicit) = refl
+test_is (name.Glob glob implicit) = refl
+test_is (name.Regex regex) = refl
+
+-- matchers of one value and one pattern match the same names
+pub same_test : (a b : NameMatcher) → matcher_of a ≡ matcher_of b → pattern_of a ≡ pattern_of b → name_test a ≡ name_test b
+same_test a b values patterns = test_is a ∙ ap₂ test_of values patterns ∙ sym (test_is b)
 
 pub suits_as : {E : Type 0} (m : NameMatcher) (n : Text) (r : Result Bool E) → IfOk r (λ b. IsTrue b ↔ MatchesName m n) → IfOk r (λ b. IsTrue b ↔ Suits (name_test m) n)
 suits_as (name.Equal value implicit) n r h = h

@@ -6,7 +6,7 @@ mod groups;
 mod name_tests;
 
 pub use crate::groups::{GroupLookup, KnownGroups};
-pub use crate::name_tests::{same_matcher, suits};
+pub use crate::name_tests::suits;
 pub use nextest_binaries::{
     BinaryQuery, PackageId, RustBinaryId, RustTestBinaryKind, TestCaseName, TestQuery,
 };

@@ -3,7 +3,6 @@ ghost use Rattle.nextest_filter_queries.specs.NameTests.{Suits, is_pattern, name
 
 use nextest_filter_matchers::NameMatcher;
 use std::alloc::{AllocError, Global};
-use std::rc::Rc;
 
 /// Whether the matcher matches the name. Memory is wanted for a pattern alone.
 pub fn suits(alloc: Global, matcher: &NameMatcher, name: &str) -> Result<bool, AllocError>
@@ -13,14 +12,3 @@ pub fn suits(alloc: Global, matcher: &NameMatcher, name: &str) -> Result<bool, A
     matcher.is_match(alloc, name)
 }
 
-/// A matcher in memory of its own that matches the same names; a pattern is shared.
-pub fn same_matcher(alloc: Global, matcher: &NameMatcher) -> Result<NameMatcher, AllocError>
-    ensures same { IfOk result (λ c. name_test c ≡ name_test matcher.now) }
-{
-    if let NameMatcher::Regex(regex) = matcher {
-        let regex = Rc::clone(regex)?;
-        return Ok(NameMatcher::Regex(regex));
-    }
-    let copy = matcher.copy(alloc)?;
-    Ok(copy)
-}

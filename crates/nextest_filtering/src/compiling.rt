@@ -18,7 +18,7 @@ use crate::matching::id_set;
 use crate::parse_context::ParseContext;
 use guppy_package_graph::DependencyDirection;
 use nextest_filter_evaluation::{CompiledExpr, FiltersetLeaf};
-use nextest_filter_queries::{KnownGroups, same_matcher};
+use nextest_filter_queries::KnownGroups;
 use nextest_filter_syntax::{NameMatcher, ParseSingleError, ParsedExpr, ParsedLeaf, SourceSpan};
 use std::alloc::{AllocError, Global};
 
@@ -121,7 +121,7 @@ fn compile_leaf(
             packages_of(alloc, matcher, *span, cx, direction, errors)
         }
         ParsedLeaf::Kind(matcher, span) => {
-            let matcher = same_matcher(alloc, matcher)?;
+            let matcher = matcher.copy(alloc)?;
             Ok(FiltersetLeaf::Kind(matcher, *span))
         }
         ParsedLeaf::Binary(matcher, span) => {
@@ -138,7 +138,7 @@ fn compile_leaf(
         }
         ParsedLeaf::Platform(platform, span) => Ok(FiltersetLeaf::Platform(*platform, *span)),
         ParsedLeaf::Test(matcher, span) => {
-            let matcher = same_matcher(alloc, matcher)?;
+            let matcher = matcher.copy(alloc)?;
             Ok(FiltersetLeaf::Test(matcher, *span))
         }
         ParsedLeaf::Group(matcher, span) => {
@@ -166,7 +166,7 @@ fn expected_matcher(
     ensures faults { OnOk result ((b : Bool) × (is_some ≡ Ok b) × (errors.new.items ≡ errors.old.items ++ (if b then [] else fault ∷ []))) }
 {
     expect(is_some?, fault, errors)?;
-    same_matcher(alloc, matcher)
+    matcher.copy(alloc)
 }
 
 /// Adds the fault, unless something was found.
