@@ -1,5 +1,6 @@
 pub mod ContextFacts
 pub mod FeatureFacts
+pub mod KnownFacts
 pub mod PickFacts
 pub mod ReachFacts
 pub mod AcceptFacts
