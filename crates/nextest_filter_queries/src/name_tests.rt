@@ -11,4 +11,3 @@ pub fn suits(alloc: Global, matcher: &NameMatcher, name: &str) -> Result<bool, A
 {
     matcher.is_match(alloc, name)
 }
-

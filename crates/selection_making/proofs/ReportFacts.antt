@@ -4,13 +4,13 @@ use Rattle.std.specs.List.{list_any}
 use Rattle.std.proofs.lemmas.Slice.Eq.{bytes_eq-Decides}
 use Rattle.list_facts.proofs.Quantifiers.{list_any-from_Contains, list_any_cases}
 use Rattle.workspace_record.specs.Records.{Text}
-use Rattle.selection_making.specs.Laws.{SelectionsReportAlike}
+use Rattle.selection_making.specs.Laws.{ListedBinariesSuffice, SelectionsAskWhatIsListed, SelectionsReportAlike}
 use Rattle.selection_making.specs.Questions.{Question}
 use Rattle.selection_making.specs.Readings.{Readings}
 use Rattle.selection_making.specs.Selecting.{IsAsked, IsChosen}
 use Rattle.selection_making.specs.Selections.{report}
 use Rattle.selection_making.proofs.ReadingFacts.{read_before, say_the_same}
-use Rattle.selection_making.proofs.SelectingFacts.{chosen_before, chosen_too, let_through_twice, one_report}
+use Rattle.selection_making.proofs.SelectingFacts.{chosen_before, chosen_too, let_through_twice, one_asked, one_report}
 use Rattle.selection_making.proofs.WantedFacts.{wanted_twice}
 
 -- a text that is not denied of being among others is one of them
@@ -54,3 +54,13 @@ report_alike q asks old new before after one other s o held =
     (s.report.members pair).1 (listed_alike q s.readings before.listing_of pair chosen old.listing_of (sym (held pair.0 (asked_for q s.readings before.listing_of pair chosen one.asked s.asked)))) in
     let alike = one_report (λ pair. (there pair, back pair)) s.report.ascending o.report.ascending in
     (alike, ap report alike)
+
+pub asked_as_listed : SelectionsAskWhatIsListed
+asked_as_listed q old new selection ids answer listed =
+    let same = say_the_same q answer.readings listed.readings answer.answered.read listed.answered.read in
+    one_asked q listed.readings selection.asked ids ((same.asked selection.asked).0 answer.asked) listed.asked
+
+pub listed_suffice : ListedBinariesSuffice
+listed_suffice q ids old new before after one other listed first second held =
+    let asked = asked_as_listed q old new one ids first listed in
+    report_alike q q.asks old new before after one other first second (λ id inside. held id (subst (λ xs. Contains xs id) asked inside))

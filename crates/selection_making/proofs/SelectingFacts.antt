@@ -15,7 +15,7 @@ use Rattle.record_rules.specs.Asked.{test_asked}
 use Rattle.question_filters.specs.QuestionFilters.{CompiledQuestion}
 use Rattle.selection_making.specs.Questions.{Question}
 use Rattle.selection_making.specs.Readings.{Readings}
-use Rattle.selection_making.specs.Selecting.{Answers, DefaultHolds, IsAsked, IsChosen, IsLetThrough, Selects, TextsHold}
+use Rattle.selection_making.specs.Selecting.{Answers, DefaultHolds, IsAsked, IsChosen, IsLetThrough, ListsIds, Selects, TextsHold}
 use Rattle.selection_making.specs.Selections.{Selected}
 use Rattle.selection_making.specs.declared.asked_binaries.AskedBinaries.{AskedBinaries}
 use Rattle.selection_making.proofs.MayFacts.{default_may, filter_may}
@@ -61,6 +61,11 @@ module _ (q : Question) where
       let itself : IsAscendingOf text_cmp a a = record { members = λ id. (λ h. h, λ h. h); ascending = p.ascending } in
       let other : IsAscendingOf text_cmp a b = record { members = λ id. (λ h. (p.members id).1 ((o.members id).0 h), λ h. (o.members id).1 ((p.members id).0 h)); ascending = o.ascending } in
       one_ascending text_total text_exact a a b itself other
+
+  -- the ids of a plan's binaries are those that the question asks
+  pub lists_ids : (filters : CompiledQuestion) (asked : List Binary) → IsPlan q filters asked → (ids : List Text) → ids ≡ ids_of asked → ListsIds q ids
+  lists_ids filters asked plan ids same =
+      record { readings = plan.readings; answered = plan.answered; asked = subst (IsAsked q plan.readings) (sym same) plan.ids }
 
   -- where a text and the default filter hold of a test, it is not denied that its binary is let through
   pub let_through_twice : (r : Readings) (b : Binary) (test : Text) → TextsHold q r b test → DefaultHolds q r b test → (IsLetThrough q r b → ⊥) → ⊥

@@ -5,7 +5,7 @@ use Rattle.nextest_filtering.specs.SameFilters.{AreBytes}
 use Rattle.test_lister.specs.Listers.{Shown}
 use Rattle.selection_making.specs.Questions.{Question}
 use Rattle.selection_making.specs.Readings.{AreReadings, Readings}
-use Rattle.selection_making.specs.Selecting.{Answers, IsAsked, IsChosen, IsReport}
+use Rattle.selection_making.specs.Selecting.{Answers, IsAsked, IsChosen, IsReport, ListsIds}
 use Rattle.selection_making.specs.Selections.{Selected, report}
 use Rattle.selection_making.specs.declared.asked_binaries.AskedBinaries.{AskedBinaries}
 
@@ -44,4 +44,22 @@ SelectionsReportAlike =
     → Answers q old (Ok one) new
     → Answers (record q { asks = asks }) before (Ok other) after
     → ((id : Text) → Contains one.asked id → old.listing_of id ≡ before.listing_of id)
+    → (one.chosen ≡ other.chosen) × (report one.chosen ≡ report other.chosen)
+
+-- a selection asked just the binaries that are listed for its question
+abbrev pub SelectionsAskWhatIsListed : Type 0
+SelectionsAskWhatIsListed =
+    (q : Question) (old new : Shown) (selection : Selected) (ids : List Text)
+    → Answers q old (Ok selection) new
+    → ListsIds q ids
+    → selection.asked ≡ ids
+
+-- listings of the listed binaries suffice: with the same ones for these, two selections choose the same tests and report the same bytes
+abbrev pub ListedBinariesSuffice : Type 0
+ListedBinariesSuffice =
+    (q : Question) (ids : List Text) (old new before after : Shown) (one other : Selected)
+    → ListsIds q ids
+    → Answers q old (Ok one) new
+    → Answers q before (Ok other) after
+    → ((id : Text) → Contains ids id → old.listing_of id ≡ before.listing_of id)
     → (one.chosen ≡ other.chosen) × (report one.chosen ≡ report other.chosen)

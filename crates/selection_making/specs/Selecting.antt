@@ -1,8 +1,9 @@
 -- Which tests are chosen, which binaries are asked for theirs, and what a selection comes to.
-use Rattle.std.specs.Prelude.{◌≡◌, ℕ, ◌<◌, true, List, [], length, take, All, Contains, slice_get, slice_index_or, Option, Some, None, Result, Ok, Err, ◌↔◌, ◌⊎◌, string_bytes, Vec}
+use Rattle.std.specs.Prelude.{◌≡◌, ℕ, ◌<◌, true, List, [], length, take, All, Contains, slice_get, slice_index_or, Option, Some, None, Result, Ok, Err, ◌↔◌, ◌⊎◌, string_bytes, String, Vec}
 use Rattle.std.specs.Global.{Global}
 use Rattle.std.specs.List.Sorted.{IsStrictlySortedBy}
 use Rattle.list_facts.specs.Ascending.{text_cmp, pair_cmp}
+use Rattle.list_facts.specs.Texts.{texts}
 use Rattle.workspace_record.specs.Records.{Text}
 use Rattle.test_lister.specs.Listers.{Shown, Asked, largest}
 use Rattle.test_lister.specs.Asking.{HoldsWellFormed, FailedAt, FaultyAt, AskedSome}
@@ -82,6 +83,12 @@ module _ (q : Question) where
       pub read : AreReadings q r
       pub accepted : (text : Text) → Contains q.texts text → IsAcceptedText r.context r.groups Test text
 
+  -- the ids of the binaries that are asked, by some reading of the filters
+  pub record ListsIds (ids : List Text) : Type 0 where
+    pub readings : Readings
+    pub answered : IsAnswered readings
+    pub asked : IsAsked readings ids
+
   -- the text at this place is the first that is refused, for these faults
   pub record RefusesText (place : ℕ) (faults : Vec ParseSingleError Global) : Type 0 where
     pub checked : IsChecked q.workspace (Ok tt)
@@ -142,3 +149,13 @@ module _ (q : Question) where
   Answers old (Err (Lister id)) new = FailsFor old (string_bytes id) new
   Answers old (Err (BadListing id fault)) new = FaultyFor old (string_bytes id) fault new
   Answers old (Err Memory) new = (new ≡ old) ⊎ StopsWithin old new
+
+  -- the ids of the binaries to ask, or why the question is refused; nobody is asked, so no lister is blamed
+  abbrev pub ListsAsked : Result (Vec (String Global) Global) SelectError → Type 0
+  ListsAsked (Ok ids) = ListsIds (texts ids.items)
+  ListsAsked (Err (Record e)) = IsRefused q.workspace e
+  ListsAsked (Err (UnknownExtra place)) = IsChecked q.workspace (Ok tt) × (unknown_extra q.workspace q.choice ≡ Some place)
+  ListsAsked (Err (Filter place faults)) = RefusesText place faults
+  ListsAsked (Err (Lister id)) = ⊥
+  ListsAsked (Err (BadListing id fault)) = ⊥
+  ListsAsked (Err Memory) = Unit {0}

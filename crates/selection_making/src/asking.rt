@@ -154,7 +154,8 @@ fn push_test(
     Ok(())
 }
 
-fn ids(alloc: Global, asked: &[TestBinary<'_>]) -> Result<Vec<String>, AllocError>
+/// The ids of the binaries, in their order.
+pub(crate) fn ids(alloc: Global, asked: &[TestBinary<'_>]) -> Result<Vec<String>, AllocError>
     ensures { IfOk result (λ v. texts v.items ≡ ids_of (map binary_view asked.now)) }
 {
     let mut ids = Vec::new(alloc);

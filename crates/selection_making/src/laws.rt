@@ -1,6 +1,7 @@
 //! Laws of selections.
 
-ghost use Rattle.selection_making.specs.Laws.{ReadingsSayTheSame, ReportsAgree, SelectionsReportAlike, UnaskedHaveNoChosenTest};
+ghost use Rattle.selection_making.specs.Laws.{ListedBinariesSuffice, ReadingsSayTheSame, ReportsAgree};
+ghost use Rattle.selection_making.specs.Laws.{SelectionsAskWhatIsListed, SelectionsReportAlike, UnaskedHaveNoChosenTest};
 
 pub use crate::byte_names::{feature_names_are_bytes, record_names_are_bytes};
 
@@ -26,4 +27,15 @@ pub fn reports_agree()
 /// all that it takes.
 pub fn selections_report_alike()
     ensures alike { SelectionsReportAlike }
+{}
+
+/// A selection asks just the binaries that `binaries_to_ask` lists for its question.
+pub fn selections_ask_what_is_listed()
+    ensures asked { SelectionsAskWhatIsListed }
+{}
+
+/// Listings of the binaries that `binaries_to_ask` lists suffice: whatever is listed of others, the
+/// selection and its report are the same.
+pub fn listed_binaries_suffice()
+    ensures suffice { ListedBinariesSuffice }
 {}

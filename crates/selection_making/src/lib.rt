@@ -2,6 +2,7 @@
 #![tactic(auto)]
 
 mod ascending_pairs;
+mod asked;
 mod asked_binaries;
 mod asking;
 mod byte_names;
@@ -11,6 +12,7 @@ mod report;
 mod selecting;
 mod selection;
 
+pub use crate::asked::{binaries_to_ask, binaries_to_ask_shared};
 pub use crate::asked_binaries::AskedBinaries;
 pub use crate::report::write_report;
 pub use crate::selecting::{select, select_plain, select_shared};

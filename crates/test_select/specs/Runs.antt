@@ -1,5 +1,5 @@
 -- What the program selects, explains and lists by.
-use Rattle.std.specs.Prelude.{◌≡◌, List, Option, Result, Vec, map}
+use Rattle.std.specs.Prelude.{◌≡◌, List, Option, Result, String, Vec, map}
 use Rattle.std.specs.Global.{Global}
 use Rattle.workspace_record.specs.Records.{Text}
 use Rattle.test_lister.specs.Listers.{Shown}
@@ -9,7 +9,7 @@ use Rattle.feature_reasons.specs.Sources.{sourced_rules}
 use Rattle.feature_reasons.specs.declared.sourced_rule.SourcedRule.{SourcedRule}
 use Rattle.record_checks.specs.declared.select_error.SelectError.{SelectError}
 use Rattle.selection_reasons.specs.Explaining.{Explains}
-use Rattle.selection_making.specs.Selecting.{Answers}
+use Rattle.selection_making.specs.Selecting.{Answers, ListsAsked}
 use Rattle.selection_making.specs.Selections.{Selected}
 use Rattle.selection_making.specs.declared.asked_binaries.AskedBinaries.{AskedBinaries}
 use Rattle.selection_making.specs.declared.asked_binaries.AskedBinaries.TheVariants.{LetThrough}
@@ -20,6 +20,10 @@ use Rattle.question_filters.specs.declared.scope.LinkScope.{LinkScope}
 -- a selection by the record, the choice and the table that were read, over the links of the scope
 abbrev pub AnswersQuestion : FeatureQuestion → LinkScope → List Text → AskedBinaries → Shown → Result Selected SelectError → Shown → Type 0
 AnswersQuestion q scope texts asks = Answers (record { workspace = q.record.value; choice = q.choice; table = q.table; scope = scope; texts = texts; asks = asks })
+
+-- the binaries that such a selection asks, or why the question is refused
+abbrev pub ListsBinaries : FeatureQuestion → LinkScope → List Text → AskedBinaries → Result (Vec (String Global) Global) SelectError → Type 0
+ListsBinaries q scope texts asks = ListsAsked (record { workspace = q.record.value; choice = q.choice; table = q.table; scope = scope; texts = texts; asks = asks })
 
 -- whether and why a test is chosen, or a binary asked, by what was read
 abbrev pub ExplainsQuestion : FeatureQuestion → LinkScope → List Text → Text → Option Text → Shown → Result Reason SelectError → Shown → Type 0

@@ -58,7 +58,7 @@ impl Subcommand {
 }
 
 /// The subcommands, in the order of the help.
-const SUBCOMMANDS: [Subcommand; 8] = [
+const SUBCOMMANDS: [Subcommand; 9] = [
     Subcommand {
         name: "tests",
         about: "Prints the tests that run",
@@ -66,6 +66,19 @@ const SUBCOMMANDS: [Subcommand; 8] = [
         words: &[
             Word::Record,
             Word::Listings,
+            Word::Choice,
+            Word::Table,
+            Word::Declared,
+            Word::Plain,
+            Word::Filter,
+        ],
+    },
+    Subcommand {
+        name: "binaries",
+        about: "Prints the test binaries that are to be built and asked for their tests",
+        help: BINARIES_HELP,
+        words: &[
+            Word::Record,
             Word::Choice,
             Word::Table,
             Word::Declared,
@@ -329,6 +342,17 @@ Exit status: 0 if the tests are printed, also if there are none; 1 if a file, th
 choice, a filter or a listing is refused, or the output cannot be written, with the reasons on
 standard error, where `lister: ID` says that the listings have no binary ID; 2 for a bad command
 line.";
+
+const BINARIES_HELP: &str =
+    "Output: a line for the id of each test binary that `tests` asks for its tests, with the same files,
+options and filters, ascending, and none stands there twice. No listings are needed, so nothing has to
+be built before. Listings of these binaries are all that `tests` needs, and of any other binary no test
+is chosen. With --plain there is a line for each binary whose required features are on. Filters are
+those of `tests`, whose help lists them.
+
+Exit status: 0 if the binaries are printed, also if there are none; 1 if a file, the record, the
+choice or a filter is refused, or the output cannot be written, with the reasons on standard error;
+2 for a bad command line.";
 
 const WHY_HELP: &str =
     "Output: one line. With TEST it says whether and why that test of the binary is chosen:

@@ -20,7 +20,7 @@ pub use selection_laws::laws::{
     served_questions_are_answered, switched_dependencies_are_declared,
 };
 pub use selection_making::laws::{
-    readings_say_the_same, reports_agree, selections_report_alike,
-    unasked_binaries_have_no_chosen_test,
+    listed_binaries_suffice, readings_say_the_same, reports_agree, selections_ask_what_is_listed,
+    selections_report_alike, unasked_binaries_have_no_chosen_test,
 };
 pub use selection_reasons::laws::reasons_say_what_is_selected;

@@ -3,6 +3,7 @@
 #![tactic(auto)]
 
 mod accounts;
+mod binaries;
 mod command_line;
 mod explanations;
 mod failure;
@@ -40,7 +41,7 @@ pub use record_files::{
     read_table,
 };
 pub use record_graphs::context_over;
-pub use selection_making::{Selection, select, select_plain, write_report};
+pub use selection_making::{Selection, binaries_to_ask, select, select_plain, write_report};
 pub use selection_reasons::{BinaryReason, Reason, TestReason, why};
 pub use test_lister::{
     BinaryInfo, BuildPlatform, FileLister, ListFault, Listing, ListingFault, TestLister,

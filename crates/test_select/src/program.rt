@@ -4,6 +4,7 @@ ghost use Rattle.std.specs.Prelude.{◌≡◌, ◌≤◌, IfErr};
 ghost use Rattle.test_select.specs.Failures.{status_of};
 
 use crate::accounts::print_account;
+use crate::binaries::print_binaries;
 use crate::command_line::command;
 use crate::explanations::print_explanation;
 use crate::failure::Failure;
@@ -26,6 +27,9 @@ use std::io::Write;
 /// then selects, and writes the report to `out`. Without a choice the default features are on. Without a
 /// table nothing is known of the platform, and what is unknown counts. Links that are on are followed,
 /// with `--declared` all links. With `--plain` each available binary is asked for.
+///
+/// `test_select binaries --record F [--choice F] [--table F] [--declared] [--plain] [FILTER]...` reads the
+/// same files but the listings, and writes the ids of the binaries that `tests` would ask for their tests.
 ///
 /// `test_select why --record F --listings F [--choice F] [--table F] [--declared] [-E FILTER].. ID [TEST]`
 /// reads the same files, and writes a line that says whether and why that test of the binary ID is chosen
@@ -85,6 +89,7 @@ fn try_run<'a, S: AsStr, O: Write>(
 #[derive(Clone, Copy)]
 enum Task {
     Tests,
+    Binaries,
     Why,
     Account,
     Check,
@@ -99,6 +104,7 @@ enum Task {
 fn task_named(name: &str) -> Task {
     match name {
         "tests" => Task::Tests,
+        "binaries" => Task::Binaries,
         "why" => Task::Why,
         "account" => Task::Account,
         "check" => Task::Check,
@@ -124,6 +130,7 @@ fn carry_out<'a, O: Write>(
     };
     match task_named(name) {
         Task::Tests => print_tests(alloc, asked, files, out),
+        Task::Binaries => print_binaries(alloc, asked, files, out),
         Task::Why => print_why(alloc, asked, files, out),
         Task::Account => print_account(alloc, asked, files, out),
         Task::Check => Ok(print_verdict(alloc, asked, files, out)?),

@@ -1,5 +1,5 @@
-//! Calls that the program makes by way of others alone, with memory enough: reasons, groups of tests, how
-//! often rules are looked at, and copies.
+//! Calls that the program makes by way of others alone, with memory enough: reasons, binaries to ask, groups
+//! of tests, how often rules are looked at, and copies.
 
 use crate::refusals::filters::Parts;
 use crate::workspace::{CHOICE, LISTINGS, RECORD, debugged, question_of};
@@ -12,7 +12,7 @@ use std::alloc::{AllocError, Global};
 use std::process::Abort;
 use test_select::{
     FileLister, GroupTable, LinkScope, RecordError, RecordFilters, WorkspaceRecord, account,
-    context_over, declared_graph, read_listings, record_filters, rules, why,
+    binaries_to_ask, context_over, declared_graph, read_listings, record_filters, rules, why,
 };
 
 #[test]
@@ -38,6 +38,20 @@ fn a_reason(rt: HostRuntime) {
     let printed = format!(in rt.alloc(); "{reason}").expect(&rt, "memory");
     assert_eq!(rt; printed.as_str(), "chosen by filter 1");
     assert_eq!(rt; lister.asked().len(), 1);
+}
+
+#[test]
+fn binaries_before_they_are_built(rt: HostRuntime) {
+    let question = question_of(&rt, rt.alloc(), RECORD, CHOICE);
+    let (record, choice, table) = (&question.record, &question.choice, &question.table);
+    let (scope, texts) = (LinkScope::SwitchedOn, ["package(=app) and test(one)"]);
+    let ids = binaries_to_ask(rt.alloc(), record, choice, table, scope, &texts);
+    let ids = ids.expect(&rt, "ids");
+    assert!(rt;
+        ids.iter()
+            .map(String::as_str)
+            .eq(["app", "app::net"].iter().copied())
+    );
 }
 
 /// The filters of a record, compiled over its own graph.
