@@ -7,7 +7,7 @@ use std::alloc::{AllocError, Global};
 use std::fmt;
 
 /// A filter as it was written.
-#[derive(Debug, Drop, PartialEq, Eq)]
+#[derive(Debug, PartialEq, Eq)]
 pub enum ParsedExpr<S = SourceSpan> {
     Not(NotOperator, Box<ParsedExpr<S>>),
     Union(OrOperator, Box<ParsedExpr<S>>, Box<ParsedExpr<S>>),
@@ -15,6 +15,24 @@ pub enum ParsedExpr<S = SourceSpan> {
     Difference(DifferenceOperator, Box<ParsedExpr<S>>, Box<ParsedExpr<S>>),
     Parens(Box<ParsedExpr<S>>),
     Set(ParsedLeaf<S>),
+}
+
+/// A filter is let go by a loop along its left side, since a chain of operators leans to the left.
+impl<S: Drop> Drop for ParsedExpr<S> {
+    fn drop(mut self) {
+        loop {
+            match self {
+                ParsedExpr::Set(_) => return,
+                ParsedExpr::Not(_, x) | ParsedExpr::Parens(x) => self = Box::into_inner(x),
+                ParsedExpr::Union(_, x, y)
+                | ParsedExpr::Intersection(_, x, y)
+                | ParsedExpr::Difference(_, x, y) => {
+                    drop(y);
+                    self = Box::into_inner(x);
+                }
+            }
+        }
+    }
 }
 
 impl<S: Copy> ParsedExpr<S> {
