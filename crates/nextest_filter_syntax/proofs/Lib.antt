@@ -3,4 +3,3 @@ pub mod GrammarFacts
 pub mod StepFacts
 pub mod SpanFacts
 pub mod TextFacts
-pub mod TreeFacts

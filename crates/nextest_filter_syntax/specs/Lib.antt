@@ -1,4 +1,5 @@
 pub mod Trees
+pub mod Turned
 pub mod AsWritten
 pub mod TreeTexts
 pub mod Runtime

@@ -1,13 +1,13 @@
-ghost use Rattle.std.specs.Prelude.{◌≡◌, Ok, IfOk};
+ghost use Rattle.std.specs.Prelude.{◌≡◌, IfOk};
 
 use nextest_filter_faults::{AndOperator, DifferenceOperator, NotOperator, OrOperator};
 use nextest_filter_leaves::ParsedLeaf;
 use nextest_filter_matchers::SourceSpan;
 use std::alloc::{AllocError, Global};
-use std::fmt;
+use std::{fmt, mem};
 
 /// A filter as it was written.
-#[derive(Debug, Drop, PartialEq, Eq)]
+#[derive(Debug, PartialEq, Eq)]
 pub enum ParsedExpr<S = SourceSpan> {
     Not(NotOperator, Box<ParsedExpr<S>>),
     Union(OrOperator, Box<ParsedExpr<S>>, Box<ParsedExpr<S>>),
@@ -17,41 +17,101 @@ pub enum ParsedExpr<S = SourceSpan> {
     Set(ParsedLeaf<S>),
 }
 
+/// A filter is let go by a loop along its left side, since a chain of operators leans to the left.
+impl<S: Drop> Drop for ParsedExpr<S> {
+    fn drop(mut self) {
+        loop {
+            match self {
+                ParsedExpr::Set(_) => return,
+                ParsedExpr::Not(_, x) | ParsedExpr::Parens(x) => self = Box::into_inner(x),
+                ParsedExpr::Union(_, x, y)
+                | ParsedExpr::Intersection(_, x, y)
+                | ParsedExpr::Difference(_, x, y) => {
+                    drop(y);
+                    self = Box::into_inner(x);
+                }
+            }
+        }
+    }
+}
+
 impl<S: Copy> ParsedExpr<S> {
     ghost use Rattle.std.specs.Prelude.{◌≡◌, IfOk};
     ghost use Rattle.nextest_filter_leaves.specs.Leaves.{leaf_of, leaf_patterns};
     ghost use Rattle.nextest_filter_syntax.specs.Trees.{patterns_of, set_of, tree_of};
+    ghost use Rattle.nextest_filter_syntax.specs.Turned.{turned_patterns, turned_tree};
 
     /// An equal tree in memory of its own, whose leaves match the same names.
     pub fn copy(&self, alloc: Global) -> Result<ParsedExpr<S>, AllocError>
         ensures equal { IfOk result (λ c. tree_of c ≡ tree_of self.now) }
         ensures patterns { IfOk result (λ c. patterns_of c ≡ patterns_of self.now) }
     {
-        match self {
-            ParsedExpr::Not(op, x) => {
-                let x = Box::new(alloc, x.copy(alloc)?)?;
-                Ok(ParsedExpr::Not(*op, x))
+        let mut rest = self;
+        let mut above = ParsedExpr::Set(ParsedLeaf::None);
+        loop {
+            match rest {
+                ParsedExpr::Not(op, x) => {
+                    above = ParsedExpr::Not(*op, Box::new(alloc, above)?);
+                    rest = x;
+                }
+                ParsedExpr::Union(op, x, y) => {
+                    let (left, right) = both_boxed(alloc, above, y.copy(alloc)?)?;
+                    above = ParsedExpr::Union(*op, left, right);
+                    rest = x;
+                }
+                ParsedExpr::Intersection(op, x, y) => {
+                    let (left, right) = both_boxed(alloc, above, y.copy(alloc)?)?;
+                    above = ParsedExpr::Intersection(*op, left, right);
+                    rest = x;
+                }
+                ParsedExpr::Difference(op, x, y) => {
+                    let (left, right) = both_boxed(alloc, above, y.copy(alloc)?)?;
+                    above = ParsedExpr::Difference(*op, left, right);
+                    rest = x;
+                }
+                ParsedExpr::Parens(x) => {
+                    above = ParsedExpr::Parens(Box::new(alloc, above)?);
+                    rest = x;
+                }
+                ParsedExpr::Set(leaf) => {
+                    let innermost = ParsedExpr::of_leaf(alloc, leaf)?;
+                    return Ok(above.turned_round(innermost));
+                }
             }
-            ParsedExpr::Union(op, x, y) => {
-                let x = x.copy(alloc)?;
-                let (x, y) = boxed_with(alloc, x, y.copy(alloc))?;
-                Ok(ParsedExpr::Union(*op, x, y))
+        }
+    }
+
+    /// The filter whose left side was built from the outside in, turned round: its innermost operand
+    /// comes in place of the leaf.
+    fn turned_round(mut self, innermost: ParsedExpr<S>) -> ParsedExpr<S>
+        ensures equal { tree_of result ≡ turned_tree self (tree_of innermost) }
+        ensures patterns { patterns_of result ≡ turned_patterns self (patterns_of innermost) }
+    {
+        let mut built = innermost;
+        loop {
+            match self {
+                ParsedExpr::Not(op, mut x) => {
+                    self = mem::replace(&mut *x, built);
+                    built = ParsedExpr::Not(op, x);
+                }
+                ParsedExpr::Union(op, mut x, y) => {
+                    self = mem::replace(&mut *x, built);
+                    built = ParsedExpr::Union(op, x, y);
+                }
+                ParsedExpr::Intersection(op, mut x, y) => {
+                    self = mem::replace(&mut *x, built);
+                    built = ParsedExpr::Intersection(op, x, y);
+                }
+                ParsedExpr::Difference(op, mut x, y) => {
+                    self = mem::replace(&mut *x, built);
+                    built = ParsedExpr::Difference(op, x, y);
+                }
+                ParsedExpr::Parens(mut x) => {
+                    self = mem::replace(&mut *x, built);
+                    built = ParsedExpr::Parens(x);
+                }
+                ParsedExpr::Set(_) => return built,
             }
-            ParsedExpr::Intersection(op, x, y) => {
-                let x = x.copy(alloc)?;
-                let (x, y) = boxed_with(alloc, x, y.copy(alloc))?;
-                Ok(ParsedExpr::Intersection(*op, x, y))
-            }
-            ParsedExpr::Difference(op, x, y) => {
-                let x = x.copy(alloc)?;
-                let (x, y) = boxed_with(alloc, x, y.copy(alloc))?;
-                Ok(ParsedExpr::Difference(*op, x, y))
-            }
-            ParsedExpr::Parens(x) => {
-                let x = Box::new(alloc, x.copy(alloc)?)?;
-                Ok(ParsedExpr::Parens(x))
-            }
-            ParsedExpr::Set(leaf) => ParsedExpr::of_leaf(alloc, leaf),
         }
     }
 
@@ -64,23 +124,6 @@ impl<S: Copy> ParsedExpr<S> {
     {
         let leaf = leaf.copy(alloc)?;
         Ok(ParsedExpr::Set(leaf))
-    }
-}
-
-/// Two filters, each in memory of its own, where there is a second.
-fn boxed_with<S: Copy>(
-    alloc: Global,
-    left: ParsedExpr<S>,
-    right: Result<ParsedExpr<S>, AllocError>,
-) -> Result<(Box<ParsedExpr<S>>, Box<ParsedExpr<S>>), AllocError>
-    ensures { IfOk result (λ r. (r.0.value ≡ left) × (right ≡ Ok r.1.value)) }
-{
-    match right {
-        Ok(right) => both_boxed(alloc, left, right),
-        Err(refused) => {
-            drop(left);
-            Err(refused)
-        }
     }
 }
 

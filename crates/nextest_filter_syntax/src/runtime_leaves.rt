@@ -1,8 +1,8 @@
-ghost use Rattle.std.specs.Prelude.{◌≡◌, ◌++◌, ◌↔◌, IfOk, IsTrue, OnOk, codes, map};
+ghost use Rattle.std.specs.Prelude.{◌≡◌, ◌↔◌, IfOk, IsTrue, OnOk, codes, map};
 ghost use Rattle.std.specs.Str.Iter.{HasSubslice};
 ghost use Rattle.nextest_filter_syntax.specs.Trees.{tree_of};
 ghost use Rattle.nextest_filter_leaves.specs.Leaves.{leaf_of};
-ghost use Rattle.nextest_filter_syntax.specs.Runtime.{runtime_leaves};
+ghost use Rattle.nextest_filter_syntax.specs.Runtime.{AddsLeaves, runtime_leaves};
 
 use crate::parsed_expr::ParsedExpr;
 use nextest_filter_leaves::ParsedLeaf;
@@ -14,29 +14,34 @@ impl<S> ParsedExpr<S> {
         ensures { IfOk result (λ v. map (λ l. leaf_of l.now) v.items ≡ runtime_leaves (tree_of self.now)) }
     {
         let mut leaves = Vec::new(alloc);
-        self.push_runtime_only(&mut leaves)?;
+        self.push_from_the_right(&mut leaves)?;
+        leaves.reverse();
         Ok(leaves)
     }
 
-    fn push_runtime_only<'t>(
+    /// Pushes those leaves from right to left, so that the left side is walked by a loop.
+    fn push_from_the_right<'t>(
         &'t self,
         leaves: &mut Vec<&'t ParsedLeaf<S>>,
     ) -> Result<(), AllocError>
-        ensures { OnOk result (map (λ l. leaf_of l.now) leaves.new.items ≡ map (λ l. leaf_of l.now) leaves.old.items ++ runtime_leaves (tree_of self.now)) }
+        ensures { OnOk result (AddsLeaves (tree_of self.now) leaves.old.items leaves.new.items) }
     {
-        match self {
-            ParsedExpr::Not(_, x) | ParsedExpr::Parens(x) => x.push_runtime_only(leaves),
-            ParsedExpr::Union(_, x, y)
-            | ParsedExpr::Intersection(_, x, y)
-            | ParsedExpr::Difference(_, x, y) => {
-                x.push_runtime_only(leaves)?;
-                y.push_runtime_only(leaves)
-            }
-            ParsedExpr::Set(leaf) => {
-                if leaf.is_runtime_only() {
-                    leaves.push(leaf)?;
+        let mut rest = self;
+        loop {
+            match rest {
+                ParsedExpr::Not(_, x) | ParsedExpr::Parens(x) => rest = x,
+                ParsedExpr::Union(_, x, y)
+                | ParsedExpr::Intersection(_, x, y)
+                | ParsedExpr::Difference(_, x, y) => {
+                    y.push_from_the_right(leaves)?;
+                    rest = x;
                 }
-                Ok(())
+                ParsedExpr::Set(leaf) => {
+                    if leaf.is_runtime_only() {
+                        leaves.push(leaf)?;
+                    }
+                    return Ok(());
+                }
             }
         }
     }
