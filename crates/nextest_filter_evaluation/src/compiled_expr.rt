@@ -22,11 +22,18 @@ impl CompiledExpr {
     pub fn has_group_matchers(&self) -> bool
         ensures groups { result ≡ has_leaf is_group (compiled_of self.now) }
     {
-        match self {
-            CompiledExpr::Not(x) => x.has_group_matchers(),
-            CompiledExpr::Union(x, y) => x.has_group_matchers() || y.has_group_matchers(),
-            CompiledExpr::Intersection(x, y) => x.has_group_matchers() || y.has_group_matchers(),
-            CompiledExpr::Set(leaf) => matches!(leaf, FiltersetLeaf::Group(..)),
+        let mut rest = self;
+        loop {
+            match rest {
+                CompiledExpr::Not(x) => rest = x,
+                CompiledExpr::Union(x, y) | CompiledExpr::Intersection(x, y) => {
+                    if y.has_group_matchers() {
+                        return true;
+                    }
+                    rest = x;
+                }
+                CompiledExpr::Set(leaf) => return matches!(leaf, FiltersetLeaf::Group(..)),
+            }
         }
     }
 
@@ -34,11 +41,18 @@ impl CompiledExpr {
     pub(crate) fn has_default(&self) -> bool
         ensures { result ≡ has_leaf is_default (compiled_of self.now) }
     {
-        match self {
-            CompiledExpr::Not(x) => x.has_default(),
-            CompiledExpr::Union(x, y) => x.has_default() || y.has_default(),
-            CompiledExpr::Intersection(x, y) => x.has_default() || y.has_default(),
-            CompiledExpr::Set(leaf) => matches!(leaf, FiltersetLeaf::Default),
+        let mut rest = self;
+        loop {
+            match rest {
+                CompiledExpr::Not(x) => rest = x,
+                CompiledExpr::Union(x, y) | CompiledExpr::Intersection(x, y) => {
+                    if y.has_default() {
+                        return true;
+                    }
+                    rest = x;
+                }
+                CompiledExpr::Set(leaf) => return matches!(leaf, FiltersetLeaf::Default),
+            }
         }
     }
 
