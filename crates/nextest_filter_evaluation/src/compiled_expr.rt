@@ -6,12 +6,28 @@ use crate::filterset_leaf::FiltersetLeaf;
 use std::alloc::{AllocError, Global};
 
 /// A filter with its names of packages looked up.
-#[derive(Debug, Drop, PartialEq, Eq)]
+#[derive(Debug, PartialEq, Eq)]
 pub enum CompiledExpr {
     Not(Box<CompiledExpr>),
     Union(Box<CompiledExpr>, Box<CompiledExpr>),
     Intersection(Box<CompiledExpr>, Box<CompiledExpr>),
     Set(FiltersetLeaf),
+}
+
+// By a loop along the left side, where long chains lie, without a stack frame for each operand.
+impl Drop for CompiledExpr {
+    fn drop(mut self) {
+        loop {
+            match self {
+                CompiledExpr::Not(x) => self = Box::into_inner(x),
+                CompiledExpr::Union(x, y) | CompiledExpr::Intersection(x, y) => {
+                    drop(y);
+                    self = Box::into_inner(x);
+                }
+                CompiledExpr::Set(_) => return,
+            }
+        }
+    }
 }
 
 impl CompiledExpr {
