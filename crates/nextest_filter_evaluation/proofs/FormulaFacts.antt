@@ -1,6 +1,6 @@
 -- Formulas whose leaves say the same.
 use mathlib.Core.Bool.{beq}
-use Rattle.std.proofs.Common.{◌≡◌, ◌↔◌, ◌⊎◌, inl, inr, ⊎_elim, refl, sym, subst, true≢false, Bool, true, false, ◌||◌, ◌&&◌, not, ◌∙◌, Result, Ok, Err, IfOk, IsTrue}
+use Rattle.std.proofs.Common.{◌≡◌, ◌↔◌, ◌⊎◌, inl, inr, ⊎_elim, refl, sym, subst, true≢false, Bool, true, false, ◌||◌, not, ◌∙◌, IsTrue}
 use Rattle.nextest_filter_evaluation.specs.Formulas.{Formula, negation, either, both, leaf, has_leaf, EachLeaf, Holds, SomeAnswersGive}
 
 pub or_left : (a b : Bool) → (a || b) ≡ false → a ≡ false

@@ -1,4 +1,4 @@
-use Rattle.std.proofs.Common.{◌≡◌, ◌≤◌, ◌↔◌, true, false, IsTrue}
+use Rattle.std.proofs.Common.{◌≡◌, ◌≤◌, true, false, IsTrue}
 use Rattle.nextest_binaries.specs.Queries.{test_of}
 use Rattle.nextest_filter_evaluation.specs.Formulas.{Holds, has_leaf}
 use Rattle.nextest_filter_evaluation.specs.Compiled.{compiled_of, has_pattern, is_group}
