@@ -9,7 +9,6 @@ use nextest_filter_matchers::GenericGlob;
 use regex::Matcher;
 
 /// A filter made ready for the tests of one binary.
-#[derive(Drop)]
 pub enum ReadyExpr<'f> {
     /// All tests of the binary, or none.
     Known(bool),
@@ -26,6 +25,27 @@ pub enum ReadyExpr<'f> {
     Pattern(usize),
     /// Tests of groups, by a flag for each.
     Groups(Vec<bool>),
+}
+
+// By a loop along the left side, where long chains lie, without a stack frame for each operand.
+impl Drop for ReadyExpr<'_> {
+    fn drop(mut self) {
+        loop {
+            match self {
+                ReadyExpr::Not(x) => self = Box::into_inner(x),
+                ReadyExpr::Union(x, y) | ReadyExpr::Intersection(x, y) => {
+                    drop(y);
+                    self = Box::into_inner(x);
+                }
+                ReadyExpr::Known(_)
+                | ReadyExpr::Equal(_)
+                | ReadyExpr::Contains(_)
+                | ReadyExpr::Glob(_)
+                | ReadyExpr::Pattern(_)
+                | ReadyExpr::Groups(_) => return,
+            }
+        }
+    }
 }
 
 impl<'f> ReadyExpr<'f> {
