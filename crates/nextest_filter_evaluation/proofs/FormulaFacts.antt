@@ -72,6 +72,14 @@ module _ (n : Bool) (W : Type 0) where
     turned_neither h e =
         subst (λ v. IsTrue v ↔ W) (turned_false n) (h false (λ t. absurd (true≢false (sym t)), λ s. absurd (says_out y Q second e s.1)))
 
+    -- else the first part decides
+    pub turned_first_of_either : SaysTurned n (P ⊎ Q) W → y ≡ false → SaysTurned n P W
+    turned_first_of_either h e b k =
+        h b (λ t. inl (k.0 t), λ s. ⊎_elim k.1 (λ q. absurd (says_out y Q second e q)) s)
+
+    pub turned_first_of_both : SaysTurned n (P × Q) W → y ≡ true → SaysTurned n P W
+    turned_first_of_both h e b k = h b (λ t. (k.0 t, second.0 e), λ s. k.1 s.0)
+
 module _ {L : Type 0} where
   pub either_same : {a b c d : Formula L} → a ≡ b → c ≡ d → either a c ≡ either b d
   either_same p q = cc

@@ -55,20 +55,33 @@ impl<'f> ReadyExpr<'f> {
         ensures holds { IsTrue result ↔ Holds (Says (map matcher_pattern searchers.old) group name.now) (ready_of self.now) }
         ensures same { map matcher_pattern searchers.new ≡ map matcher_pattern searchers.old }
     {
-        match self {
-            ReadyExpr::Known(value) => *value,
-            ReadyExpr::Not(x) => !x.holds(searchers, group, name),
-            ReadyExpr::Union(x, y) => {
-                x.holds(searchers, group, name) || y.holds(searchers, group, name)
+        let mut negated = false;
+        let mut rest = self;
+        loop {
+            match rest {
+                ReadyExpr::Not(x) => {
+                    negated = !negated;
+                    rest = x;
+                }
+                ReadyExpr::Union(x, y) => {
+                    if y.holds(searchers, group, name) {
+                        return !negated;
+                    }
+                    rest = x;
+                }
+                ReadyExpr::Intersection(x, y) => {
+                    if !y.holds(searchers, group, name) {
+                        return negated;
+                    }
+                    rest = x;
+                }
+                ReadyExpr::Known(value) => return *value != negated,
+                ReadyExpr::Equal(text) => return (*text == name) != negated,
+                ReadyExpr::Contains(text) => return name.contains(*text) != negated,
+                ReadyExpr::Glob(glob) => return glob.is_match(name) != negated,
+                ReadyExpr::Pattern(place) => return is_found(searchers, *place, name) != negated,
+                ReadyExpr::Groups(flags) => return is_set(flags, group) != negated,
             }
-            ReadyExpr::Intersection(x, y) => {
-                x.holds(searchers, group, name) && y.holds(searchers, group, name)
-            }
-            ReadyExpr::Equal(text) => *text == name,
-            ReadyExpr::Contains(text) => name.contains(*text),
-            ReadyExpr::Glob(glob) => glob.is_match(name),
-            ReadyExpr::Pattern(place) => is_found(searchers, *place, name),
-            ReadyExpr::Groups(flags) => is_set(flags, group),
         }
     }
 }
