@@ -1,5 +1,6 @@
 -- Formulas whose leaves say the same.
-use Rattle.std.proofs.Common.{◌≡◌, ◌↔◌, ◌⊎◌, inl, inr, ⊎_elim, refl, sym, true≢false, Bool, true, false, ◌||◌, ◌&&◌, not, ◌∙◌, Result, Ok, Err, IfOk, IsTrue}
+use mathlib.Core.Bool.{beq}
+use Rattle.std.proofs.Common.{◌≡◌, ◌↔◌, ◌⊎◌, inl, inr, ⊎_elim, refl, sym, subst, true≢false, Bool, true, false, ◌||◌, not, ◌∙◌, IsTrue}
 use Rattle.nextest_filter_evaluation.specs.Formulas.{Formula, negation, either, both, leaf, has_leaf, EachLeaf, Holds, SomeAnswersGive}
 
 pub or_left : (a b : Bool) → (a || b) ≡ false → a ≡ false
@@ -18,6 +19,11 @@ pub or_second : (a b : Bool) → b ≡ true → (a || b) ≡ true
 or_second true b h = refl
 or_second false b h = h
 
+-- a value, or its opposite
+abbrev pub turned : Bool → Bool → Bool
+turned true b = not b
+turned false b = b
+
 -- what a negation says, and what two parts say of which one or each is asked
 pub says_not : (b : Bool) (P : Type 0) → IsTrue b ↔ P → IsTrue (not b) ↔ (P → ⊥)
 says_not true P h = (λ e. absurd (true≢false (sym e)), λ n. absurd (n (h.0 refl)))
@@ -26,19 +32,53 @@ says_not false P h = (λ _ p. true≢false (sym (h.1 p)), λ _. refl)
 says_out : (b : Bool) (P : Type 0) → IsTrue b ↔ P → b ≡ false → P → ⊥
 says_out b P h e p = true≢false (sym (h.1 p) ∙ e)
 
-pub says_first : (b : Bool) (P Q : Type 0) → IsTrue b ↔ P → b ≡ true → IsTrue true ↔ (P ⊎ Q)
-says_first b P Q h e = (λ _. inl (h.0 e), λ _. refl)
+turned_not : (n b : Bool) → turned (not n) b ≡ turned n (not b)
+turned_not true true = refl
+turned_not true false = refl
+turned_not false b = refl
 
-pub says_other : {E : Type 0} (b : Bool) (P Q : Type 0) (r : Result Bool E) → IsTrue b ↔ P → b ≡ false → IfOk r (λ x. IsTrue x ↔ Q) → IfOk r (λ x. IsTrue x ↔ (P ⊎ Q))
-says_other b P Q (Ok x) h e k = (λ t. inr (k.0 t), λ s. ⊎_elim (λ p. absurd (says_out b P h e p)) k.1 s)
-says_other b P Q (Err x) h e k = k
+turned_true : (n : Bool) → turned n true ≡ not n
+turned_true true = refl
+turned_true false = refl
 
-pub says_neither : (b : Bool) (P Q : Type 0) → IsTrue b ↔ P → b ≡ false → IsTrue false ↔ (P × Q)
-says_neither b P Q h e = (λ t. absurd (true≢false (sym t)), λ s. absurd (says_out b P h e s.0))
+turned_false : (n : Bool) → turned n false ≡ n
+turned_false true = refl
+turned_false false = refl
 
-pub says_second : {E : Type 0} (b : Bool) (P Q : Type 0) (r : Result Bool E) → IsTrue b ↔ P → b ≡ true → IfOk r (λ x. IsTrue x ↔ Q) → IfOk r (λ x. IsTrue x ↔ (P × Q))
-says_second b P Q (Ok x) h e k = (λ t. (h.0 e, k.0 t), λ s. k.1 s.1)
-says_second b P Q (Err x) h e k = k
+turned_by_test : (n b : Bool) → not (beq b n) ≡ turned n b
+turned_by_test true true = refl
+turned_by_test true false = refl
+turned_by_test false true = refl
+turned_by_test false false = refl
+
+-- a part's value, or its opposite, says whether the whole holds
+abbrev pub SaysTurned : Bool → Type 0 → Type 0 → Type 0
+SaysTurned n P W = (b : Bool) → IsTrue b ↔ P → IsTrue (turned n b) ↔ W
+
+module _ (n : Bool) (W : Type 0) where
+  pub turned_part : (P : Type 0) → SaysTurned n (P → ⊥) W → SaysTurned (not n) P W
+  turned_part P h b k = subst (λ v. IsTrue v ↔ W) (sym (turned_not n b)) (h (not b) (says_not b P k))
+
+  pub turned_leaf : (P : Type 0) (b : Bool) → SaysTurned n P W → IsTrue b ↔ P → IsTrue (not (beq b n)) ↔ W
+  turned_leaf P b h k = subst (λ v. IsTrue v ↔ W) (sym (turned_by_test n b)) (h b k)
+
+  module _ (P Q : Type 0) (y : Bool) (second : IsTrue y ↔ Q) where
+    -- the second part that holds decides one of two, and so does one that does not hold of both
+    pub turned_second : SaysTurned n (P ⊎ Q) W → y ≡ true → IsTrue (not n) ↔ W
+    turned_second h e =
+        subst (λ v. IsTrue v ↔ W) (turned_true n) (h true (λ _. inr (second.0 e), λ _. refl))
+
+    pub turned_neither : SaysTurned n (P × Q) W → y ≡ false → IsTrue n ↔ W
+    turned_neither h e =
+        subst (λ v. IsTrue v ↔ W) (turned_false n) (h false (λ t. absurd (true≢false (sym t)), λ s. absurd (says_out y Q second e s.1)))
+
+    -- else the first part decides
+    pub turned_first_of_either : SaysTurned n (P ⊎ Q) W → y ≡ false → SaysTurned n P W
+    turned_first_of_either h e b k =
+        h b (λ t. inl (k.0 t), λ s. ⊎_elim k.1 (λ q. absurd (says_out y Q second e q)) s)
+
+    pub turned_first_of_both : SaysTurned n (P × Q) W → y ≡ true → SaysTurned n P W
+    turned_first_of_both h e b k = h b (λ t. (k.0 t, second.0 e), λ s. k.1 s.0)
 
 module _ {L : Type 0} where
   pub either_same : {a b c d : Formula L} → a ≡ b → c ≡ d → either a c ≡ either b d

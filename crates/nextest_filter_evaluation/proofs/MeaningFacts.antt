@@ -5,7 +5,7 @@ use Rattle.nextest_binaries.specs.Queries as asked
 use Rattle.nextest_filter_evaluation.specs.Formulas.{Formula, negation, either, both, leaf, Holds, SomeAnswersGive, EachLeaf, has_leaf}
 use Rattle.nextest_filter_evaluation.specs.Compiled.{Leaf, Packages, Kind, Platform, Binary, BinaryId, Test, Group, Default, All, is_group, is_default}
 use Rattle.nextest_filter_evaluation.specs.Compiled as compiled
-use Rattle.nextest_filter_evaluation.specs.Meaning.{LeafHolds, DefaultHolds, Passes, LeafGives, DefaultGives, MayBe}
+use Rattle.nextest_filter_evaluation.specs.Meaning.{LeafHolds, LeafGives}
 use Rattle.nextest_filter_evaluation.specs.Kleene.{Tells}
 use Rattle.nextest_filter_evaluation.proofs.FormulaFacts.{each_of, each_map, each_without, each_if, holds_alike, gives_alike}
 use Rattle.nextest_filter_evaluation.proofs.KleeneFacts.{known_iff, tells_alike}

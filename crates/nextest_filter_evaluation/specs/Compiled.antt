@@ -40,6 +40,13 @@ compiled_of (Union' p x q y) = either (compiled_of x) (compiled_of y)
 compiled_of (Intersection' p x q y) = both (compiled_of x) (compiled_of y)
 compiled_of (Set l) = leaf (leaf_of l)
 
+-- the left side's operators, from the inside out, around a part
+abbrev pub turned_over : CompiledExpr → Formula Leaf → Formula Leaf
+turned_over (Not' p x) f = turned_over x (negation f)
+turned_over (Union' p x q y) f = turned_over x (either f (compiled_of y))
+turned_over (Intersection' p x q y) f = turned_over x (both f (compiled_of y))
+turned_over (Set l) f = f
+
 abbrev pub is_group : Leaf → Bool
 is_group (Group test span) = true
 is_group _ = false

@@ -1,5 +1,6 @@
 -- Values that may be unknown.
 use Rattle.std.specs.Prelude.{◌≡◌, Bool, true, false, not, Option, Some, None}
+use Rattle.nextest_filter_evaluation.specs.declared.known_by_part.KnownByPart.{KnownByPart}
 
 -- a known value is the only one that is given, and an unknown one is each
 abbrev pub Tells : Option Bool → (Bool → Type 0) → Type 0
@@ -28,3 +29,9 @@ known_both (Some true) b = b
 known_both None (Some false) = Some false
 known_both None (Some true) = None
 known_both None None = None
+
+-- what is known of the whole, where this is known of the part
+abbrev pub known_at : KnownByPart → Option Bool → Option Bool
+known_at whole (Some true) = whole.if_true
+known_at whole (Some false) = whole.if_false
+known_at whole None = whole.if_unknown

@@ -10,7 +10,7 @@ ghost use Rattle.nextest_filter_evaluation.specs.Meaning.{DefaultGives, LeafGive
 use crate::compiled_expr::CompiledExpr;
 use crate::eval_context::EvalContext;
 use crate::filterset_leaf::FiltersetLeaf;
-use crate::kleene::{known_both, known_either, known_not};
+use crate::known_by_part::KnownByPart;
 use nextest_filter_queries::{BinaryQuery, suits};
 use std::alloc::{AllocError, Global};
 
@@ -59,22 +59,29 @@ impl CompiledExpr {
         ensures known { IfOk result (λ r. Tells r (SomeAnswersGive (LeafGives (may_be default) (binary_of query.now)) (compiled_of self.now))) }
         ensures answers { has_leaf has_pattern (compiled_of self.now) ≡ false → IsOk result }
     {
-        match self {
-            CompiledExpr::Not(x) => {
-                let x = x.known_of(alloc, query, default)?;
-                Ok(known_not(x))
+        let mut whole = KnownByPart::whole();
+        let mut rest = self;
+        loop {
+            match rest {
+                CompiledExpr::Not(x) => {
+                    whole = whole.through_not();
+                    rest = x;
+                }
+                CompiledExpr::Union(x, y) => {
+                    let y = y.known_of(alloc, query, default)?;
+                    whole = whole.through_either(y);
+                    rest = x;
+                }
+                CompiledExpr::Intersection(x, y) => {
+                    let y = y.known_of(alloc, query, default)?;
+                    whole = whole.through_both(y);
+                    rest = x;
+                }
+                CompiledExpr::Set(leaf) => {
+                    let known = known_of_leaf(alloc, leaf, query, default)?;
+                    return Ok(whole.at(known));
+                }
             }
-            CompiledExpr::Union(x, y) => {
-                let x = x.known_of(alloc, query, default)?;
-                let y = y.known_of(alloc, query, default)?;
-                Ok(known_either(x, y))
-            }
-            CompiledExpr::Intersection(x, y) => {
-                let x = x.known_of(alloc, query, default)?;
-                let y = y.known_of(alloc, query, default)?;
-                Ok(known_both(x, y))
-            }
-            CompiledExpr::Set(leaf) => known_of_leaf(alloc, leaf, query, default),
         }
     }
 }

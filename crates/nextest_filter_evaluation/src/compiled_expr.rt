@@ -1,17 +1,34 @@
 ghost use Rattle.std.specs.Prelude.{◌≡◌, IfOk};
 ghost use Rattle.nextest_filter_evaluation.specs.Formulas.{has_leaf};
-ghost use Rattle.nextest_filter_evaluation.specs.Compiled.{compiled_of, is_default, is_group};
+ghost use Rattle.nextest_filter_evaluation.specs.Compiled.{compiled_of, is_default, is_group, turned_over};
 
 use crate::filterset_leaf::FiltersetLeaf;
 use std::alloc::{AllocError, Global};
+use std::mem;
 
 /// A filter with its names of packages looked up.
-#[derive(Debug, Drop, PartialEq, Eq)]
+#[derive(Debug, PartialEq, Eq)]
 pub enum CompiledExpr {
     Not(Box<CompiledExpr>),
     Union(Box<CompiledExpr>, Box<CompiledExpr>),
     Intersection(Box<CompiledExpr>, Box<CompiledExpr>),
     Set(FiltersetLeaf),
+}
+
+// By a loop along the left side, where long chains lie, without a stack frame for each operand.
+impl Drop for CompiledExpr {
+    fn drop(mut self) {
+        loop {
+            match self {
+                CompiledExpr::Not(x) => self = Box::into_inner(x),
+                CompiledExpr::Union(x, y) | CompiledExpr::Intersection(x, y) => {
+                    drop(y);
+                    self = Box::into_inner(x);
+                }
+                CompiledExpr::Set(_) => return,
+            }
+        }
+    }
 }
 
 impl CompiledExpr {
@@ -22,11 +39,18 @@ impl CompiledExpr {
     pub fn has_group_matchers(&self) -> bool
         ensures groups { result ≡ has_leaf is_group (compiled_of self.now) }
     {
-        match self {
-            CompiledExpr::Not(x) => x.has_group_matchers(),
-            CompiledExpr::Union(x, y) => x.has_group_matchers() || y.has_group_matchers(),
-            CompiledExpr::Intersection(x, y) => x.has_group_matchers() || y.has_group_matchers(),
-            CompiledExpr::Set(leaf) => matches!(leaf, FiltersetLeaf::Group(..)),
+        let mut rest = self;
+        loop {
+            match rest {
+                CompiledExpr::Not(x) => rest = x,
+                CompiledExpr::Union(x, y) | CompiledExpr::Intersection(x, y) => {
+                    if y.has_group_matchers() {
+                        return true;
+                    }
+                    rest = x;
+                }
+                CompiledExpr::Set(leaf) => return matches!(leaf, FiltersetLeaf::Group(..)),
+            }
         }
     }
 
@@ -34,11 +58,18 @@ impl CompiledExpr {
     pub(crate) fn has_default(&self) -> bool
         ensures { result ≡ has_leaf is_default (compiled_of self.now) }
     {
-        match self {
-            CompiledExpr::Not(x) => x.has_default(),
-            CompiledExpr::Union(x, y) => x.has_default() || y.has_default(),
-            CompiledExpr::Intersection(x, y) => x.has_default() || y.has_default(),
-            CompiledExpr::Set(leaf) => matches!(leaf, FiltersetLeaf::Default),
+        let mut rest = self;
+        loop {
+            match rest {
+                CompiledExpr::Not(x) => rest = x,
+                CompiledExpr::Union(x, y) | CompiledExpr::Intersection(x, y) => {
+                    if y.has_default() {
+                        return true;
+                    }
+                    rest = x;
+                }
+                CompiledExpr::Set(leaf) => return matches!(leaf, FiltersetLeaf::Default),
+            }
         }
     }
 
@@ -46,24 +77,52 @@ impl CompiledExpr {
     pub fn copy(&self, alloc: Global) -> Result<CompiledExpr, AllocError>
         ensures equal { IfOk result (λ c. compiled_of c ≡ compiled_of self.now) }
     {
-        match self {
-            CompiledExpr::Not(x) => {
-                let x = Box::new(alloc, x.copy(alloc)?)?;
-                Ok(CompiledExpr::Not(x))
+        let mut above = CompiledExpr::Set(FiltersetLeaf::None);
+        let mut rest = self;
+        loop {
+            match rest {
+                CompiledExpr::Not(x) => {
+                    above = CompiledExpr::Not(Box::new(alloc, above)?);
+                    rest = x;
+                }
+                CompiledExpr::Union(x, y) => {
+                    let y = Box::new(alloc, y.copy(alloc)?)?;
+                    above = CompiledExpr::Union(Box::new(alloc, above)?, y);
+                    rest = x;
+                }
+                CompiledExpr::Intersection(x, y) => {
+                    let y = Box::new(alloc, y.copy(alloc)?)?;
+                    above = CompiledExpr::Intersection(Box::new(alloc, above)?, y);
+                    rest = x;
+                }
+                CompiledExpr::Set(leaf) => {
+                    let leaf = leaf.copy(alloc)?;
+                    return Ok(above.turned_over(CompiledExpr::Set(leaf)));
+                }
             }
-            CompiledExpr::Union(x, y) => {
-                let x = Box::new(alloc, x.copy(alloc)?)?;
-                let y = Box::new(alloc, y.copy(alloc)?)?;
-                Ok(CompiledExpr::Union(x, y))
-            }
-            CompiledExpr::Intersection(x, y) => {
-                let x = Box::new(alloc, x.copy(alloc)?)?;
-                let y = Box::new(alloc, y.copy(alloc)?)?;
-                Ok(CompiledExpr::Intersection(x, y))
-            }
-            CompiledExpr::Set(leaf) => {
-                let leaf = leaf.copy(alloc)?;
-                Ok(CompiledExpr::Set(leaf))
+        }
+    }
+
+    /// The filter whose operators these are from the inside out, around what lies innermost.
+    fn turned_over(mut self, innermost: CompiledExpr) -> CompiledExpr
+        ensures { compiled_of result ≡ turned_over self (compiled_of innermost) }
+    {
+        let mut built = innermost;
+        loop {
+            match self {
+                CompiledExpr::Not(mut x) => {
+                    self = mem::replace(&mut *x, built);
+                    built = CompiledExpr::Not(x);
+                }
+                CompiledExpr::Union(mut x, y) => {
+                    self = mem::replace(&mut *x, built);
+                    built = CompiledExpr::Union(x, y);
+                }
+                CompiledExpr::Intersection(mut x, y) => {
+                    self = mem::replace(&mut *x, built);
+                    built = CompiledExpr::Intersection(x, y);
+                }
+                CompiledExpr::Set(_) => return built,
             }
         }
     }

@@ -7,6 +7,7 @@ mod compiled_expr;
 mod eval_context;
 mod filterset_leaf;
 mod kleene;
+mod known_by_part;
 mod lent_lookup;
 mod no_groups;
 mod test_values;

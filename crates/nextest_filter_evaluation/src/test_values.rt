@@ -90,24 +90,31 @@ impl CompiledExpr {
         ensures holds { IfOk result (λ r. IsTrue r ↔ Holds (LeafHolds (G.member groups.now (test_of query.now)) (IsTrue default) (test_of query.now)) (compiled_of self.now)) }
         ensures answers { has_leaf has_pattern (compiled_of self.now) ≡ false → (has_leaf is_group (compiled_of self.now) ≡ true → (m : NameTest) → G.ready groups.now (test_of query.now) m) → IsOk result }
     {
-        match self {
-            CompiledExpr::Not(x) => {
-                let x = x.value_of(alloc, query, groups, default)?;
-                Ok(!x)
-            }
-            CompiledExpr::Union(x, y) => {
-                if x.value_of(alloc, query, groups, default)? {
-                    return Ok(true);
+        let mut negated = false;
+        let mut rest = self;
+        loop {
+            match rest {
+                CompiledExpr::Not(x) => {
+                    negated = !negated;
+                    rest = x;
                 }
-                y.value_of(alloc, query, groups, default)
-            }
-            CompiledExpr::Intersection(x, y) => {
-                if !x.value_of(alloc, query, groups, default)? {
-                    return Ok(false);
+                CompiledExpr::Union(x, y) => {
+                    if y.value_of(alloc, query, groups, default)? {
+                        return Ok(!negated);
+                    }
+                    rest = x;
                 }
-                y.value_of(alloc, query, groups, default)
+                CompiledExpr::Intersection(x, y) => {
+                    if !y.value_of(alloc, query, groups, default)? {
+                        return Ok(negated);
+                    }
+                    rest = x;
+                }
+                CompiledExpr::Set(leaf) => {
+                    let value = leaf_holds(alloc, leaf, query, groups, default)?;
+                    return Ok(value != negated);
+                }
             }
-            CompiledExpr::Set(leaf) => leaf_holds(alloc, leaf, query, groups, default),
         }
     }
 }

@@ -9,7 +9,6 @@ use nextest_filter_matchers::GenericGlob;
 use regex::Matcher;
 
 /// A filter made ready for the tests of one binary.
-#[derive(Drop)]
 pub enum ReadyExpr<'f> {
     /// All tests of the binary, or none.
     Known(bool),
@@ -28,6 +27,27 @@ pub enum ReadyExpr<'f> {
     Groups(Vec<bool>),
 }
 
+// By a loop along the left side, where long chains lie, without a stack frame for each operand.
+impl Drop for ReadyExpr<'_> {
+    fn drop(mut self) {
+        loop {
+            match self {
+                ReadyExpr::Not(x) => self = Box::into_inner(x),
+                ReadyExpr::Union(x, y) | ReadyExpr::Intersection(x, y) => {
+                    drop(y);
+                    self = Box::into_inner(x);
+                }
+                ReadyExpr::Known(_)
+                | ReadyExpr::Equal(_)
+                | ReadyExpr::Contains(_)
+                | ReadyExpr::Glob(_)
+                | ReadyExpr::Pattern(_)
+                | ReadyExpr::Groups(_) => return,
+            }
+        }
+    }
+}
+
 impl<'f> ReadyExpr<'f> {
     /// Whether the filter holds of the test with the name, whose group is at the place. No more is asked
     /// than the answer takes.
@@ -35,20 +55,33 @@ impl<'f> ReadyExpr<'f> {
         ensures holds { IsTrue result ↔ Holds (Says (map matcher_pattern searchers.old) group name.now) (ready_of self.now) }
         ensures same { map matcher_pattern searchers.new ≡ map matcher_pattern searchers.old }
     {
-        match self {
-            ReadyExpr::Known(value) => *value,
-            ReadyExpr::Not(x) => !x.holds(searchers, group, name),
-            ReadyExpr::Union(x, y) => {
-                x.holds(searchers, group, name) || y.holds(searchers, group, name)
+        let mut negated = false;
+        let mut rest = self;
+        loop {
+            match rest {
+                ReadyExpr::Not(x) => {
+                    negated = !negated;
+                    rest = x;
+                }
+                ReadyExpr::Union(x, y) => {
+                    if y.holds(searchers, group, name) {
+                        return !negated;
+                    }
+                    rest = x;
+                }
+                ReadyExpr::Intersection(x, y) => {
+                    if !y.holds(searchers, group, name) {
+                        return negated;
+                    }
+                    rest = x;
+                }
+                ReadyExpr::Known(value) => return *value != negated,
+                ReadyExpr::Equal(text) => return (*text == name) != negated,
+                ReadyExpr::Contains(text) => return name.contains(*text) != negated,
+                ReadyExpr::Glob(glob) => return glob.is_match(name) != negated,
+                ReadyExpr::Pattern(place) => return is_found(searchers, *place, name) != negated,
+                ReadyExpr::Groups(flags) => return is_set(flags, group) != negated,
             }
-            ReadyExpr::Intersection(x, y) => {
-                x.holds(searchers, group, name) && y.holds(searchers, group, name)
-            }
-            ReadyExpr::Equal(text) => *text == name,
-            ReadyExpr::Contains(text) => name.contains(*text),
-            ReadyExpr::Glob(glob) => glob.is_match(name),
-            ReadyExpr::Pattern(place) => is_found(searchers, *place, name),
-            ReadyExpr::Groups(flags) => is_set(flags, group),
         }
     }
 }
