@@ -103,8 +103,9 @@ impl CompiledExpr {
         }
     }
 
-    /// The filter whose operators these are from the inside out, around what lies innermost.
-    fn turned_over(mut self, innermost: CompiledExpr) -> CompiledExpr
+    /// The filter whose operators these are from the inside out, around what lies innermost: so a filter is
+    /// made along its left side by a loop.
+    pub fn turned_over(mut self, innermost: CompiledExpr) -> CompiledExpr
         ensures { compiled_of result ≡ turned_over self (compiled_of innermost) }
     {
         let mut built = innermost;

@@ -1,6 +1,7 @@
 pub mod ContextFacts
 pub mod FeatureFacts
 pub mod KnownFacts
+pub mod ReversedFacts
 pub mod PickFacts
 pub mod ReachFacts
 pub mod AcceptFacts

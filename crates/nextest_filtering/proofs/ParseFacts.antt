@@ -19,7 +19,6 @@ use Rattle.nextest_filter_queries.specs.declared.groups.KnownGroups.{KnownGroups
 use Rattle.nextest_filtering.specs.Contexts.{ContextValue}
 use Rattle.nextest_filtering.specs.Filters.{filter_of}
 use Rattle.nextest_filtering.specs.Acceptance.{AreUnmatched, bans}
-use Rattle.nextest_filtering.specs.Compiling.{AddsUnmatched}
 use Rattle.nextest_filtering.specs.Refusals.{IsRefused}
 use Rattle.nextest_filtering.proofs.AcceptFacts.{banned, unmatched}
 use Rattle.nextest_filtering.proofs.SpanFacts.{bans_within, unmatched_within}
@@ -69,7 +68,3 @@ module _ (cx : ContextValue) (groups : KnownGroups) (kind : FiltersetKind) (text
     within = unmatched_within text utf8 parsed reads cx groups v.items u;
     faults = inr (e, u);
   }
-
--- the faults that were added to none
-pub added_alone : (cx : ContextValue) (groups : KnownGroups) (parsed : ParsedExpr SourceSpan) (old new : List ParseSingleError) → old ≡ [] → AddsUnmatched cx groups (filter_of parsed) old new → AreUnmatched cx groups (filter_of parsed) new
-added_alone cx groups parsed old new none (faults, u, e) = subst (AreUnmatched cx groups (filter_of parsed)) (sym (e ∙ ap (λ xs. xs ++ faults) none)) u

@@ -1,5 +1,5 @@
 -- How compiled filters stand to the filters that they are made of.
-use Rattle.std.specs.Prelude.{◌≡◌, ◌↔◌, List, ◌++◌, Option, Some, None, Contains}
+use Rattle.std.specs.Prelude.{◌≡◌, ◌↔◌, List, ◌++◌, Option, Some, None, Contains, reverse}
 use Rattle.workspace_record.specs.Records.{Text}
 use Rattle.guppy_row_parts.specs.declared.dependency_direction.DependencyDirection.{DependencyDirection}
 use Rattle.nextest_filter_faults.specs.declared.parse_error.ParseSingleError.{ParseSingleError}
@@ -53,3 +53,8 @@ IsCompiled cx _ _ = ⊥
 -- to the faults those of the leaves that match nothing were added
 abbrev pub AddsUnmatched : ContextValue → KnownGroups → Formula FilterLeaf → List ParseSingleError → List ParseSingleError → Type 0
 AddsUnmatched cx groups f old new = (faults : List ParseSingleError) × AreUnmatched cx groups f faults × (new ≡ old ++ faults)
+
+-- the same from right to left
+abbrev pub AddsReversed : ContextValue → KnownGroups → Formula FilterLeaf → List ParseSingleError → List ParseSingleError → Type 0
+AddsReversed cx groups f old new =
+    (faults : List ParseSingleError) × AreUnmatched cx groups f faults × (new ≡ old ++ reverse faults)

@@ -1,6 +1,6 @@
 //! Predicates that may not stand in some filters.
 
-ghost use Rattle.std.specs.Prelude.{◌≡◌, ◌++◌, OnOk};
+ghost use Rattle.std.specs.Prelude.{◌≡◌, ◌++◌, IfOk, OnOk, reverse};
 ghost use Rattle.nextest_filter_faults.specs.declared.parse_error.ParseSingleError.TheVariants as fault;
 ghost use Rattle.nextest_filtering.specs.Acceptance as spec;
 ghost use Rattle.nextest_filtering.specs.ContextViews.{list_of};
@@ -9,43 +9,43 @@ ghost use Rattle.nextest_filtering.specs.Filters.{filter_leaf, filter_of};
 use nextest_filter_syntax::{
     BannedPredicateReason, FiltersetKind, ParseSingleError, ParsedExpr, ParsedLeaf, SourceSpan,
 };
-use std::alloc::AllocError;
+use std::alloc::{AllocError, Global};
 
-/// Adds a fault for each banned predicate, from left to right.
-pub(crate) fn push_bans(
+/// A fault for each banned predicate, from left to right.
+pub(crate) fn bans_of(
+    alloc: Global,
+    expr: &ParsedExpr,
+    kind: FiltersetKind,
+) -> Result<Vec<ParseSingleError>, AllocError>
+    ensures { IfOk result (λ v. v.items ≡ spec.bans kind (filter_of expr.now)) }
+{
+    let mut errors = Vec::new(alloc);
+    push_bans(expr, kind, &mut errors)?;
+    errors.reverse();
+    Ok(errors)
+}
+
+/// Adds them from right to left, by a loop along the left side.
+fn push_bans(
     expr: &ParsedExpr,
     kind: FiltersetKind,
     errors: &mut Vec<ParseSingleError>,
 ) -> Result<(), AllocError>
-    ensures { OnOk result (errors.new.items ≡ errors.old.items ++ spec.bans kind (filter_of expr.now)) }
+    ensures { OnOk result (errors.new.items ≡ errors.old.items ++ reverse (spec.bans kind (filter_of expr.now))) }
 {
-    match expr {
-        ParsedExpr::Not(_, x) => {
-            push_bans(x, kind, errors)?;
-            Ok(())
-        }
-        ParsedExpr::Parens(x) => {
-            push_bans(x, kind, errors)?;
-            Ok(())
-        }
-        ParsedExpr::Union(_, x, y) => {
-            push_bans(x, kind, errors)?;
-            push_bans(y, kind, errors)?;
-            Ok(())
-        }
-        ParsedExpr::Intersection(_, x, y) => {
-            push_bans(x, kind, errors)?;
-            push_bans(y, kind, errors)?;
-            Ok(())
-        }
-        ParsedExpr::Difference(_, x, y) => {
-            push_bans(x, kind, errors)?;
-            push_bans(y, kind, errors)?;
-            Ok(())
-        }
-        ParsedExpr::Set(leaf) => {
-            push_some(ban_of(leaf, kind), errors)?;
-            Ok(())
+    let mut rest = expr;
+    loop {
+        match rest {
+            ParsedExpr::Not(_, x) | ParsedExpr::Parens(x) => rest = x,
+            ParsedExpr::Union(_, x, y) => {
+                push_bans(y, kind, errors)?;
+                rest = x;
+            }
+            ParsedExpr::Intersection(_, x, y) | ParsedExpr::Difference(_, x, y) => {
+                push_bans(y, kind, errors)?;
+                rest = x;
+            }
+            ParsedExpr::Set(leaf) => return push_some(ban_of(leaf, kind), errors),
         }
     }
 }

@@ -5,11 +5,10 @@ ghost use Rattle.nextest_filter_faults.specs.declared.parse_error.ParseSingleErr
 ghost use Rattle.nextest_filter_queries.specs.NameTests.{SuitsOneOf, name_test};
 ghost use Rattle.nextest_filter_queries.specs.Groups.{AreKnown};
 ghost use Rattle.nextest_filter_evaluation.specs.Formulas as formula;
-ghost use Rattle.nextest_filter_evaluation.specs.Formulas.{has_leaf, negation};
-ghost use Rattle.nextest_filter_evaluation.specs.declared.compiled_expr.CompiledExpr as made;
+ghost use Rattle.nextest_filter_evaluation.specs.Formulas.{has_leaf};
 ghost use Rattle.nextest_filter_evaluation.specs.Compiled.{compiled_of, leaf_of};
-ghost use Rattle.nextest_filtering.specs.Acceptance.{names_group};
-ghost use Rattle.nextest_filtering.specs.Compiling.{AddsUnmatched, ArePackages, IsCompiled, IsCompiledLeaf, IsPicked};
+ghost use Rattle.nextest_filtering.specs.Acceptance.{AreUnmatched, names_group};
+ghost use Rattle.nextest_filtering.specs.Compiling.{AddsReversed, AddsUnmatched, ArePackages, IsCompiled, IsCompiledLeaf, IsPicked};
 ghost use Rattle.nextest_filtering.specs.ContextViews.{AddsUnless};
 ghost use Rattle.nextest_filtering.specs.Filters.{filter_leaf, filter_of};
 ghost use Rattle.nextest_filtering.specs.Meaning.{IsFeatured};
@@ -22,8 +21,25 @@ use nextest_filter_queries::KnownGroups;
 use nextest_filter_syntax::{NameMatcher, ParseSingleError, ParsedExpr, ParsedLeaf, SourceSpan};
 use std::alloc::{AllocError, Global};
 
-/// The compiled filter. Adds a fault for each leaf that matches nothing, from left to right.
-pub(crate) fn compile_expr(
+/// The compiled filter, and a fault for each leaf that matches nothing, from left to right.
+pub(crate) fn compiled_with_faults(
+    alloc: Global,
+    expr: &ParsedExpr,
+    cx: &ParseContext<'_>,
+    groups: &KnownGroups,
+) -> Result<(CompiledExpr, Vec<ParseSingleError>), AllocError>
+    requires groups { has_leaf names_group (filter_of expr.now) ≡ true → AreKnown groups.now }
+    ensures compiled { IfOk result (λ r. IsCompiled cx.now (filter_of expr.now) (compiled_of r.0)) }
+    ensures faults { IfOk result (λ r. AreUnmatched cx.now groups.now (filter_of expr.now) r.1.items) }
+{
+    let mut errors = Vec::new(alloc);
+    let compiled = compile_expr(alloc, expr, cx, groups, &mut errors)?;
+    errors.reverse();
+    Ok((compiled, errors))
+}
+
+/// The compiled filter, made by a loop along the left side. Adds the faults from right to left.
+fn compile_expr(
     alloc: Global,
     expr: &ParsedExpr,
     cx: &ParseContext<'_>,
@@ -32,68 +48,39 @@ pub(crate) fn compile_expr(
 ) -> Result<CompiledExpr, AllocError>
     requires groups { has_leaf names_group (filter_of expr.now) ≡ true → AreKnown groups.now }
     ensures compiled { IfOk result (λ c. IsCompiled cx.now (filter_of expr.now) (compiled_of c)) }
-    ensures faults { OnOk result (AddsUnmatched cx.now groups.now (filter_of expr.now) errors.old.items errors.new.items) }
+    ensures faults { OnOk result (AddsReversed cx.now groups.now (filter_of expr.now) errors.old.items errors.new.items) }
 {
-    match expr {
-        ParsedExpr::Not(_, x) => {
-            let x = boxed(alloc, compile_expr(alloc, x, cx, groups, errors))?;
-            Ok(CompiledExpr::Not(x))
-        }
-        ParsedExpr::Union(_, x, y) => {
-            let x = compile_expr(alloc, x, cx, groups, errors);
-            let y = compile_expr(alloc, y, cx, groups, errors);
-            let (x, y) = both_boxed(alloc, x, y)?;
-            Ok(CompiledExpr::Union(x, y))
-        }
-        ParsedExpr::Intersection(_, x, y) => {
-            let x = compile_expr(alloc, x, cx, groups, errors);
-            let y = compile_expr(alloc, y, cx, groups, errors);
-            let (x, y) = both_boxed(alloc, x, y)?;
-            Ok(CompiledExpr::Intersection(x, y))
-        }
-        ParsedExpr::Difference(_, x, y) => {
-            let x = compile_expr(alloc, x, cx, groups, errors);
-            let y = compile_expr(alloc, y, cx, groups, errors);
-            let (x, y) = both_boxed(alloc, x, negated(alloc, y))?;
-            Ok(CompiledExpr::Intersection(x, y))
-        }
-        ParsedExpr::Parens(x) => compile_expr(alloc, x, cx, groups, errors),
-        ParsedExpr::Set(leaf) => {
-            let leaf = compile_leaf(alloc, leaf, cx, groups, errors)?;
-            Ok(CompiledExpr::Set(leaf))
+    let mut above = CompiledExpr::Set(FiltersetLeaf::None);
+    let mut rest = expr;
+    loop {
+        match rest {
+            ParsedExpr::Not(_, x) => {
+                above = CompiledExpr::Not(Box::new(alloc, above)?);
+                rest = x;
+            }
+            ParsedExpr::Parens(x) => rest = x,
+            ParsedExpr::Union(_, x, y) => {
+                let y = Box::new(alloc, compile_expr(alloc, y, cx, groups, errors)?)?;
+                above = CompiledExpr::Union(Box::new(alloc, above)?, y);
+                rest = x;
+            }
+            ParsedExpr::Intersection(_, x, y) => {
+                let y = Box::new(alloc, compile_expr(alloc, y, cx, groups, errors)?)?;
+                above = CompiledExpr::Intersection(Box::new(alloc, above)?, y);
+                rest = x;
+            }
+            ParsedExpr::Difference(_, x, y) => {
+                let y = Box::new(alloc, compile_expr(alloc, y, cx, groups, errors)?)?;
+                let y = Box::new(alloc, CompiledExpr::Not(y))?;
+                above = CompiledExpr::Intersection(Box::new(alloc, above)?, y);
+                rest = x;
+            }
+            ParsedExpr::Set(leaf) => {
+                let leaf = compile_leaf(alloc, leaf, cx, groups, errors)?;
+                return Ok(above.turned_over(CompiledExpr::Set(leaf)));
+            }
         }
     }
-}
-
-/// A filter in memory of its own, if it was made.
-fn boxed(
-    alloc: Global,
-    x: Result<CompiledExpr, AllocError>,
-) -> Result<Box<CompiledExpr>, AllocError>
-    ensures { IfOk result (λ b. x ≡ Ok b.value) }
-{
-    let x = Box::new(alloc, x?)?;
-    Ok(x)
-}
-
-/// Two filters, each in memory of its own, if both were made.
-fn both_boxed(
-    alloc: Global,
-    x: Result<CompiledExpr, AllocError>,
-    y: Result<CompiledExpr, AllocError>,
-) -> Result<(Box<CompiledExpr>, Box<CompiledExpr>), AllocError>
-    ensures { IfOk result (λ r. (x ≡ Ok r.0.value) × (y ≡ Ok r.1.value)) }
-{
-    let (x, y) = (boxed(alloc, x).ok(), boxed(alloc, y).ok());
-    x.zip(y).ok_or(AllocError)
-}
-
-/// The negation of a filter, if that was made.
-fn negated(alloc: Global, x: Result<CompiledExpr, AllocError>) -> Result<CompiledExpr, AllocError>
-    ensures { IfOk result (λ r. (c : made.CompiledExpr) × (x ≡ Ok c) × (compiled_of r ≡ negation (compiled_of c))) }
-{
-    let x = boxed(alloc, x)?;
-    Ok(CompiledExpr::Not(x))
 }
 
 #[inline(never)]

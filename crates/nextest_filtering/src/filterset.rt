@@ -18,8 +18,8 @@ ghost use Rattle.nextest_filtering.specs.Filters.{filter_of};
 ghost use Rattle.nextest_filtering.specs.Refusals.{IsRefusal};
 ghost use Rattle.nextest_filtering.specs.declared.refusals.FiltersetError.TheVariants as error;
 
-use crate::bans::push_bans;
-use crate::compiling::compile_expr;
+use crate::bans::bans_of;
+use crate::compiling::compiled_with_faults;
 use crate::parse_context::ParseContext;
 use crate::refusals::{FiltersetError, FiltersetParseErrors};
 use nextest_filter_evaluation::{CompiledExpr, EvalContext};
@@ -65,13 +65,11 @@ impl Filterset {
             Some(parsed) => parsed,
             None => return Err(refused(input, faults)),
         };
-        let mut bans = Vec::new(alloc);
-        push_bans(&parsed, kind, &mut bans)?;
+        let bans = bans_of(alloc, &parsed, kind)?;
         if !bans.is_empty() {
             return Err(refused(input, bans));
         }
-        let mut unmatched = Vec::new(alloc);
-        let compiled = compile_expr(alloc, &parsed, cx, known_groups, &mut unmatched)?;
+        let (compiled, unmatched) = compiled_with_faults(alloc, &parsed, cx, known_groups)?;
         if !unmatched.is_empty() {
             return Err(refused(input, unmatched));
         }

@@ -1,9 +1,8 @@
-use Rattle.std.proofs.Common.{◌∙◌, ◌++◌, ap, inl, inr, refl, sym, string_bytes}
+use Rattle.std.proofs.Common.{◌∙◌, inl, inr, refl, sym, string_bytes}
 use Rattle.std.proofs.lemmas.Str.{IsUtf8-string_bytes}
-use Rattle.nextest_filtering.specs.Acceptance.{bans}
 use Rattle.nextest_filtering.specs.Filters.{filter_of}
 use Rattle.nextest_filtering.proofs.AcceptFacts.{accepted, group_in_tests}
-use Rattle.nextest_filtering.proofs.ParseFacts.{added_alone, no_items, none_in, read_as, refused_by_bans, refused_by_names, some_in, unread_as}
+use Rattle.nextest_filtering.proofs.ParseFacts.{no_items, none_in, read_as, refused_by_bans, refused_by_names, some_in, unread_as}
 use Rattle.nextest_filtering.proofs.filterset.Filterset.parse.Goals as goal
 
 pub returns-then-not-is_empty-clause-refused : goal.returns-then-not-is_empty-clause-refused
@@ -20,32 +19,29 @@ pub returns-then-not-is_empty-2-clause-refused : goal.returns-then-not-is_empty-
 returns-then-not-is_empty-2-clause-refused c =
     let f = filter_of c.in-Some.parsed in
     let reads = read_as (string_bytes c.args.input) _ c.in_ok-tree.tree c.in-Some.parsed c.as_str.ensures.value c.in-Some.is (c.in_ok-tree.ensures.exact.0 (none_in _ _ c.is_empty.ensures c.if-not-is_empty.false)) in
-    rw c.refused-then-not-is_empty-2.ensures (refl, inr (refused_by_bans c.args.cx.now c.args.known_groups.now c.args.kind _ c.in-Some.parsed reads (rw c.in-Some.is at c.in_ok-tree.ensures.as_written) (IsUtf8-string_bytes c.args.input) c.args.input c.push_bans.new.errors (some_in _ _ c.is_empty-2.ensures c.if-not-is_empty-2.true) (c.in_ok-push_bans.ensures ∙ ap (λ xs. xs ++ bans c.args.kind f) c.new-bans.ensures.items)))
+    rw c.refused-then-not-is_empty-2.ensures (refl, inr (refused_by_bans c.args.cx.now c.args.known_groups.now c.args.kind _ c.in-Some.parsed reads (rw c.in-Some.is at c.in_ok-tree.ensures.as_written) (IsUtf8-string_bytes c.args.input) c.args.input c.in_ok-bans.bans (some_in _ _ c.is_empty-2.ensures c.if-not-is_empty-2.true) c.in_ok-bans.ensures))
 
-pub compile_expr-requires : goal.compile_expr-requires
-compile_expr-requires c =
+pub compiled_with_faults-requires : goal.compiled_with_faults-requires
+compiled_with_faults-requires c =
     let f = filter_of c.in-Some.parsed in
-    let v = c.push_bans.new.errors in
-    let none = ap (λ xs. xs ++ bans c.args.kind f) c.new-bans.ensures.items in
-    record { groups = λ g. c.requires.known (group_in_tests c.args.kind f (sym (c.in_ok-push_bans.ensures ∙ none) ∙ no_items v.items v.len v.ok.0 (none_in _ _ c.is_empty-2.ensures c.if-not-is_empty-2.false)) g) }
+    let v = c.in_ok-bans.bans in
+    record { groups = λ g. c.requires.known (group_in_tests c.args.kind f (sym c.in_ok-bans.ensures ∙ no_items v.items v.len v.ok.0 (none_in _ _ c.is_empty-2.ensures c.if-not-is_empty-2.false)) g) }
 
 pub returns-then-not-is_empty-3-clause-refused : goal.returns-then-not-is_empty-3-clause-refused
 returns-then-not-is_empty-3-clause-refused c =
     let f = filter_of c.in-Some.parsed in
-    let v = c.push_bans.new.errors in
-    let none = ap (λ xs. xs ++ bans c.args.kind f) c.new-bans.ensures.items in
-    let no_bans = sym (c.in_ok-push_bans.ensures ∙ none) ∙ no_items v.items v.len v.ok.0 (none_in _ _ c.is_empty-2.ensures c.if-not-is_empty-2.false) in
+    let v = c.in_ok-bans.bans in
+    let no_bans = sym c.in_ok-bans.ensures ∙ no_items v.items v.len v.ok.0 (none_in _ _ c.is_empty-2.ensures c.if-not-is_empty-2.false) in
     let reads = read_as (string_bytes c.args.input) _ c.in_ok-tree.tree c.in-Some.parsed c.as_str.ensures.value c.in-Some.is (c.in_ok-tree.ensures.exact.0 (none_in _ _ c.is_empty.ensures c.if-not-is_empty.false)) in
-    rw c.refused-then-not-is_empty-3.ensures (refl, inr (refused_by_names c.args.cx.now c.args.known_groups.now c.args.kind _ c.in-Some.parsed reads (rw c.in-Some.is at c.in_ok-tree.ensures.as_written) (IsUtf8-string_bytes c.args.input) c.args.input c.compile_expr.new.errors (some_in _ _ c.is_empty-3.ensures c.if-not-is_empty-3.true) no_bans (added_alone c.args.cx.now c.args.known_groups.now c.in-Some.parsed _ _ c.new-unmatched.ensures.items c.in_ok-compiled.ensures.faults)))
+    rw c.refused-then-not-is_empty-3.ensures (refl, inr (refused_by_names c.args.cx.now c.args.known_groups.now c.args.kind _ c.in-Some.parsed reads (rw c.in-Some.is at c.in_ok-tree.ensures.as_written) (IsUtf8-string_bytes c.args.input) c.args.input c.in_ok-compiled.unmatched (some_in _ _ c.is_empty-3.ensures c.if-not-is_empty-3.true) no_bans c.in_ok-compiled.ensures.faults))
 
 pub returns-clause-accepted : goal.returns-clause-accepted
 returns-clause-accepted c =
     let f = filter_of c.in-Some.parsed in
-    let v = c.push_bans.new.errors in
-    let w = c.compile_expr.new.errors in
-    let none = ap (λ xs. xs ++ bans c.args.kind f) c.new-bans.ensures.items in
-    let no_bans = sym (c.in_ok-push_bans.ensures ∙ none) ∙ no_items v.items v.len v.ok.0 (none_in _ _ c.is_empty-2.ensures c.if-not-is_empty-2.false) in
-    accepted c.args.cx.now c.args.known_groups.now c.args.kind f _ no_bans (added_alone c.args.cx.now c.args.known_groups.now c.in-Some.parsed _ _ c.new-unmatched.ensures.items c.in_ok-compiled.ensures.faults) (no_items w.items w.len w.ok.0 (none_in _ _ c.is_empty-3.ensures c.if-not-is_empty-3.false))
+    let v = c.in_ok-bans.bans in
+    let w = c.in_ok-compiled.unmatched in
+    let no_bans = sym c.in_ok-bans.ensures ∙ no_items v.items v.len v.ok.0 (none_in _ _ c.is_empty-2.ensures c.if-not-is_empty-2.false) in
+    accepted c.args.cx.now c.args.known_groups.now c.args.kind f _ no_bans c.in_ok-compiled.ensures.faults (no_items w.items w.len w.ok.0 (none_in _ _ c.is_empty-3.ensures c.if-not-is_empty-3.false))
 
 pub returns-clause-reads : goal.returns-clause-reads
 returns-clause-reads c =
