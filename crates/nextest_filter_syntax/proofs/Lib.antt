@@ -2,4 +2,4 @@ pub mod OperatorFacts
 pub mod GrammarFacts
 pub mod StepFacts
 pub mod SpanFacts
-pub mod TextFacts
+pub mod LevelFacts

@@ -2,6 +2,7 @@ pub mod Trees
 pub mod Turned
 pub mod AsWritten
 pub mod TreeTexts
+pub mod Levels
 pub mod Runtime
 pub mod Grammar
 pub mod Reading

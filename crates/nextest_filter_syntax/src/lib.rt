@@ -7,6 +7,7 @@ pub mod laws;
 mod parsed_expr;
 mod parsing;
 mod parts;
+mod printing;
 mod reading;
 mod reference;
 mod runtime_leaves;

@@ -152,32 +152,6 @@ impl<S> fmt::Display for ParsedExpr<S> {
     ghost output = { λ x. Some (tree_text (tree_of x)) };
 
     fn fmt<W: fmt::Write>(&self, f: &mut fmt::Formatter<W>) -> fmt::Result {
-        match self {
-            ParsedExpr::Not(op, x) => {
-                write!(f, "{op} ")?;
-                (**x).fmt(f)
-            }
-            ParsedExpr::Union(op, x, y) => {
-                (**x).fmt(f)?;
-                write!(f, " {op} ")?;
-                (**y).fmt(f)
-            }
-            ParsedExpr::Intersection(op, x, y) => {
-                (**x).fmt(f)?;
-                write!(f, " {op} ")?;
-                (**y).fmt(f)
-            }
-            ParsedExpr::Difference(op, x, y) => {
-                (**x).fmt(f)?;
-                write!(f, " {op} ")?;
-                (**y).fmt(f)
-            }
-            ParsedExpr::Parens(x) => {
-                f.write_str("(")?;
-                (**x).fmt(f)?;
-                f.write_str(")")
-            }
-            ParsedExpr::Set(leaf) => write!(f, "{leaf}"),
-        }
+        self.write_to(f)
     }
 }
