@@ -7,8 +7,9 @@ use Rattle.workspace_record.specs.Records.{Text}
 use Rattle.nextest_filter_queries.specs.NameTests.{NameTest, Suits}
 use Rattle.nextest_filter_evaluation.specs.Compiled.{Leaf}
 use Rattle.nextest_filter_evaluation.specs.Formulas.{Formula, negation, either, both}
-use Rattle.nextest_filter_readiness.specs.Searches.{HasAt}
-use Rattle.nextest_filter_readiness.specs.Ready.{AreSuited, IsReady, IsSuited, Question, SayAlike}
+use Rattle.nextest_filter_readiness.specs.Searches.{HasAt, searches}
+use Rattle.nextest_filter_readiness.specs.Ready.{AreSuited, IsReady, IsSuited, Question, SayAlike, ready_of, turned_over}
+use Rattle.nextest_filter_readiness.specs.declared.ready_expr.ReadyExpr.{ReadyExpr, Known, Not', Union', Intersection', Equal, Contains, Glob as OfGlob, Pattern, Groups}
 use Rattle.nextest_filter_readiness.specs.declared.ready_context.ReadyContext.{ReadyContext}
 
 pub iff_trans : {A B C : Type 0} → A ↔ B → B ↔ C → A ↔ C
@@ -40,7 +41,36 @@ has_behind front (x ∷ more) n e = (
 pub has_whole : (all xs : List Re) → all ≡ xs → HasAt all 0 xs
 has_whole all xs e = subst (λ ys. HasAt all 0 ys) e (has_behind [] all 0 refl)
 
+-- parts that say alike make wholes that do
+alike_over : (above : ReadyExpr) (f g : Formula Question) → SayAlike f g → SayAlike (turned_over above f) (turned_over above g)
+alike_over (Not' p x) f g fg =
+    alike_over x (negation f) (negation g) (λ patterns group name. let h = fg patterns group name in (λ n a. n (h.1 a), λ n a. n (h.0 a)))
+alike_over (Union' p x q y) f g fg =
+    alike_over x (either f (ready_of y)) (either g (ready_of y)) (λ patterns group name.
+    let h = fg patterns group name in
+    (λ s. elim s [ inl a ↦ inl (h.0 a) | inr b ↦ inr b ], λ s. elim s [ inl a ↦ inl (h.1 a) | inr b ↦ inr b ]))
+alike_over (Intersection' p x q y) f g fg =
+    alike_over x (both f (ready_of y)) (both g (ready_of y)) (λ patterns group name. let h = fg patterns group name in (λ s. (h.0 s.0, s.1), λ s. (h.1 s.0, s.1)))
+alike_over (Known value) f g fg = fg
+alike_over (Equal text) f g fg = fg
+alike_over (Contains text) f g fg = fg
+alike_over (OfGlob glob) f g fg = fg
+alike_over (Pattern place) f g fg = fg
+alike_over (Groups flags) f g fg = fg
+
+-- a part that says alike may stand for another
+pub turned_step : (above : ReadyExpr) (built part whole : Formula Question) → SayAlike built part → SayAlike (turned_over above part) whole → SayAlike (turned_over above built) whole
+turned_step above built part whole alike is patterns group name =
+    iff_trans (alike_over above built part alike patterns group name) (is patterns group name)
+
+pub alike_self : (f : Formula Question) → SayAlike f f
+alike_self f patterns group name = (λ h. h, λ h. h)
+
 module _ (cx : ReadyContext) where
+  pub ready_alike : (stand : List Re → Type 0) (f : Formula Leaf) (x r : Formula Question) → IsReady cx stand f x → SayAlike r x → IsReady cx stand f r
+  ready_alike stand f x r is alike patterns group name stands =
+      iff_trans (alike patterns group name) (is patterns group name stands)
+
   pub ready_not : (stand : List Re → Type 0) (f : Formula Leaf) (x r : Formula Question) → IsReady cx stand f x → SayAlike r (negation x) → IsReady cx stand (negation f) r
   ready_not stand f x r is alike patterns group name stands =
       let h = is patterns group name stands in
@@ -63,6 +93,10 @@ module _ (cx : ReadyContext) where
         let h = first patterns group name w.0 in
         let k = second patterns group name (subst (λ n. HasAt patterns n ys) (sym same) w.1) in
         iff_trans (alike patterns group name) (λ s. (h.0 s.0, k.0 s.1), λ s. (h.1 s.0, k.1 s.1))
+
+  -- where the searchers end tells where they begin
+  pub ready_from : (f : Formula Leaf) (r : Formula Question) (at start end : ℕ) → start + length (searches f) ≡ end → end ≡ at + length (searches f) → IsReady cx (λ all. HasAt all start (searches f)) f r → IsReady cx (λ all. HasAt all at (searches f)) f r
+  ready_from f r at start end ends is ready = subst (λ k. IsReady cx (λ all. HasAt all k (searches f)) f r) (omega (arith, ends, is)) ready
 
 -- the flag of a group is that of its name
 pub flag_suits : (test : NameTest) (names : List Text) (flags : List Bool) (group : ℕ) → AreSuited test names flags → (slice_get flags group ≡ Some true) ↔ IsSuited names group test

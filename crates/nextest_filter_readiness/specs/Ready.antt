@@ -36,6 +36,13 @@ ready_of (OfGlob glob) = leaf (SuitsGlob (tokens_of glob.now))
 ready_of (Pattern place) = leaf (HasPattern place)
 ready_of (Groups flags) = leaf (IsGrouped flags.items)
 
+-- the left side's operators, from the inside out, around a part
+abbrev pub turned_over : ReadyExpr → Formula Question → Formula Question
+turned_over (Not' p x) f = turned_over x (negation f)
+turned_over (Union' p x q y) f = turned_over x (either f (ready_of y))
+turned_over (Intersection' p x q y) f = turned_over x (both f (ready_of y))
+turned_over _ f = f
+
 -- the pattern at the place is found in the name
 abbrev pub IsFound : List Re → ℕ → Text → Type 0
 IsFound patterns place name = (p : Re) × (slice_get patterns place ≡ Some p) × IsTrue (is_some (find_str p name 0))

@@ -1,11 +1,10 @@
 //! Ready filters joined, where what is known of one may make the other needless.
 
-ghost use Rattle.std.specs.Prelude.{◌≡◌, Bool, IfNone, IfOk, IfSome};
+ghost use Rattle.std.specs.Prelude.{◌≡◌, Bool, IfNone, IfSome};
 ghost use Rattle.nextest_filter_evaluation.specs.Formulas.{both, either, leaf, negation};
 ghost use Rattle.nextest_filter_readiness.specs.Ready.{Answered, SayAlike, ready_of};
 
 use crate::ready_expr::ReadyExpr;
-use std::alloc::{AllocError, Global};
 
 impl<'f> ReadyExpr<'f> {
     /// Whether the filter holds of all tests of the binary or of none, if that is known.
@@ -20,88 +19,54 @@ impl<'f> ReadyExpr<'f> {
     }
 }
 
-pub(crate) fn not_of<'f>(alloc: Global, x: ReadyExpr<'f>) -> Result<ReadyExpr<'f>, AllocError>
-    ensures { IfOk result (λ r. SayAlike (ready_of r) (negation (ready_of x.entry))) }
+pub(crate) fn not_of<'f>(x: Box<ReadyExpr<'f>>) -> ReadyExpr<'f>
+    ensures { SayAlike (ready_of result) (negation (ready_of x.entry.value)) }
 {
     match x.known() {
         Some(value) => {
             drop(x);
-            Ok(ReadyExpr::Known(!value))
+            ReadyExpr::Known(!value)
         }
-        None => {
-            let x = Box::new(alloc, x)?;
-            Ok(ReadyExpr::Not(x))
-        }
+        None => ReadyExpr::Not(x),
     }
 }
 
-// Two filters, each in memory of its own.
-fn both_boxed<'f>(
-    alloc: Global,
-    x: ReadyExpr<'f>,
-    y: ReadyExpr<'f>,
-) -> Result<(Box<ReadyExpr<'f>>, Box<ReadyExpr<'f>>), AllocError>
-    ensures { IfOk result (λ r. (r.0.value ≡ x.entry) × (r.1.value ≡ y.entry)) }
-{
-    match Box::new(alloc, x) {
-        Ok(x) => Ok((x, Box::new(alloc, y)?)),
-        Err(refused) => {
-            drop(y);
-            Err(AllocError::from(refused))
-        }
-    }
-}
-
-pub(crate) fn either_of<'f>(
-    alloc: Global,
-    x: ReadyExpr<'f>,
-    y: ReadyExpr<'f>,
-) -> Result<ReadyExpr<'f>, AllocError>
-    ensures { IfOk result (λ r. SayAlike (ready_of r) (either (ready_of x.entry) (ready_of y.entry))) }
+pub(crate) fn either_of<'f>(x: Box<ReadyExpr<'f>>, y: Box<ReadyExpr<'f>>) -> ReadyExpr<'f>
+    ensures { SayAlike (ready_of result) (either (ready_of x.entry.value) (ready_of y.entry.value)) }
 {
     match (x.known(), y.known()) {
         (Some(true), _) | (_, Some(true)) => {
             drop((x, y));
-            Ok(ReadyExpr::Known(true))
+            ReadyExpr::Known(true)
         }
         (Some(false), _) => {
             drop(x);
-            Ok(y)
+            Box::into_inner(y)
         }
         (_, Some(false)) => {
             drop(y);
-            Ok(x)
+            Box::into_inner(x)
         }
-        (None, None) => {
-            let (x, y) = both_boxed(alloc, x, y)?;
-            Ok(ReadyExpr::Union(x, y))
-        }
+        (None, None) => ReadyExpr::Union(x, y),
     }
 }
 
-pub(crate) fn both_of<'f>(
-    alloc: Global,
-    x: ReadyExpr<'f>,
-    y: ReadyExpr<'f>,
-) -> Result<ReadyExpr<'f>, AllocError>
-    ensures { IfOk result (λ r. SayAlike (ready_of r) (both (ready_of x.entry) (ready_of y.entry))) }
+pub(crate) fn both_of<'f>(x: Box<ReadyExpr<'f>>, y: Box<ReadyExpr<'f>>) -> ReadyExpr<'f>
+    ensures { SayAlike (ready_of result) (both (ready_of x.entry.value) (ready_of y.entry.value)) }
 {
     match (x.known(), y.known()) {
         (Some(false), _) | (_, Some(false)) => {
             drop((x, y));
-            Ok(ReadyExpr::Known(false))
+            ReadyExpr::Known(false)
         }
         (Some(true), _) => {
             drop(x);
-            Ok(y)
+            Box::into_inner(y)
         }
         (_, Some(true)) => {
             drop(y);
-            Ok(x)
+            Box::into_inner(x)
         }
-        (None, None) => {
-            let (x, y) = both_boxed(alloc, x, y)?;
-            Ok(ReadyExpr::Intersection(x, y))
-        }
+        (None, None) => ReadyExpr::Intersection(x, y),
     }
 }

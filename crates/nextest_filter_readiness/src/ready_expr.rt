@@ -3,10 +3,12 @@
 ghost use Rattle.std.specs.Prelude.{◌≡◌, ◌↔◌, IsTrue, Some, map, slice_get, true};
 ghost use Rattle.regex.specs.Strings.{matcher_pattern};
 ghost use Rattle.nextest_filter_evaluation.specs.Formulas.{Holds};
-ghost use Rattle.nextest_filter_readiness.specs.Ready.{IsFound, Says, ready_of};
+ghost use Rattle.nextest_filter_readiness.specs.Ready.{IsFound, SayAlike, Says, ready_of, turned_over};
 
+use crate::joining::{both_of, either_of, not_of};
 use nextest_filter_matchers::GenericGlob;
 use regex::Matcher;
+use std::mem;
 
 /// A filter made ready for the tests of one binary.
 pub enum ReadyExpr<'f> {
@@ -81,6 +83,37 @@ impl<'f> ReadyExpr<'f> {
                 ReadyExpr::Glob(glob) => return glob.is_match(name) != negated,
                 ReadyExpr::Pattern(place) => return is_found(searchers, *place, name) != negated,
                 ReadyExpr::Groups(flags) => return is_set(flags, group) != negated,
+            }
+        }
+    }
+    /// The filter whose operators these are from the inside out, around what lies innermost.
+    pub(crate) fn turned_over(mut self, innermost: ReadyExpr<'f>) -> ReadyExpr<'f>
+        ensures { SayAlike (ready_of result) (turned_over self.entry (ready_of innermost.entry)) }
+    {
+        let mut built = innermost;
+        loop {
+            match self {
+                ReadyExpr::Not(mut x) => {
+                    self = mem::replace(&mut *x, built);
+                    built = not_of(x);
+                }
+                ReadyExpr::Union(mut x, y) => {
+                    self = mem::replace(&mut *x, built);
+                    built = either_of(x, y);
+                }
+                ReadyExpr::Intersection(mut x, y) => {
+                    self = mem::replace(&mut *x, built);
+                    built = both_of(x, y);
+                }
+                ReadyExpr::Known(_) => return built,
+                ReadyExpr::Equal(_) => return built,
+                ReadyExpr::Contains(_) => return built,
+                ReadyExpr::Glob(_) => return built,
+                ReadyExpr::Pattern(_) => return built,
+                ReadyExpr::Groups(flags) => {
+                    drop(flags);
+                    return built;
+                }
             }
         }
     }

@@ -1,13 +1,12 @@
 //! Compiled filters made ready for the tests of a binary.
 
-ghost use Rattle.std.specs.Prelude.{◌≡◌, ◌+◌, ◌<◌, ◌^◌, IfOk, IfSome, length, map};
+ghost use Rattle.std.specs.Prelude.{◌≡◌, ◌+◌, ◌<◌, ◌≤◌, ◌^◌, IfOk, IfSome, length, map};
 ghost use Rattle.nextest_filter_queries.specs.NameTests.{name_test};
 ghost use Rattle.nextest_filter_evaluation.specs.Compiled.{compiled_of, leaf_of};
 ghost use Rattle.nextest_filter_evaluation.specs.Formulas.{leaf as leaf_alone};
 ghost use Rattle.nextest_filter_readiness.specs.Ready.{AreSuited, AsksOf, IsReady, ready_of};
 ghost use Rattle.nextest_filter_readiness.specs.Searches.{HasAt, leaf_searches, pattern_in, searches};
 
-use crate::joining::{both_of, either_of, not_of};
 use crate::ready_context::ReadyContext;
 use crate::ready_expr::ReadyExpr;
 use nextest_filter_evaluation::{CompiledExpr, FiltersetLeaf};
@@ -41,35 +40,69 @@ pub(crate) fn reduced<'f>(
     ensures next { IfOk result (λ r. r.1 ≡ at + length (searches (compiled_of filter.entry.now))) }
     ensures ready { IfOk result (λ r. IsReady cx.now (λ all. HasAt all at (searches (compiled_of filter.entry.now))) (compiled_of filter.entry.now) (ready_of r.0)) }
 {
-    match filter {
-        CompiledExpr::Not(x) => {
-            let (x, next) = reduced(alloc, x, cx, at)?;
-            let ready = not_of(alloc, x)?;
-            Ok((ready, next))
-        }
-        CompiledExpr::Union(x, y) => {
-            let (x, next) = reduced(alloc, x, cx, at)?;
-            match reduced(alloc, y, cx, next) {
-                Ok((y, end)) => Ok((either_of(alloc, x, y)?, end)),
-                Err(refused) => {
-                    drop(x);
-                    Err(refused)
-                }
+    let end = at + searchers_count(filter);
+    let (ready, _) = reduced_before(alloc, filter, cx, end)?;
+    Ok((ready, end))
+}
+
+/// The same, where the filter's searchers end before a place, and the place of the first.
+fn reduced_before<'f>(
+    alloc: Global,
+    filter: &'f CompiledExpr,
+    cx: &ReadyContext<'_>,
+    end: usize,
+) -> Result<(ReadyExpr<'f>, usize), AllocError>
+    requires room { length (searches (compiled_of filter.now)) ≤ end }
+    ensures start { IfOk result (λ r. r.1 + length (searches (compiled_of filter.entry.now)) ≡ end) }
+    ensures ready { IfOk result (λ r. IsReady cx.now (λ all. HasAt all r.1 (searches (compiled_of filter.entry.now))) (compiled_of filter.entry.now) (ready_of r.0)) }
+{
+    let mut above = ReadyExpr::Known(true);
+    let mut before = end;
+    let mut rest = filter;
+    loop {
+        match rest {
+            CompiledExpr::Not(x) => {
+                above = ReadyExpr::Not(Box::new(alloc, above)?);
+                rest = x;
+            }
+            CompiledExpr::Union(x, y) => {
+                let (y, start) = reduced_before(alloc, y, cx, before)?;
+                let y = Box::new(alloc, y)?;
+                above = ReadyExpr::Union(Box::new(alloc, above)?, y);
+                before = start;
+                rest = x;
+            }
+            CompiledExpr::Intersection(x, y) => {
+                let (y, start) = reduced_before(alloc, y, cx, before)?;
+                let y = Box::new(alloc, y)?;
+                above = ReadyExpr::Intersection(Box::new(alloc, above)?, y);
+                before = start;
+                rest = x;
+            }
+            CompiledExpr::Set(leaf) => {
+                let start = before - search_count(leaf);
+                let ready = reduced_leaf(alloc, leaf, cx, start)?;
+                return Ok((above.turned_over(ready), start));
             }
         }
-        CompiledExpr::Intersection(x, y) => {
-            let (x, next) = reduced(alloc, x, cx, at)?;
-            match reduced(alloc, y, cx, next) {
-                Ok((y, end)) => Ok((both_of(alloc, x, y)?, end)),
-                Err(refused) => {
-                    drop(x);
-                    Err(refused)
-                }
+    }
+}
+
+/// How many searchers the filter has.
+fn searchers_count(filter: &CompiledExpr) -> usize
+    requires room { length (searches (compiled_of filter.now)) < 2 ^ 64 }
+    ensures { result ≡ length (searches (compiled_of filter.now)) }
+{
+    let mut count = 0;
+    let mut rest = filter;
+    loop {
+        match rest {
+            CompiledExpr::Not(x) => rest = x,
+            CompiledExpr::Union(x, y) | CompiledExpr::Intersection(x, y) => {
+                count += searchers_count(y);
+                rest = x;
             }
-        }
-        CompiledExpr::Set(leaf) => {
-            let ready = reduced_leaf(alloc, leaf, cx, at)?;
-            Ok((ready, at + search_count(leaf)))
+            CompiledExpr::Set(leaf) => return count + search_count(leaf),
         }
     }
 }
