@@ -3,6 +3,7 @@ pub mod Turned
 pub mod AsWritten
 pub mod TreeTexts
 pub mod Levels
+pub mod SameFilters
 pub mod Runtime
 pub mod Grammar
 pub mod Reading

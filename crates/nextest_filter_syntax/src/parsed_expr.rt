@@ -7,7 +7,7 @@ use std::alloc::{AllocError, Global};
 use std::{fmt, mem};
 
 /// A filter as it was written.
-#[derive(Debug, PartialEq, Eq)]
+#[derive(Debug)]
 pub enum ParsedExpr<S = SourceSpan> {
     Not(NotOperator, Box<ParsedExpr<S>>),
     Union(OrOperator, Box<ParsedExpr<S>>, Box<ParsedExpr<S>>),
@@ -33,6 +33,76 @@ impl<S: Drop> Drop for ParsedExpr<S> {
             }
         }
     }
+}
+
+/// Two filters are compared by a loop along their left sides, the operands on the right first.
+impl<S: PartialEq> PartialEq for ParsedExpr<S> {
+    ghost use Rattle.nextest_filter_syntax.specs.SameFilters.{same_filters, same_filters_alike};
+    ghost use Rattle.nextest_filter_faults.specs.contracts.operators.NotOperatorPartialEq.TheImpl.Laws as not_laws;
+    ghost use Rattle.nextest_filter_faults.specs.contracts.operators.OrOperatorPartialEq.TheImpl.Laws as or_laws;
+    ghost use Rattle.nextest_filter_faults.specs.contracts.operators.AndOperatorPartialEq.TheImpl.Laws as and_laws;
+    ghost use Rattle.nextest_filter_faults.specs.contracts.operators.DifferenceOperatorPartialEq.TheImpl.Laws as minus_laws;
+    ghost use Rattle.nextest_filter_leaves.specs.contracts.parsed_leaf.ParsedLeafPartialEq.TheImpl.Laws as leaf_laws;
+    ghost use Rattle.std.proofs.Common.{rules};
+
+    ghost eq = { same_filters ⟦<NotOperator as PartialEq>⟧.eq ⟦<OrOperator as PartialEq>⟧.eq ⟦<AndOperator as PartialEq>⟧.eq ⟦<DifferenceOperator as PartialEq>⟧.eq ⟦<ParsedLeaf<S> as PartialEq>⟧.eq };
+
+    ghost laws = { same_filters_alike ⟦<NotOperator as PartialEq>⟧.eq ⟦<OrOperator as PartialEq>⟧.eq ⟦<AndOperator as PartialEq>⟧.eq ⟦<DifferenceOperator as PartialEq>⟧.eq ⟦<ParsedLeaf<S> as PartialEq>⟧.eq not_laws.laws-law or_laws.laws-law and_laws.laws-law minus_laws.laws-law (Prim.search (leaf_laws.laws-law, rules)) };
+
+    fn eq(&self, other: &ParsedExpr<S>) -> bool {
+        let (mut rest, mut other) = (self, other);
+        loop {
+            match (rest, other) {
+                (ParsedExpr::Not(op, x), ParsedExpr::Not(other_op, other_x)) => {
+                    if op != other_op {
+                        return false;
+                    }
+                    (rest, other) = (x, other_x);
+                }
+                (ParsedExpr::Union(op, x, y), ParsedExpr::Union(other_op, other_x, other_y)) => {
+                    if op != other_op || y != other_y {
+                        return false;
+                    }
+                    (rest, other) = (x, other_x);
+                }
+                (
+                    ParsedExpr::Intersection(op, x, y),
+                    ParsedExpr::Intersection(other_op, other_x, other_y),
+                ) => {
+                    if op != other_op || y != other_y {
+                        return false;
+                    }
+                    (rest, other) = (x, other_x);
+                }
+                (
+                    ParsedExpr::Difference(op, x, y),
+                    ParsedExpr::Difference(other_op, other_x, other_y),
+                ) => {
+                    if op != other_op || y != other_y {
+                        return false;
+                    }
+                    (rest, other) = (x, other_x);
+                }
+                (ParsedExpr::Parens(x), ParsedExpr::Parens(other_x)) => (rest, other) = (
+                    x, other_x,
+                ),
+                (ParsedExpr::Set(leaf), ParsedExpr::Set(other_leaf)) => return leaf == other_leaf,
+                _ => return false,
+            }
+        }
+    }
+}
+
+impl<S: Eq> Eq for ParsedExpr<S> {
+    ghost use Rattle.nextest_filter_syntax.specs.SameFilters.{same_filters_equivalent};
+    ghost use Rattle.nextest_filter_faults.specs.contracts.operators.NotOperatorEq.TheImpl.Laws as not_laws;
+    ghost use Rattle.nextest_filter_faults.specs.contracts.operators.OrOperatorEq.TheImpl.Laws as or_laws;
+    ghost use Rattle.nextest_filter_faults.specs.contracts.operators.AndOperatorEq.TheImpl.Laws as and_laws;
+    ghost use Rattle.nextest_filter_faults.specs.contracts.operators.DifferenceOperatorEq.TheImpl.Laws as minus_laws;
+    ghost use Rattle.nextest_filter_leaves.specs.contracts.parsed_leaf.ParsedLeafEq.TheImpl.Laws as leaf_laws;
+    ghost use Rattle.std.proofs.Common.{rules};
+
+    ghost laws = { same_filters_equivalent ⟦<NotOperator as PartialEq>⟧.eq ⟦<OrOperator as PartialEq>⟧.eq ⟦<AndOperator as PartialEq>⟧.eq ⟦<DifferenceOperator as PartialEq>⟧.eq ⟦<ParsedLeaf<S> as PartialEq>⟧.eq not_laws.laws-law or_laws.laws-law and_laws.laws-law minus_laws.laws-law (Prim.search (leaf_laws.laws-law, rules)) };
 }
 
 impl<S: Copy> ParsedExpr<S> {
