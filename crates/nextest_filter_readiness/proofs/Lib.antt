@@ -1,3 +1,4 @@
 pub mod ReadyFacts
 pub mod ReducingFacts
+pub mod TurningFacts
 pub mod QuestionFacts

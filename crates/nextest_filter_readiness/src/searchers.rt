@@ -1,6 +1,6 @@
 //! The searchers of a filter: one for each pattern that is searched for in the names of tests.
 
-ghost use Rattle.std.specs.Prelude.{◌≡◌, ◌++◌, IfOk, OnOk, map};
+ghost use Rattle.std.specs.Prelude.{◌≡◌, ◌++◌, IfOk, OnOk, map, reverse};
 ghost use Rattle.regex.specs.Strings.{matcher_pattern};
 ghost use Rattle.nextest_filter_evaluation.specs.Compiled.{compiled_of, leaf_of};
 ghost use Rattle.nextest_filter_readiness.specs.Searches.{leaf_searches, searches};
@@ -29,13 +29,30 @@ pub(crate) fn push_searchers<'f>(
 ) -> Result<(), AllocError>
     ensures { OnOk result (map matcher_pattern searchers.new.items ≡ map matcher_pattern searchers.old.items ++ searches (compiled_of filter.entry.now)) }
 {
-    match filter {
-        CompiledExpr::Not(x) => push_searchers(alloc, x, searchers),
-        CompiledExpr::Union(x, y) | CompiledExpr::Intersection(x, y) => {
-            push_searchers(alloc, x, searchers)?;
-            push_searchers(alloc, y, searchers)
+    let from = searchers.len();
+    push_reversed(alloc, filter, searchers)?;
+    searchers[from..].reverse();
+    Ok(())
+}
+
+/// The same from right to left.
+fn push_reversed<'f>(
+    alloc: Global,
+    filter: &'f CompiledExpr,
+    searchers: &mut Vec<Matcher<'f>>,
+) -> Result<(), AllocError>
+    ensures { OnOk result (map matcher_pattern searchers.new.items ≡ map matcher_pattern searchers.old.items ++ reverse (searches (compiled_of filter.entry.now))) }
+{
+    let mut rest = filter;
+    loop {
+        match rest {
+            CompiledExpr::Not(x) => rest = x,
+            CompiledExpr::Union(x, y) | CompiledExpr::Intersection(x, y) => {
+                push_reversed(alloc, y, searchers)?;
+                rest = x;
+            }
+            CompiledExpr::Set(leaf) => return push_leaf_searchers(alloc, leaf, searchers),
         }
-        CompiledExpr::Set(leaf) => push_leaf_searchers(alloc, leaf, searchers),
     }
 }
 
