@@ -7,7 +7,7 @@ use std::alloc::{AllocError, Global};
 use std::mem;
 
 /// A filter with its names of packages looked up.
-#[derive(Debug, PartialEq, Eq)]
+#[derive(Debug)]
 pub enum CompiledExpr {
     Not(Box<CompiledExpr>),
     Union(Box<CompiledExpr>, Box<CompiledExpr>),
@@ -29,6 +29,46 @@ impl Drop for CompiledExpr {
             }
         }
     }
+}
+
+/// Two filters are compared by a loop along their left sides, the operands on the right first.
+impl PartialEq for CompiledExpr {
+    ghost use Rattle.nextest_filter_evaluation.specs.SameFilters.{same_filters, same_filters_alike};
+    ghost use Rattle.nextest_filter_evaluation.specs.contracts.filterset_leaf.FiltersetLeafPartialEq.TheImpl.Laws as leaf_laws;
+
+    ghost eq = { same_filters ⟦<FiltersetLeaf as PartialEq>⟧.eq };
+
+    ghost laws = { same_filters_alike ⟦<FiltersetLeaf as PartialEq>⟧.eq leaf_laws.laws-law };
+
+    fn eq(&self, other: &CompiledExpr) -> bool {
+        let (mut rest, mut other) = (self, other);
+        loop {
+            match (rest, other) {
+                (CompiledExpr::Not(x), CompiledExpr::Not(other_x)) => (rest, other) = (x, other_x),
+                (CompiledExpr::Union(x, y), CompiledExpr::Union(other_x, other_y))
+                | (
+                    CompiledExpr::Intersection(x, y),
+                    CompiledExpr::Intersection(other_x, other_y),
+                ) => {
+                    if y != other_y {
+                        return false;
+                    }
+                    (rest, other) = (x, other_x);
+                }
+                (CompiledExpr::Set(leaf), CompiledExpr::Set(other_leaf)) => {
+                    return leaf == other_leaf;
+                }
+                _ => return false,
+            }
+        }
+    }
+}
+
+impl Eq for CompiledExpr {
+    ghost use Rattle.nextest_filter_evaluation.specs.SameFilters.{same_filters_equivalent};
+    ghost use Rattle.nextest_filter_evaluation.specs.contracts.filterset_leaf.FiltersetLeafEq.TheImpl.Laws as leaf_laws;
+
+    ghost laws = { same_filters_equivalent ⟦<FiltersetLeaf as PartialEq>⟧.eq leaf_laws.laws-law };
 }
 
 impl CompiledExpr {
