@@ -100,7 +100,7 @@ module _ (w : Workspace) (bytes : HasByteTexts w) (cx : ContextValue) (of_cx : H
     not_refused : (text : Text) → IsAcceptedText dx groups k text → (faults : Vec ParseSingleError Global) → IsRefusedText cx others k text faults → syntax_faults faults.items ≡ 0
     not_refused text (f, h) faults (input, refusal) =
         ⊎_elim
-        (λ reading. reading.3.1 (tree_of h.of_text.parsed, h.of_text.reads))
+        (λ reading. reading.4.1 (tree_of h.of_text.parsed, h.of_text.reads))
         (λ (r : IsRefused cx others k text (record { input = input; errors = faults })).
         let alike = read_alike text h.of_text.parsed r.parsed h.of_text.reads r.reads h.of_text.as_written r.as_written in
         let of_plain = plain_names w cx of_cx in
