@@ -123,7 +123,7 @@ fn closure_shown_the_required_half_first(rt: HostRuntime) {
     assert!(rt; shown.iter().copied().eq(wanted.iter().copied()));
 }
 
-/// Asks how many features a closure that accepts all includes, with its looks counted.
+/// Asks that.
 #[derive(Drop)]
 struct Counted;
 
@@ -136,11 +136,12 @@ impl Question for Counted {
 
     fn ask<R: Abort>(&mut self, rt: &R, alloc: Global, data: &FeatureGraphData<'_>) -> usize {
         let query = query_of(rt, alloc, FeatureGraph::of(data));
-        counted::<Brand>(alloc, query, Blank::new(1)).expect(rt, "memory")
+        included_by_closure::<Brand>(alloc, query, Blank::new(1)).expect(rt, "memory")
     }
 }
 
-fn counted<L: Ledger>(
+/// How many features a closure that accepts all includes, with its looks counted.
+fn included_by_closure<L: Ledger>(
     alloc: Global,
     query: FeatureQuery<'_>,
     blank: Blank,
