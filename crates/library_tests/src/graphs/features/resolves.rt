@@ -123,7 +123,7 @@ fn closure_shown_the_required_half_first(rt: HostRuntime) {
     assert!(rt; shown.iter().copied().eq(wanted.iter().copied()));
 }
 
-/// Asks that.
+/// Asks how many features a resolve by a closure includes.
 #[derive(Drop)]
 struct Counted;
 
