@@ -78,8 +78,8 @@ impl Question for Kept {
     ghost can_ask = { λ _. ⊤ };
 
     fn ask<R: Abort>(&mut self, rt: &R, alloc: Global, data: &FeatureGraphData<'_>) -> [usize; 4] {
-        let [one, two, three] = ids_kept(rt, alloc, FeatureGraph::of(data));
-        let links = links_kept(rt, alloc, FeatureGraph::of(data));
+        let [one, two, three] = ids_kept(rt, alloc, FeatureGraph::of(&*data));
+        let links = links_kept(rt, alloc, FeatureGraph::of(&*data));
         [one.len(), two.len(), three.len(), links.len()]
     }
 }
