@@ -78,9 +78,9 @@ impl Question for Kept {
     ghost can_ask = { λ _. ⊤ };
 
     fn ask<R: Abort>(&mut self, rt: &R, alloc: Global, data: &FeatureGraphData<'_>) -> [usize; 4] {
-        let [one, two, three] = ids_kept(rt, alloc, FeatureGraph::of(&*data));
+        let ids = ids_kept(rt, alloc, FeatureGraph::of(&*data));
         let links = links_kept(rt, alloc, FeatureGraph::of(&*data));
-        [one.len(), two.len(), three.len(), links.len()]
+        [ids[0].len(), ids[1].len(), ids[2].len(), links.len()]
     }
 }
 
