@@ -136,8 +136,12 @@ impl Question for Counted {
 
     fn ask<R: Abort>(&mut self, rt: &R, alloc: Global, data: &FeatureGraphData<'_>) -> usize {
         let query = query_of(rt, alloc, FeatureGraph::of(data));
-        included_by_closure::<Brand>(alloc, query, Blank::new(1)).expect(rt, "memory")
+        included_with_looks(alloc, query).expect(rt, "memory")
     }
+}
+
+fn included_with_looks(alloc: Global, query: FeatureQuery<'_>) -> Result<usize, AllocError> {
+    included_by_closure::<Brand>(alloc, query, Blank::new(1))
 }
 
 /// How many features a closure that accepts all includes, with its looks counted.
