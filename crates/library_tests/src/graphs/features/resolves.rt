@@ -1,5 +1,3 @@
-ghost use Rattle.std.specs.Prelude.{◌≡◌, ◌<◌};
-
 use crate::graphs::features::graphs::{Question, answer_to, id_of};
 use crate::graphs::features::visitors::{Follows, FollowsOptional};
 use guppy_feature_graph::{
@@ -7,11 +5,8 @@ use guppy_feature_graph::{
     FeatureLinkVisitor, FeatureQuery, LinkDeclarations,
 };
 use guppy_package_graph::DependencyDirection;
-use numbered_graph::Looks;
-use std::alloc::{AllocError, Global};
-use std::marker::Brand;
+use std::alloc::Global;
 use std::process::Abort;
-use std::sync::ledger::{Blank, Ledger};
 
 /// From the feature `weak` of app, and from its dependency foo.
 fn query_of<'g>(rt: &impl Abort, alloc: Global, graph: FeatureGraph<'g>) -> FeatureQuery<'g> {
@@ -121,46 +116,4 @@ fn closure_shown_the_required_half_first(rt: HostRuntime) {
     let shown = answer_to(&rt, rt.alloc(), &mut Halves);
     let wanted = [LinkDeclarations::Required, LinkDeclarations::Optional];
     assert!(rt; shown.iter().copied().eq(wanted.iter().copied()));
-}
-
-/// Asks how many features a resolve by a closure includes.
-#[derive(Drop)]
-struct Counted;
-
-impl Question for Counted {
-    ghost use Rattle.std.specs.Prelude.{⊤};
-
-    type Answer = usize;
-
-    ghost can_ask = { λ _. ⊤ };
-
-    fn ask<R: Abort>(&mut self, rt: &R, alloc: Global, data: &FeatureGraphData<'_>) -> usize {
-        let query = query_of(rt, alloc, FeatureGraph::of(data));
-        included_with_looks(alloc, query).expect(rt, "memory")
-    }
-}
-
-fn included_with_looks(alloc: Global, query: FeatureQuery<'_>) -> Result<usize, AllocError> {
-    included_by_closure::<Brand>(alloc, query, Blank::new(1))
-}
-
-/// How many features a closure that accepts all includes, with its looks counted.
-fn included_by_closure<L: Ledger>(
-    alloc: Global,
-    query: FeatureQuery<'_>,
-    blank: Blank,
-) -> Result<usize, AllocError>
-    requires name { blank.name ≡ L.name }
-    requires parts { blank.parts ≡ L.parts }
-    requires some { 0 < blank.parts }
-{
-    let mut looks = Looks::<L>::new(blank);
-    let mut accepts = |_cx: &FeatureLinkContext<'_>, _link: ConditionalLink<'_>| -> bool { true };
-    let included = query.resolve_with_fn_counted(alloc, &mut accepts, &mut looks)?;
-    Ok(included.len())
-}
-
-#[test]
-fn counts_looks_of_a_closure(rt: HostRuntime) {
-    assert_eq!(rt; answer_to(&rt, rt.alloc(), &mut Counted), 5);
 }
