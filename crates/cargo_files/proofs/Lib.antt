@@ -1,3 +1,12 @@
-pub mod MadeFacts
+pub mod RunFacts
+pub mod ReadingFacts
 pub mod SpecFacts
+pub mod PrintedFacts
+pub mod TableFacts
+pub mod WordFacts
+pub mod MeaningFacts
+pub mod PartingFacts
+pub mod TerseFacts
+pub mod MadeFacts
+pub mod LinkSpecFacts
 pub mod SuiteFacts

@@ -6,8 +6,8 @@ use Rattle.workspace_record.specs.declared.choice.PlatformTable.{PlatformTable}
 use Rattle.record_files.specs.Files.{Reads}
 use Rattle.record_files.specs.Records.{record_file}
 use Rattle.record_writing.specs.Files.{ReadsAsTable}
-use Rattle.cargo_cfg.specs.Settings.{Setting}
-use Rattle.cargo_cfg.specs.TableAnswers.{IsAnswer, specs_of}
+use Rattle.cargo_files.specs.Settings.{Setting}
+use Rattle.cargo_files.specs.TableAnswers.{IsAnswer, specs_of}
 use Rattle.cargo_files.specs.Made.{IsTableFile}
 
 -- the file of a table for a record in a file

@@ -1,79 +1,65 @@
--- Links that have a spec.
-use Rattle.std.proofs.Common.{◌≡◌, ℕ, Bool, true, false, Ok, Option, Some, None, List, [], ◌∷◌, Contains, find, flat_map, string_bytes, ◌||◌, subst, refl, ⊎_elim}
-use Rattle.std.proofs.lemmas.Bool.{false≢true}
-use Rattle.std.specs.Cmp.Lexicographic.{bytes_decides}
-use Rattle.std.specs.List.{list_any}
-use Rattle.std.specs.Option.{IfSome}
-use Rattle.list_facts.proofs.Membership.{Contains-cons_cases, Contains-first, Contains-flat_map_cases, Contains-none, Contains-rest}
-use Rattle.list_facts.proofs.Quantifiers.{list_any-from_Contains}
-use Rattle.workspace_record.specs.Records.{Line, Link, Text, Workspace}
-use Rattle.record_files.specs.Files.{Reads}
-use Rattle.record_files.specs.Records.{record_file}
-use Rattle.cargo_cfg.specs.Specs.{IsSpec, Spec}
-use Rattle.cargo_cfg.specs.TableAnswers.{spec_in, specs_of}
-use Rattle.cargo_files.specs.Refused.{HasNoAnswer, RefusesLinks, RefusesTable, has_spec, is_spec}
-use Rattle.cargo_files.specs.declared.refusal.Refusal.{Refusal}
-use Rattle.cargo_files.specs.declared.refusal.Refusal.TheVariants as refusal
-use Rattle.cargo_files.specs.declared.refusal.SpecPlace.{SpecPlace}
+-- What an answer says of a spec.
+use Rattle.std.proofs.Common.{◌≡◌, Bool, true, false, ◌&&◌, ◌||◌, not, ◌↔◌, inl, inr, List, Result, Ok, Err, IfOk, IsOkAnd, IsTrue, refl, sym, subst, ◌∙◌}
+use Rattle.std.proofs.lemmas.Bool.{and_parts, or_cases, false≢true}
+use Rattle.workspace_record.specs.Records.{Text}
+use Rattle.cargo_files.specs.Settings.{Setting}
+use Rattle.cargo_files.specs.Expressions.{Cfg, CfgHolds, constant_of, name_of, pair_of, not_of, both_of, either_of, says}
+use Rattle.cargo_files.specs.Specs.{IsCfg, IsSpec, Spec, SpecHolds, cfg_spec, is_expression, triple_spec}
 
--- the first that passes is an element, and passes, where some element does
-pub record IsFound {X : Type 0} (p : X → Bool) (xs : List X) : Type 0 where
-  pub first : X
-  pub among : Contains xs first
-  pub passes : p first ≡ true
-  pub is : find p xs ≡ Some first
+not_true : (b : Bool) → (b ≡ true → ⊥) → not b ≡ true
+not_true true h = absurd (h refl)
+not_true false h = refl
 
-module _ {X : Type 0} (p : X → Bool) where
-  at_head : (x : X) (xs : List X) → p x ≡ true → IsFound p (x ∷ xs)
-  at_head x xs e = record { first = x; among = Contains-first x xs; passes = e; is = rw e refl }
+true_not : (b : Bool) → not b ≡ true → b ≡ true → ⊥
+true_not true h is = absurd (false≢true h)
+true_not false h is = absurd (false≢true is)
 
-  behind : (x : X) (xs : List X) → p x ≡ false → IsFound p xs → IsFound p (x ∷ xs)
-  behind x xs e f = record { first = f.first; among = Contains-rest x xs f.first f.among; passes = f.passes; is = rw e f.is }
+both_true : (a b : Bool) → a ≡ true → b ≡ true → (a && b) ≡ true
+both_true true b h i = i
+both_true false b h i = absurd (false≢true h)
 
-  by_first : (x : X) (xs : List X) (b : Bool) → p x ≡ b → (b || list_any p xs) ≡ true → (list_any p xs ≡ true → IsFound p xs) → IsFound p (x ∷ xs)
-  by_first x xs true e any rest = at_head x xs e
-  by_first x xs false e any rest = behind x xs e (rest any)
+first_true : (a b : Bool) → a ≡ true → (a || b) ≡ true
+first_true true b h = refl
+first_true false b h = absurd (false≢true h)
 
-  pub found : (xs : List X) → list_any p xs ≡ true → IsFound p xs
-  found [] none = absurd (false≢true none)
-  found (x ∷ xs) any = by_first x xs (p x) refl any (found xs)
+second_true : (a b : Bool) → b ≡ true → (a || b) ≡ true
+second_true true b h = refl
+second_true false b h = h
 
--- a spec of a line is among its specs
-is_in : (spec : Text) (line : Line) → Contains (spec_in line.spec) spec → is_spec spec line.spec ≡ true
-is_in spec line among = by line.spec among
-  where
-    by : (o : Option Text) → Contains (spec_in o) spec → is_spec spec o ≡ true
-    by None none = absurd (Contains-none spec none)
-    by (Some text) one = ⊎_elim (λ e. (bytes_decides text spec).1 e) (λ none. absurd (Contains-none spec none)) (Contains-cons_cases text [] spec one)
+mutual
+  said_holds : (settings : List Setting) (x : Cfg) → says settings x ≡ true → CfgHolds settings x
+  said_holds settings (constant_of b) h = h
+  said_holds settings (name_of name) h = h
+  said_holds settings (pair_of name value) h = h
+  said_holds settings (not_of x) h = λ holds. true_not (says settings x) h (holds_said settings x holds)
+  said_holds settings (both_of x y) h =
+      let parts = and_parts (says settings x) (says settings y) h in
+      (said_holds settings x parts.0, said_holds settings y parts.1)
+  said_holds settings (either_of x y) h =
+      elim (or_cases (says settings x) (says settings y) h) [ inl a ↦ inl (said_holds settings x a) | inr b ↦ inr (said_holds settings y b) ]
 
--- a link has each spec of all
-some_link : (links : List Link) (spec : Text) → Contains (specs_of links) spec → list_any (has_spec spec) links ≡ true
-some_link links spec among =
-    let of_link = Contains-flat_map_cases (λ link. flat_map (λ line. spec_in line.spec) link.lines) links spec among in
-    let of_line = Contains-flat_map_cases (λ line. spec_in line.spec) of_link.0.lines spec of_link.2 in
-    list_any-from_Contains (has_spec spec) links of_link.0 of_link.1 (list_any-from_Contains (λ line. is_spec spec line.spec) of_link.0.lines of_line.0 of_line.1 (is_in spec of_line.0 of_line.2))
+  holds_said : (settings : List Setting) (x : Cfg) → CfgHolds settings x → says settings x ≡ true
+  holds_said settings (constant_of b) h = h
+  holds_said settings (name_of name) h = h
+  holds_said settings (pair_of name value) h = h
+  holds_said settings (not_of x) h = not_true (says settings x) (λ e. h (said_holds settings x e))
+  holds_said settings (both_of x y) h =
+      both_true (says settings x) (says settings y) (holds_said settings x h.0) (holds_said settings y h.1)
+  holds_said settings (either_of x y) h =
+      elim h [ inl a ↦ first_true (says settings x) (says settings y) (holds_said settings x a) | inr b ↦ second_true (says settings x) (says settings y) (holds_said settings y b) ]
 
--- a spec that cannot be read is named with the first link that has it
-pub no_answer : (links : List Link) (place : SpecPlace) → Contains (specs_of links) (string_bytes place.spec) → ((s : Spec) → IsSpec (string_bytes place.spec) s → ⊥)
-    → IfSome (find (has_spec (string_bytes place.spec)) links) (λ l. (string_bytes place.owner ≡ l.from) × (string_bytes place.dependency ≡ l.name))
-    → HasNoAnswer links place
-no_answer links place among unread named =
-    let f = found (has_spec (string_bytes place.spec)) links (some_link links (string_bytes place.spec) among) in
-    let names = subst (λ o. IfSome o (λ l. (string_bytes place.owner ≡ l.from) × (string_bytes place.dependency ≡ l.name))) f.is named in
-    record { link = f.first; among = f.among; owner = names.0; dependency = names.1; has = f.passes; unread = unread }
+pub says_holds : (settings : List Setting) (x : Cfg) → IsTrue (says settings x) ↔ CfgHolds settings x
+says_holds settings x = (said_holds settings x, holds_said settings x)
 
--- what refuses the links of the record in a file refuses the file
-pub refuses_file : (file : List ℕ) (w : Workspace) (r : Refusal) → Reads record_file file (Ok w) → RefusesLinks w.links r → RefusesTable file r
-refuses_file file w (refusal.Spec place) reads none = (w, reads, none)
-refuses_file file w refusal.Memory reads none = tt
-refuses_file file w (refusal.Metadata e) reads none = absurd none
-refuses_file file w (refusal.Record e) reads none = absurd none
-refuses_file file w (refusal.Settings e) reads none = absurd none
-refuses_file file w (refusal.Choice e) reads none = absurd none
-refuses_file file w (refusal.File e) reads none = absurd none
-refuses_file file w refusal.NoJson reads none = absurd none
-refuses_file file w refusal.NoSuites reads none = absurd none
-refuses_file file w (refusal.NoList id) reads none = absurd none
-refuses_file file w (refusal.UnreadList id) reads none = absurd none
-refuses_file file w (refusal.StrayLine id place) reads none = absurd none
-refuses_file file w (refusal.Repeated id name) reads none = absurd none
+pub is_ok_so : {T E : Type 0} (r : Result T E) (P Q : T → Type 0) → ((x : T) → P x → Q x) → IsOkAnd r P → IsOkAnd r Q
+is_ok_so (Ok x) P Q f h = f x h
+is_ok_so (Err e) P Q f h = h
+
+pub if_ok_so : {T E : Type 0} (r : Result T E) (P Q : T → Type 0) → ((x : T) → P x → Q x) → IfOk r P → IfOk r Q
+if_ok_so (Ok x) P Q f h = f x h
+if_ok_so (Err e) P Q f h = h
+
+pub cfg_answers : {E : Type 0} (text triple : Text) (settings : List Setting) (r : Result Bool E) → is_expression text ≡ true → ((x : Cfg) → IsCfg text x → IsOkAnd r (λ b. b ≡ says settings x)) → (s : Spec) → IsSpec text s → IsOkAnd r (λ b. IsTrue b ↔ SpecHolds triple settings s)
+cfg_answers text triple settings r begins only (cfg_spec x) is =
+    is_ok_so r (λ b. b ≡ says settings x) (λ b. IsTrue b ↔ CfgHolds settings x) (λ b e. subst (λ v. IsTrue v ↔ CfgHolds settings x) (sym e) (says_holds settings x)) (only x is.1)
+cfg_answers text triple settings r begins only (triple_spec name) is = absurd (false≢true (sym is.0 ∙ begins))

@@ -6,7 +6,7 @@ use Rattle.list_facts.proofs.Lists.{map-take_more}
 use Rattle.list_facts.proofs.Membership.{Contains-append_cases, Contains-cons_cases, Contains-map, Contains-none}
 use Rattle.serde_json.specs.Data.{Data}
 use Rattle.workspace_record.specs.Records.{Text}
-use Rattle.cargo_listings.specs.Nextest.{suite_tests}
+use Rattle.cargo_files.specs.Nextest.{suite_tests}
 use Rattle.cargo_files.specs.Listed.{AreSuites, MayStand, suite_listing}
 use Rattle.cargo_files.specs.Refused.{RefusesSuites, RefusesTests}
 use Rattle.cargo_files.specs.declared.refusal.Refusal.{Refusal}

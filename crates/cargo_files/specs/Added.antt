@@ -2,7 +2,7 @@
 use Rattle.std.specs.Prelude.{◌≡◌, Bool, true, List, [], ◌∷◌, ◌++◌, map, Option, Some, None, bytes_eq, string_bytes}
 use Rattle.std.proofs.Common.{String, Vec, Global}
 use Rattle.workspace_record.specs.Records.{Text}
-use Rattle.package_rules.specs.Places.{first_repeat}
+use Rattle.guppy_package_rules.specs.Places.{first_repeat}
 
 -- a binary's id and the names of its tests
 abbrev pub listing : String Global × Vec (String Global) Global → Text × List Text

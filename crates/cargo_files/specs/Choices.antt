@@ -6,10 +6,10 @@ use Rattle.record_files.specs.Choices.{choice_file}
 use Rattle.record_files.specs.Files.{Reads}
 use Rattle.record_files.specs.Records.{record_file}
 use Rattle.record_writing.specs.Files.{as_named}
-use Rattle.cargo_choice.specs.Meaning.{AllMean, RefusesFirst, meant_by, standard_of}
-use Rattle.cargo_choice.specs.Parting.{AreWordsOf}
-use Rattle.cargo_choice.specs.declared.choosing.FeatureWords.{FeatureWords}
-use Rattle.cargo_choice.specs.declared.fault.ChoiceFault.{ChoiceFault}
+use Rattle.cargo_files.specs.Meaning.{AllMean, RefusesFirst, meant_by, standard_of}
+use Rattle.cargo_files.specs.Parting.{AreWordsOf}
+use Rattle.cargo_files.specs.declared.choosing.FeatureWords.{FeatureWords}
+use Rattle.cargo_files.specs.declared.choice_fault.ChoiceFault.{ChoiceFault}
 
 -- the words of the lists that are asked for
 abbrev pub AreAsked : FeatureWords → List Text → Type 0

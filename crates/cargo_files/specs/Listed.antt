@@ -7,12 +7,12 @@ use Rattle.serde_json.specs.Data.{Data}
 use Rattle.serde_json.specs.Find.{get}
 use Rattle.serde_json.specs.Read.{read}
 use Rattle.workspace_record.specs.Records.{Text, Workspace}
-use Rattle.package_rules.specs.Places.{first_repeat}
+use Rattle.guppy_package_rules.specs.Places.{first_repeat}
 use Rattle.record_files.specs.Files.{Reads}
 use Rattle.record_files.specs.Records.{record_file}
-use Rattle.record_rules.specs.Binaries.{binaries}
-use Rattle.cargo_listings.specs.Nextest.{suite_tests}
-use Rattle.cargo_listings.specs.Terse.{ListTests}
+use Rattle.test_select_rules.specs.Binaries.{binaries}
+use Rattle.cargo_files.specs.Nextest.{suite_tests}
+use Rattle.cargo_files.specs.Terse.{ListTests}
 
 -- the ids are those of the test binaries of the record in the file
 abbrev pub AreIdsIn : List ℕ → List Text → Type 0

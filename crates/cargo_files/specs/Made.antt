@@ -11,12 +11,12 @@ use Rattle.cargo_metadata.specs.Metadata.{Metadata, metadata_file}
 use Rattle.cargo_record.specs.Kept.{kept_row, owns_targets}
 use Rattle.cargo_record.specs.Lines.{AreLinesOf, line_rows, unlinked}
 use Rattle.cargo_record.specs.Members.{IsWorkspaceOf}
-use Rattle.cargo_record.specs.declared.members.Wanted.{Wanted}
-use Rattle.cargo_cfg.specs.Settings.{Setting}
-use Rattle.cargo_cfg.specs.TableAnswers.{IsAnswer, specs_of}
+use Rattle.cargo_record.specs.declared.members.RequestedMembers.{RequestedMembers}
+use Rattle.cargo_files.specs.Settings.{Setting}
+use Rattle.cargo_files.specs.TableAnswers.{IsAnswer, specs_of}
 
 -- the record has Cargo's packages, the members that are asked about, of which no target is left out, and a line for each dependency that was resolved
-pub record IsRecordOf (m : Metadata) (wanted : Wanted) (w : Workspace) : Type 0 where
+pub record IsRecordOf (m : Metadata) (wanted : RequestedMembers) (w : Workspace) : Type 0 where
   pub packages : w.packages ≡ map kept_row m.packages
   pub workspace : IsWorkspaceOf m wanted w.workspace
   pub lines : AreLinesOf (unlinked w) m (line_rows w.links)
@@ -25,7 +25,7 @@ pub record IsRecordOf (m : Metadata) (wanted : Wanted) (w : Workspace) : Type 0 
   pub default_filter : w.default_filter ≡ None
 
 -- the text is the file of such a record of what was printed, without metadata
-pub record IsRecordFile (printed : List ℕ) (wanted : Wanted) (text : Text) : Type 0 where
+pub record IsRecordFile (printed : List ℕ) (wanted : RequestedMembers) (text : Text) : Type 0 where
   pub metadata : Metadata
   pub tells : cargo.Reads metadata_file printed (Ok metadata)
   pub made : Workspace

@@ -7,19 +7,19 @@ use Rattle.serde_json.specs.Data.{Data}
 use Rattle.serde_json.specs.Find.{get}
 use Rattle.serde_json.specs.Read.{read}
 use Rattle.workspace_record.specs.Records.{Link, Text, Workspace}
-use Rattle.package_rules.specs.Places.{first_repeat}
+use Rattle.guppy_package_rules.specs.Places.{first_repeat}
 use Rattle.record_files.specs.Files.{Reads, ReadsFile}
 use Rattle.record_files.specs.Records.{record_file}
 use Rattle.record_files.specs.declared.error.ReadError.{ReadError}
-use Rattle.cargo_cfg.specs.Printed.{RefusesSettings}
-use Rattle.cargo_cfg.specs.Specs.{IsSpec, Spec}
-use Rattle.cargo_choice.specs.declared.choosing.FeatureWords.{FeatureWords}
+use Rattle.cargo_files.specs.Printed.{RefusesSettings}
+use Rattle.cargo_files.specs.Specs.{IsSpec, Spec}
+use Rattle.cargo_files.specs.declared.choosing.FeatureWords.{FeatureWords}
 use Rattle.cargo_metadata.specs.Files as cargo
 use Rattle.cargo_metadata.specs.Metadata.{Metadata, metadata_file}
 use Rattle.cargo_record.specs.Refused.{RefusesRecord}
-use Rattle.cargo_record.specs.declared.members.Wanted.{Wanted}
-use Rattle.cargo_listings.specs.Nextest.{suite_tests}
-use Rattle.cargo_listings.specs.Terse.{IsStray}
+use Rattle.cargo_record.specs.declared.members.RequestedMembers.{RequestedMembers}
+use Rattle.cargo_files.specs.Nextest.{suite_tests}
+use Rattle.cargo_files.specs.Terse.{IsStray}
 use Rattle.cargo_files.specs.Choices.{HasNoChoice}
 use Rattle.cargo_files.specs.Listed.{IsNextestList}
 use Rattle.cargo_files.specs.declared.refusal.Refusal.{Refusal}
@@ -28,7 +28,7 @@ use Rattle.cargo_files.specs.declared.refusal.Refusal.TheVariants.{Choice, File,
 use Rattle.cargo_files.specs.declared.refusal.SpecPlace.{SpecPlace}
 
 -- what was printed are no metadata, and the error says why, or no record is made of them
-abbrev pub RefusesMetadata : List ℕ → Wanted → Refusal → Type 0
+abbrev pub RefusesMetadata : List ℕ → RequestedMembers → Refusal → Type 0
 RefusesMetadata printed wanted (refusal.Metadata error) = cargo.ReadsFile {X = Metadata} (λ m. m) metadata_file printed (Err error)
 RefusesMetadata printed wanted (refusal.Record fault) = (m : Metadata) × cargo.Reads metadata_file printed (Ok m) × RefusesRecord m wanted fault
 RefusesMetadata printed wanted Memory = Unit {0}

@@ -2,25 +2,33 @@
 
 ghost use Rattle.std.specs.Prelude.{◌≡◌, IfErr, IfOk, IfSome, find, option_copied, option_map, string_bytes};
 ghost use Rattle.std.specs.List.{list_any};
-ghost use Rattle.cargo_cfg.specs.Printed.{AreSettings};
-ghost use Rattle.cargo_cfg.specs.TableAnswers.{IsRefusal, specs_of};
+ghost use Rattle.cargo_files.specs.Printed.{AreSettings};
+ghost use Rattle.cargo_files.specs.TableAnswers.{IsRefusal, specs_of};
 ghost use Rattle.cargo_files.specs.Choices.{IsChoiceFile, IsChoiceOf};
 ghost use Rattle.cargo_files.specs.Made.{IsRecordFile, IsTableFile};
 ghost use Rattle.cargo_files.specs.Refused.{RefusesChoice, RefusesLinks, RefusesMetadata, RefusesPlatform, RefusesTable, RefusesWords, has_spec, is_spec};
 
+use crate::cfg_table::{TableError, table_of};
+use crate::choosing::{FeatureWords, choice_of};
 use crate::refusal::{Refusal, SpecPlace};
-use cargo_cfg::{CfgSetting, TableError, read_settings, table_of};
-use cargo_choice::{FeatureWords, choice_of, feature_words};
+use crate::setting::CfgSetting;
+use crate::settings::read_settings;
+use crate::splitting::feature_words;
 use cargo_metadata::read_metadata;
-use cargo_record::{Wanted, record_of};
+use cargo_record::{RequestedMembers, record_of};
 use record_files::read_record;
 use record_writing::{choice_text, record_text, table_text};
 use std::alloc::{AllocError, Global};
 use workspace_record::{LineRecord, LinkRecord, WorkspaceRecord};
 
 /// The record of what `cargo metadata` printed, of which these members are asked about.
-pub fn record_file(alloc: Global, metadata: &[u8], wanted: Wanted<'_>) -> Result<String, Refusal>
-    ensures made { IfOk result (λ text. IsRecordFile metadata.now wanted.entry (string_bytes text)) }
+pub fn record_file(
+    alloc: Global,
+    metadata: &[u8],
+    wanted: RequestedMembers<'_>,
+) -> Result<String, Refusal>
+    ensures made { IfOk result (λ text. IsRecordFile metadata.now wanted.entry
+        (string_bytes text)) }
     ensures refused { IfErr result (RefusesMetadata metadata.now wanted.entry) }
 {
     let metadata = read_metadata(alloc, metadata)?;
@@ -52,7 +60,8 @@ pub fn table_file(
     triple: &str,
     settings: &[CfgSetting],
 ) -> Result<String, Refusal>
-    ensures made { IfOk result (λ text. IsTableFile «record».now triple.now settings.now (string_bytes text)) }
+    ensures made { IfOk result (λ text. IsTableFile «record».now triple.now settings.now
+        (string_bytes text)) }
     ensures refused { IfErr result (RefusesTable «record».now) }
 {
     let record = read_record(alloc, record)?;
@@ -96,7 +105,8 @@ fn names_with(
     links: &[LinkRecord],
     spec: &str,
 ) -> Result<(String, String), AllocError>
-    ensures { IfOk result (λ names. IfSome (find (has_spec spec.now) links.now) (λ l. (string_bytes names.0 ≡ l.from) × (string_bytes names.1 ≡ l.name))) }
+    ensures { IfOk result (λ names. IfSome (find (has_spec spec.now) links.now)
+        (λ l. (string_bytes names.0 ≡ l.from) × (string_bytes names.1 ≡ l.name))) }
 {
     match link_with(links, spec) {
         Some(link) => names_of(alloc, link),
@@ -105,7 +115,8 @@ fn names_with(
 }
 
 fn names_of(alloc: Global, link: &LinkRecord) -> Result<(String, String), AllocError>
-    ensures { IfOk result (λ names. (string_bytes names.0 ≡ link.now.from) × (string_bytes names.1 ≡ link.now.name)) }
+    ensures { IfOk result (λ names. (string_bytes names.0 ≡ link.now.from)
+        × (string_bytes names.1 ≡ link.now.name)) }
 {
     let from = String::from_str(alloc, link.from.as_str())?;
     let name = String::from_str(alloc, link.name.as_str())?;

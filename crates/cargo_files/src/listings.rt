@@ -2,25 +2,26 @@
 
 ghost use Rattle.std.specs.Prelude.{◌≡◌, ◌++◌, [], IfErr, IfOk, None, OnErr, OnOk, bytes_eq, false, get_or, map, option_map, string_bytes};
 ghost use Rattle.serde_json.specs.View.{view};
-ghost use Rattle.package_rules.specs.Places.{first_repeat};
-ghost use Rattle.record_rules.specs.Binaries.{binaries};
-ghost use Rattle.record_rules.specs.BinaryView.{binary_view};
+ghost use Rattle.guppy_package_rules.specs.Places.{first_repeat};
+ghost use Rattle.test_select_rules.specs.Binaries.{binaries};
+ghost use Rattle.test_select_rules.specs.BinaryView.{binary_view};
 ghost use Rattle.record_writing.specs.Files.{ReadAsListings};
-ghost use Rattle.cargo_listings.specs.Nextest.{suite_tests};
+ghost use Rattle.cargo_files.specs.Nextest.{suite_tests};
 ghost use Rattle.cargo_files.specs.Added.{IsAdded, listing};
 ghost use Rattle.cargo_files.specs.Listed.{AreIdsIn, AreListed, ArePrinted, AreSuites, HasSuites, MayStand, suite_listing};
 ghost use Rattle.cargo_files.specs.Refused.{NamesRepeated, RefusesFile, RefusesNextest, RefusesPrinted, RefusesSuites, RefusesTests};
 ghost use Rattle.cargo_files.specs.declared.refusal.Refusal.TheVariants.{Memory};
 
+use crate::nextest::nextest_tests;
 use crate::refusal::Refusal;
-use cargo_listings::{TerseFault, nextest_tests, terse_tests};
-use package_rules::distinct::first_repeated_text;
+use crate::terse::{TerseFault, terse_tests};
+use guppy_package_rules::distinct::first_repeated_text;
 use record_files::read_record;
-use record_rules::binaries::{TestBinary, binaries};
 use record_writing::listings_text;
 use serde_json::Value;
 use std::alloc::{AllocError, Global};
 use std::str;
+use test_select_rules::binaries::{TestBinary, binaries};
 use workspace_record::WorkspaceRecord;
 
 /// The tests of each binary, by its id.
@@ -36,14 +37,16 @@ pub fn binary_ids(alloc: Global, record: &[u8]) -> Result<Vec<String>, Refusal>
 }
 
 fn ids_of(alloc: Global, record: &WorkspaceRecord) -> Result<Vec<String>, AllocError>
-    ensures { IfOk result (λ v. map string_bytes v.items ≡ map (λ b. b.id) (binaries «record».now)) }
+    ensures { IfOk result (λ v. map string_bytes v.items
+        ≡ map (λ b. b.id) (binaries «record».now)) }
 {
     let all = binaries(alloc, record)?;
     ids_among(alloc, &all)
 }
 
 fn ids_among(alloc: Global, all: &[TestBinary<'_>]) -> Result<Vec<String>, AllocError>
-    ensures { IfOk result (λ v. map string_bytes v.items ≡ map (λ b. b.id) (map binary_view all.now)) }
+    ensures { IfOk result (λ v. map string_bytes v.items
+        ≡ map (λ b. b.id) (map binary_view all.now)) }
 {
     let mut ids = Vec::new(alloc);
     for binary in all {
@@ -61,8 +64,10 @@ pub fn add_listing(
     tests: Option<Vec<String>>,
     built: bool,
 ) -> Result<(), Refusal>
-    ensures added { OnOk result (IsAdded id.now (option_map (λ v. map string_bytes v.items) tests) built (map listing listings.old.items) (map listing listings.new.items)) }
-    ensures refused { IfErr result (RefusesTests id.now (option_map (λ v. map string_bytes v.items) tests) built) }
+    ensures added { OnOk result (IsAdded id.now (option_map (λ v. map string_bytes v.items) tests)
+        built (map listing listings.old.items) (map listing listings.new.items)) }
+    ensures refused { IfErr result (RefusesTests id.now
+        (option_map (λ v. map string_bytes v.items) tests) built) }
     ensures kept { OnErr result (listings.new.items ≡ listings.old.items) }
 {
     let Some(tests) = tests else {
@@ -113,7 +118,8 @@ pub fn nextest_listings(
     ids: &[String],
     built: bool,
 ) -> Result<Listings, Refusal>
-    ensures listed { IfOk result (λ v. AreListed printed.now (map string_bytes ids.now) built (map listing v.items)) }
+    ensures listed { IfOk result (λ v. AreListed printed.now (map string_bytes ids.now) built
+        (map listing v.items)) }
     ensures refused { IfErr result (RefusesNextest printed.now (map string_bytes ids.now) built) }
 {
     match Value::from_slice(alloc, printed) {
@@ -130,8 +136,10 @@ fn listed_by_nextest(
     built: bool,
 ) -> Result<Listings, Refusal>
     ensures suites { IfOk result (λ _. HasSuites (view list.now)) }
-    ensures listed { IfOk result (λ v. AreSuites (view list.now) (map string_bytes ids.now) built (map listing v.items)) }
-    ensures refused { IfErr result (RefusesSuites (view list.now) (map string_bytes ids.now) built) }
+    ensures listed { IfOk result (λ v. AreSuites (view list.now) (map string_bytes ids.now) built
+        (map listing v.items)) }
+    ensures refused { IfErr result (RefusesSuites (view list.now) (map string_bytes ids.now)
+        built) }
 {
     if list.get("rust-suites").is_none() {
         return Err(Refusal::NoSuites);
@@ -152,8 +160,10 @@ fn add_suite(
     built: bool,
 ) -> Result<(), Refusal>
     ensures stand { OnOk result (MayStand built (suite_tests (view list.now) id.now)) }
-    ensures added { OnOk result (map listing listings.new.items ≡ map listing listings.old.items ++ suite_listing (view list.now) id.now) }
-    ensures refused { IfErr result (RefusesTests id.now (suite_tests (view list.now) id.now) built) }
+    ensures added { OnOk result (map listing listings.new.items
+        ≡ map listing listings.old.items ++ suite_listing (view list.now) id.now) }
+    ensures refused { IfErr result (RefusesTests id.now (suite_tests (view list.now) id.now)
+        built) }
 {
     let tests = nextest_tests(alloc, list, id)?;
     add_listing(alloc, listings, id, tests, built)
@@ -198,7 +208,8 @@ fn repeated(alloc: Global, id: &str, name: &str) -> Result<Refusal, AllocError>
 
 /// The file of listings.
 pub fn listings_file(alloc: Global, listings: &Listings) -> Result<String, Refusal>
-    ensures reads { IfOk result (λ text. ReadAsListings (map listing listings.now.items) (string_bytes text)) }
+    ensures reads { IfOk result (λ text. ReadAsListings (map listing listings.now.items)
+        (string_bytes text)) }
     ensures memory { IfErr result (λ e. e ≡ Memory) }
 {
     Ok(listings_text(alloc, listings)?)

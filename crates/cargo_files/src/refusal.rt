@@ -1,7 +1,8 @@
 //! Why a file is refused, with the remedy.
 
-use cargo_cfg::{SettingsError, SpecFault};
-use cargo_choice::ChoiceFault;
+use crate::choice_fault::ChoiceFault;
+use crate::settings::SettingsError;
+use crate::spec_fault::SpecFault;
 use cargo_metadata::MetadataError;
 use cargo_record::RecordFault;
 use record_files::ReadError;

@@ -19,7 +19,8 @@ pub(crate) fn own_folder(
     source: &Option<String>,
     manifest_path: &str,
 ) -> Result<Option<String>, AllocError>
-    ensures { IfOk result (λ o. option_map string_bytes o ≡ spec.own_folder (option_map string_bytes source.now) manifest_path.now) }
+    ensures { IfOk result (λ o. option_map string_bytes o
+        ≡ spec.own_folder (option_map string_bytes source.now) manifest_path.now) }
 {
     match source {
         Some(_) => Ok(None),

@@ -1,5 +1,8 @@
 //! What `cargo metadata --format-version 1` prints of a workspace: its packages with the dependencies
 //! that they declare, what Cargo resolved these to, and the workspace's members.
+//!
+//! Begin with `metadata.rt`. Which key is wrong, and how it is told, is public; how an object is gone
+//! through is private.
 #![tactic(auto)]
 
 mod called;

@@ -69,7 +69,8 @@ pub(crate) fn flag_at(value: &Value, key: Key) -> Result<bool, MetadataError>
 }
 
 fn each_text(alloc: Global, values: &[Value]) -> Result<Option<Vec<String>>, AllocError>
-    ensures { IfOk result (λ o. option_map (λ v. map string_bytes v.items) o ≡ each_text (items_view values.now)) }
+    ensures { IfOk result (λ o. option_map (λ v. map string_bytes v.items) o
+        ≡ each_text (items_view values.now)) }
 {
     let mut texts = Vec::new(alloc);
     for value in values {
@@ -83,7 +84,8 @@ fn each_text(alloc: Global, values: &[Value]) -> Result<Option<Vec<String>>, All
 
 /// The texts of a list, if the value is one.
 pub(crate) fn as_texts(alloc: Global, value: &Value) -> Result<Option<Vec<String>>, AllocError>
-    ensures { IfOk result (λ o. option_map (λ v. map string_bytes v.items) o ≡ as_texts (view value.now)) }
+    ensures { IfOk result (λ o. option_map (λ v. map string_bytes v.items) o
+        ≡ as_texts (view value.now)) }
 {
     match value.as_array() {
         None => Ok(None),
@@ -125,7 +127,8 @@ pub(crate) fn optional_texts_at(
     value: &Value,
     key: Key,
 ) -> Result<Option<Vec<String>>, MetadataError>
-    ensures { Gives (option_map (λ v. map string_bytes v.items)) result (optional_texts_at key (view value.now)) }
+    ensures { Gives (option_map (λ v. map string_bytes v.items)) result
+        (optional_texts_at key (view value.now)) }
 {
     match given(value, key) {
         None => Ok(None),

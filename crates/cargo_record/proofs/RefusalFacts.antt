@@ -9,7 +9,7 @@ use Rattle.cargo_record.specs.Lines.{counts}
 use Rattle.cargo_record.specs.Refused.{AreRows, HasNoLine, RefusesLinks, RefusesMembers, RefusesOne, RefusesPackage, RefusesPackages, RefusesRecord}
 use Rattle.cargo_record.specs.declared.fault.RecordFault.{RecordFault}
 use Rattle.cargo_record.specs.declared.fault.RecordFault.TheVariants.{Ambiguous, ForeignFeature, Format, Memory, NoDependency, NoMember, NoNode, NoOptional, NoPackage, NoResolve}
-use Rattle.cargo_record.specs.declared.members.Wanted.{Wanted}
+use Rattle.cargo_record.specs.declared.members.RequestedMembers.{RequestedMembers}
 
 -- a dependency that has no line is refused among others
 pub one_refuses : (w : Workspace) (owner : Text) (entries : List Entry) (ds : List Declared) (d : Declared) (fault : RecordFault) → Contains ds d → counts w owner d ≡ true → HasNoLine w owner entries d fault → RefusesOne w owner entries ds fault
@@ -51,7 +51,7 @@ links_refuse w m nodes (ForeignFeature a b c) are refused = (nodes, are, refused
 links_refuse w m nodes Memory are refused = tt
 
 -- what refuses the links refuses the record
-pub record_refuses : (m : Metadata) (asked : Wanted) (w : Workspace) (fault : RecordFault) → AreRows m asked w → RefusesLinks w m fault → RefusesRecord m asked fault
+pub record_refuses : (m : Metadata) (asked : RequestedMembers) (w : Workspace) (fault : RecordFault) → AreRows m asked w → RefusesLinks w m fault → RefusesRecord m asked fault
 record_refuses m asked w Format rows refused = absurd (⊎_elim (λ t. t.1) (λ n. n.3.3) refused.2.2)
 record_refuses m asked w NoResolve rows refused = (w, rows, refused)
 record_refuses m asked w (NoNode a) rows refused = (w, rows, refused)
@@ -64,7 +64,7 @@ record_refuses m asked w (ForeignFeature a b c) rows refused = (w, rows, refused
 record_refuses m asked w Memory rows refused = tt
 
 -- and so does what refuses the members
-pub members_refuse : (m : Metadata) (asked : Wanted) (fault : RecordFault) → RefusesMembers m asked fault → RefusesRecord m asked fault
+pub members_refuse : (m : Metadata) (asked : RequestedMembers) (fault : RecordFault) → RefusesMembers m asked fault → RefusesRecord m asked fault
 members_refuse m asked Format refused = absurd refused
 members_refuse m asked NoResolve refused = absurd refused
 members_refuse m asked (NoNode a) refused = absurd refused

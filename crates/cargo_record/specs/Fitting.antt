@@ -3,7 +3,7 @@ use Rattle.std.specs.Prelude.{◌≡◌, ◌&&◌, Bool, true, false, not, List,
 use Rattle.std.specs.List.{list_any}
 use Rattle.workspace_record.specs.Kinds.{line_kind_index}
 use Rattle.workspace_record.specs.Records.{Text, Line, Package, Workspace}
-use Rattle.record_index.specs.Packages.{package_of}
+use Rattle.workspace_record.specs.Packages.{package_of}
 use Rattle.cargo_metadata.specs.Dependencies.{Declared}
 use Rattle.cargo_metadata.specs.Resolved.{Entry, Kind}
 use Rattle.cargo_record.specs.declared.fitting.Resolution.{Resolution}

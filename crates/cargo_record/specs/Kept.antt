@@ -2,7 +2,7 @@
 use Rattle.std.specs.Prelude.{Bool, ◌||◌, not, List, bytes_eq, filter}
 use Rattle.std.specs.List.{list_all, list_any}
 use Rattle.workspace_record.specs.Records.{Text, FeatureEntry, Target, Package, Workspace}
-use Rattle.record_index.specs.Packages.{is_member}
+use Rattle.workspace_record.specs.Packages.{is_member}
 use Rattle.cargo_metadata.specs.Packages.{Declaring}
 
 -- one of the features has this name

@@ -4,7 +4,7 @@ use Rattle.std.specs.List.{list_any}
 use Rattle.workspace_record.specs.Kinds.{line_kind_index}
 use Rattle.workspace_record.specs.Records.{Text, Line, Link, Workspace}
 use Rattle.workspace_record.specs.declared.kinds.LineKind.TheVariants.{Dev}
-use Rattle.record_index.specs.Packages.{is_member}
+use Rattle.workspace_record.specs.Packages.{is_member}
 use Rattle.cargo_metadata.specs.Dependencies.{Declared, name_of}
 use Rattle.cargo_metadata.specs.Metadata.{Metadata}
 use Rattle.cargo_metadata.specs.Packages.{Declaring}

@@ -6,8 +6,8 @@ use Rattle.workspace_record.specs.Records.{Text, Member, WorkspaceDetails}
 use Rattle.cargo_metadata.specs.Folders.{folder_of}
 use Rattle.cargo_metadata.specs.Metadata.{Metadata, Names}
 use Rattle.cargo_metadata.specs.Packages.{Declaring}
-use Rattle.cargo_record.specs.declared.members.Wanted.{Wanted}
-use Rattle.cargo_record.specs.declared.members.Wanted.TheVariants.{Default, Workspace, Named}
+use Rattle.cargo_record.specs.declared.members.RequestedMembers.{RequestedMembers}
+use Rattle.cargo_record.specs.declared.members.RequestedMembers.TheVariants.{Default, Workspace, Named}
 
 -- the package with this id: of several the first
 abbrev pub package_with : Metadata → Text → Option Declaring
@@ -23,17 +23,17 @@ is_default (Some ids) id = is_among ids id
 is_default None id = true
 
 -- with no option the default members are asked about, with `--workspace` all, with `-p` those with one of the names
-abbrev pub is_wanted : Wanted → Names → Text → Text → Bool
+abbrev pub is_wanted : RequestedMembers → Names → Text → Text → Bool
 is_wanted Workspace names id name = true
 is_wanted (Named all) names id name = list_any (λ other. bytes_eq other.now name) all.now
 is_wanted Default names id name = is_default names.default_members id
 
 -- the member with the id is asked about, by the name of its package
-abbrev pub is_asked : Metadata → Wanted → Text → Bool
+abbrev pub is_asked : Metadata → RequestedMembers → Text → Bool
 is_asked m wanted id = option_map_or (λ p. is_wanted wanted m.workspace id p.row.name) (package_with m id) false
 
 -- the members that are asked about, in the order of the workspace
-abbrev pub asked : Metadata → Wanted → List Text
+abbrev pub asked : Metadata → RequestedMembers → List Text
 asked m wanted = filter (is_asked m wanted) m.workspace.members
 
 -- a path without the slash at its head
@@ -67,13 +67,13 @@ abbrev pub is_member_name : Metadata → Text → Bool
 is_member_name m name = list_any (λ p. bytes_eq p.row.name name && is_among m.workspace.members p.row.id) m.packages
 
 -- each name that is asked for is a member's
-abbrev pub are_names : Metadata → Wanted → Bool
+abbrev pub are_names : Metadata → RequestedMembers → Bool
 are_names m (Named all) = list_all (λ name. is_member_name m name.now) all.now
 are_names m Workspace = true
 are_names m Default = true
 
 -- the workspace of the record: its folders, the members that are asked about, and the default members among these
-pub record IsWorkspaceOf (m : Metadata) (wanted : Wanted) (w : WorkspaceDetails) : Type 0 where
+pub record IsWorkspaceOf (m : Metadata) (wanted : RequestedMembers) (w : WorkspaceDetails) : Type 0 where
   pub root : w.root ≡ m.workspace.root
   pub target_directory : w.target_directory ≡ m.workspace.target_directory
   pub build_directory : w.build_directory ≡ m.workspace.build_directory

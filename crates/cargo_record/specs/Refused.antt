@@ -2,7 +2,7 @@
 use Rattle.std.specs.Prelude.{◌≡◌, ◌⊎◌, ℕ, Bool, true, false, List, [], map, Contains, Option, Some, None, bytes_eq, slice_get, string_bytes}
 use Rattle.std.specs.List.{list_any}
 use Rattle.workspace_record.specs.Records.{Target, Text, Workspace}
-use Rattle.record_index.specs.Packages.{is_member}
+use Rattle.workspace_record.specs.Packages.{is_member}
 use Rattle.cargo_metadata.specs.Dependencies.{Declared, name_of}
 use Rattle.cargo_metadata.specs.Metadata.{Metadata}
 use Rattle.cargo_metadata.specs.Packages.{Declaring}
@@ -13,17 +13,17 @@ use Rattle.cargo_record.specs.Lines.{counts}
 use Rattle.cargo_record.specs.Members.{IsWorkspaceOf, is_member_name, package_with}
 use Rattle.cargo_record.specs.declared.fault.RecordFault.{RecordFault}
 use Rattle.cargo_record.specs.declared.fault.RecordFault.TheVariants.{Ambiguous, ForeignFeature, Format, Memory, NoDependency, NoMember, NoNode, NoOptional, NoPackage, NoResolve}
-use Rattle.cargo_record.specs.declared.members.Wanted.{Wanted}
-use Rattle.cargo_record.specs.declared.members.Wanted.TheVariants as wanted
+use Rattle.cargo_record.specs.declared.members.RequestedMembers.{RequestedMembers}
+use Rattle.cargo_record.specs.declared.members.RequestedMembers.TheVariants as wanted
 
 -- the name is one of those that are asked for
-abbrev pub AsksFor : Wanted → Text → Type 0
+abbrev pub AsksFor : RequestedMembers → Text → Type 0
 AsksFor (wanted.Named all) name = Contains (map (λ t. t.now) all.now) name
 AsksFor wanted.Workspace name = ⊥
 AsksFor wanted.Default name = ⊥
 
 -- a name that is asked for is no member's, or a member is no package
-abbrev pub RefusesMembers : Metadata → Wanted → RecordFault → Type 0
+abbrev pub RefusesMembers : Metadata → RequestedMembers → RecordFault → Type 0
 RefusesMembers m asked (NoMember name) = AsksFor asked (string_bytes name) × (is_member_name m (string_bytes name) ≡ false)
 RefusesMembers m asked (NoPackage id) = Contains m.workspace.members (string_bytes id) × (package_with m (string_bytes id) ≡ None)
 RefusesMembers m asked Memory = Unit {0}
@@ -85,13 +85,13 @@ RefusesLinks w m Memory = Unit {0}
 RefusesLinks w m fault = (nodes : List Node) × (m.nodes ≡ Some nodes) × RefusesPackages w m.packages nodes fault
 
 -- the packages of the metadata, and the members that are asked about, without links
-pub record AreRows (m : Metadata) (asked : Wanted) (w : Workspace) : Type 0 where
+pub record AreRows (m : Metadata) (asked : RequestedMembers) (w : Workspace) : Type 0 where
   pub packages : w.packages ≡ map kept_row m.packages
   pub workspace : IsWorkspaceOf m asked w.workspace
   pub links : w.links ≡ []
 
 -- the format is another one, the members are refused, or the links of these packages
-abbrev pub RefusesRecord : Metadata → Wanted → RecordFault → Type 0
+abbrev pub RefusesRecord : Metadata → RequestedMembers → RecordFault → Type 0
 RefusesRecord m asked Format = m.format ≡ Some 1 → ⊥
 RefusesRecord m asked (NoMember name) = RefusesMembers m asked (NoMember name)
 RefusesRecord m asked (NoPackage id) = RefusesMembers m asked (NoPackage id)

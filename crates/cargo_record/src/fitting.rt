@@ -6,9 +6,8 @@ ghost use Rattle.cargo_record.specs.Fitting as spec;
 
 use crate::narrowing::meant;
 use cargo_metadata::{Dependency, ResolvedDependency, ResolvedKind};
-use record_index::RecordIndex;
 use std::alloc::{AllocError, Global};
-use workspace_record::LineRecord;
+use workspace_record::{LineRecord, RecordIndex};
 
 /// What a dependency was resolved to.
 #[derive(Clone, Copy)]
@@ -47,8 +46,10 @@ fn first_fitting<'a>(
     dependency: &Dependency,
     entries: &'a [ResolvedDependency],
 ) -> Option<&'a str>
-    ensures none { IfNone result (list_any (spec.fits index.now dependency.now) entries.entry.now ≡ false) }
-    ensures some { IfSome result (λ id. list_any (spec.fits_to index.now dependency.now id.now) entries.entry.now ≡ true) }
+    ensures none { IfNone result (list_any (spec.fits index.now dependency.now) entries.entry.now
+        ≡ false) }
+    ensures some { IfSome result (λ id. list_any (spec.fits_to index.now dependency.now id.now)
+        entries.entry.now ≡ true) }
 {
     for entry in entries {
         if fits(index, dependency, entry) {
@@ -157,7 +158,8 @@ fn is_kind(kind: &ResolvedKind, line: &LineRecord) -> bool
 }
 
 fn is_spec(first: &Option<String>, second: &Option<String>) -> bool
-    ensures { result ≡ spec.is_spec (option_map string_bytes first.now) (option_map string_bytes second.now) }
+    ensures { result ≡ spec.is_spec (option_map string_bytes first.now)
+        (option_map string_bytes second.now) }
 {
     match (first, second) {
         (Some(first), Some(second)) => first.as_str() == second.as_str(),

@@ -5,7 +5,7 @@ ghost use Rattle.std.specs.List.{list_all, list_any};
 ghost use Rattle.workspace_record.specs.Kinds.{line_kind_index};
 ghost use Rattle.workspace_record.specs.Records.{Target, Workspace};
 ghost use Rattle.workspace_record.specs.declared.kinds.LineKind.TheVariants as kind;
-ghost use Rattle.record_index.specs.Packages.{is_member};
+ghost use Rattle.workspace_record.specs.Packages.{is_member};
 ghost use Rattle.cargo_metadata.specs.Dependencies.{Declared, name_of};
 ghost use Rattle.cargo_metadata.specs.Packages.{Declaring};
 ghost use Rattle.cargo_metadata.specs.Resolved.{Entry};
@@ -19,9 +19,8 @@ use crate::fitting::{Resolution, resolved_to};
 use crate::members::copy_text;
 use crate::packages::foreign_feature;
 use cargo_metadata::{DeclaringPackage, Dependency, Metadata, ResolvedPackage};
-use record_index::RecordIndex;
 use std::alloc::{AllocError, Global};
-use workspace_record::{LineKind, LinkRecord, TargetRecord, WorkspaceRecord};
+use workspace_record::{LineKind, LinkRecord, RecordIndex, TargetRecord, WorkspaceRecord};
 
 /// The links of packages and members that stand in a record.
 pub(crate) fn links_of(
@@ -29,7 +28,8 @@ pub(crate) fn links_of(
     rows: &WorkspaceRecord,
     metadata: &Metadata,
 ) -> Result<Vec<LinkRecord>, RecordFault>
-    ensures lines { IfOk result (λ links. AreLinesOf rows.now metadata.now (line_rows links.items)) }
+    ensures lines { IfOk result (λ links. AreLinesOf rows.now metadata.now
+        (line_rows links.items)) }
     ensures own { IfOk result (λ _. list_all (owns_targets rows.now) metadata.now.packages ≡ true) }
     ensures refused { IfErr result (RefusesLinks rows.now metadata.now) }
 {
@@ -47,7 +47,8 @@ fn all_links(
     packages: &[DeclaringPackage],
     nodes: &[ResolvedPackage],
 ) -> Result<Vec<LinkRecord>, RecordFault>
-    ensures lines { IfOk result (λ links. AreLines index.now packages.now nodes.now (line_rows links.items)) }
+    ensures lines { IfOk result (λ links. AreLines index.now packages.now nodes.now
+        (line_rows links.items)) }
     ensures own { IfOk result (λ _. list_all (owns_targets index.now) packages.now ≡ true) }
     ensures refused { IfErr result (RefusesPackages index.now packages.now nodes.now) }
 {
@@ -67,8 +68,11 @@ fn node_at<'a>(
     place: usize,
     package: &DeclaringPackage,
 ) -> Result<&'a ResolvedPackage, RecordFault>
-    ensures node { IfOk result (λ n. Contains nodes.entry.now n.now × (n.now.id ≡ «package».now.row.id)) }
-    ensures refused { IfErr result (λ e. (w : Workspace) (packages : List Declaring) → slice_get packages place ≡ Some «package».now → RefusesPackages w packages nodes.entry.now e) }
+    ensures node { IfOk result (λ n. Contains nodes.entry.now n.now
+        × (n.now.id ≡ «package».now.row.id)) }
+    ensures refused { IfErr result (λ e. (w : Workspace) (packages : List Declaring)
+        → slice_get packages place ≡ Some «package».now
+        → RefusesPackages w packages nodes.entry.now e) }
 {
     let id = package.row.id.as_str();
     match nodes.get(place) {
@@ -84,7 +88,8 @@ fn check_targets(
     package: &DeclaringPackage,
 ) -> Result<(), RecordFault>
     ensures own { IfOk result (λ _. owns_targets index.now «package».now ≡ true) }
-    ensures refused { IfErr result (λ e. (is_member index.now «package».now.row.id ≡ true) × RefusesTargets «package».now e) }
+    ensures refused { IfErr result (λ e. (is_member index.now «package».now.row.id ≡ true)
+        × RefusesTargets «package».now e) }
 {
     if !index.is_member(id_of(package)) {
         return Ok(());
@@ -104,8 +109,10 @@ fn check_each_target(
     package: &DeclaringPackage,
     targets: &[TargetRecord],
 ) -> Result<(), RecordFault>
-    ensures own { IfOk result (λ _. list_all (requires_own «package».now.row.features) targets.now ≡ true) }
-    ensures refused { IfErr result (λ e. ((t : Target) → Contains targets.now t → Contains «package».now.row.targets t) → RefusesTargets «package».now e) }
+    ensures own { IfOk result (λ _. list_all (requires_own «package».now.row.features) targets.now
+        ≡ true) }
+    ensures refused { IfErr result (λ e. ((t : Target) → Contains targets.now t
+        → Contains «package».now.row.targets t) → RefusesTargets «package».now e) }
 {
     for target in targets {
         check_target(alloc, package, target)?;
@@ -119,7 +126,8 @@ fn check_target(
     target: &TargetRecord,
 ) -> Result<(), RecordFault>
     ensures own { IfOk result (λ _. requires_own «package».now.row.features target.now ≡ true) }
-    ensures refused { IfErr result (λ e. Contains «package».now.row.targets target.now → RefusesTargets «package».now e) }
+    ensures refused { IfErr result (λ e. Contains «package».now.row.targets target.now
+        → RefusesTargets «package».now e) }
 {
     match foreign_feature(&package.row.features, &target.required_features) {
         Some(feature) => Err(foreign(alloc, id_of(package), target, feature)?),
@@ -133,7 +141,9 @@ fn foreign(
     target: &TargetRecord,
     feature: &str,
 ) -> Result<RecordFault, AllocError>
-    ensures { IfOk result (λ e. (p : Declaring) → id.now ≡ p.row.id → Contains p.row.targets target.now → Contains target.now.required_features feature.now → is_feature p.row.features feature.now ≡ false → RefusesTargets p e) }
+    ensures { IfOk result (λ e. (p : Declaring) → id.now ≡ p.row.id
+        → Contains p.row.targets target.now → Contains target.now.required_features feature.now
+        → is_feature p.row.features feature.now ≡ false → RefusesTargets p e) }
 {
     let id = String::from_str(alloc, id)?;
     let name = String::from_str(alloc, target.name.as_str())?;
@@ -149,8 +159,10 @@ fn push_links(
     package: &DeclaringPackage,
     node: &ResolvedPackage,
 ) -> Result<(), RecordFault>
-    ensures taken { OnOk result (TakesUp index.now «package».now node.now «package».now.dependencies (line_rows links.old.items) (line_rows links.new.items)) }
-    ensures refused { IfErr result (RefusesOne index.now «package».now.row.id node.now.dependencies «package».now.dependencies) }
+    ensures taken { OnOk result (TakesUp index.now «package».now node.now «package».now.dependencies
+        (line_rows links.old.items) (line_rows links.new.items)) }
+    ensures refused { IfErr result (RefusesOne index.now «package».now.row.id node.now.dependencies
+        «package».now.dependencies) }
 {
     push_each(alloc, links, index, package, node, &package.dependencies)?;
     Ok(())
@@ -165,8 +177,10 @@ fn push_each(
     node: &ResolvedPackage,
     dependencies: &[Dependency],
 ) -> Result<(), RecordFault>
-    ensures taken { OnOk result (TakesUp index.now «package».now node.now dependencies.now (line_rows links.old.items) (line_rows links.new.items)) }
-    ensures refused { IfErr result (RefusesOne index.now «package».now.row.id node.now.dependencies dependencies.now) }
+    ensures taken { OnOk result (TakesUp index.now «package».now node.now dependencies.now
+        (line_rows links.old.items) (line_rows links.new.items)) }
+    ensures refused { IfErr result (RefusesOne index.now «package».now.row.id node.now.dependencies
+        dependencies.now) }
 {
     let start = links.len();
     for dependency in dependencies {
@@ -185,8 +199,10 @@ fn push_dependency(
     node: &ResolvedPackage,
     dependency: &Dependency,
 ) -> Result<(), RecordFault>
-    ensures taken { OnOk result (TakesUp index.now «package».now node.now (dependency.now ∷ []) (line_rows links.old.items) (line_rows links.new.items)) }
-    ensures refused { IfErr result (λ e. (counts index.now «package».now.row.id dependency.now ≡ true) × HasNoLine index.now «package».now.row.id node.now.dependencies dependency.now e) }
+    ensures taken { OnOk result (TakesUp index.now «package».now node.now (dependency.now ∷ [])
+        (line_rows links.old.items) (line_rows links.new.items)) }
+    ensures refused { IfErr result (λ e. (counts index.now «package».now.row.id dependency.now
+        ≡ true) × HasNoLine index.now «package».now.row.id node.now.dependencies dependency.now e) }
 {
     let id = id_of(package);
     if !counts(index, id, dependency) {
@@ -211,7 +227,8 @@ fn counts(index: &RecordIndex<'_>, id: &str, dependency: &Dependency) -> bool
 }
 
 fn is_for_development(dependency: &Dependency) -> bool
-    ensures { result ≡ nat_eq (line_kind_index dependency.now.line.kind) (line_kind_index kind.Dev) }
+    ensures { result ≡ nat_eq (line_kind_index dependency.now.line.kind)
+        (line_kind_index kind.Dev) }
 {
     dependency.line.kind == LineKind::Dev
 }
@@ -226,8 +243,11 @@ fn push_resolved(
     dependency: &Dependency,
     found: Resolution<'_>,
 ) -> Result<(), RecordFault>
-    ensures pushed { OnOk result (IsPushed index.now id.now dependency.now found.entry (line_rows links.old.items) (line_rows links.new.items)) }
-    ensures refused { IfErr result (λ e. (entries : List Entry) → IsResolution index.now dependency.now entries found.entry → HasNoLine index.now id.now entries dependency.now e) }
+    ensures pushed { OnOk result (IsPushed index.now id.now dependency.now found.entry
+        (line_rows links.old.items) (line_rows links.new.items)) }
+    ensures refused { IfErr result (λ e. (entries : List Entry)
+        → IsResolution index.now dependency.now entries found.entry
+        → HasNoLine index.now id.now entries dependency.now e) }
 {
     match found {
         Resolution::To(to) => Ok(push_line(alloc, links, start, id, to, dependency)?),
@@ -249,7 +269,8 @@ fn is_optional(dependency: &Dependency) -> bool
 }
 
 fn ambiguous(alloc: Global, id: &str, name: &str) -> RecordFault
-    ensures { (w : Workspace) (entries : List Entry) (d : Declared) → name.now ≡ name_of d → several_fit w d entries ≡ true → HasNoLine w id.now entries d result }
+    ensures { (w : Workspace) (entries : List Entry) (d : Declared) → name.now ≡ name_of d
+        → several_fit w d entries ≡ true → HasNoLine w id.now entries d result }
 {
     match copies(alloc, id, name) {
         Ok((id, name)) => RecordFault::Ambiguous(id, name),
@@ -258,7 +279,9 @@ fn ambiguous(alloc: Global, id: &str, name: &str) -> RecordFault
 }
 
 fn no_dependency(alloc: Global, id: &str, name: &str) -> RecordFault
-    ensures { (w : Workspace) (entries : List Entry) (d : Declared) → name.now ≡ name_of d → d.line.optional ≡ false → list_any (fits w d) entries ≡ false → HasNoLine w id.now entries d result }
+    ensures { (w : Workspace) (entries : List Entry) (d : Declared) → name.now ≡ name_of d
+        → d.line.optional ≡ false → list_any (fits w d) entries ≡ false
+        → HasNoLine w id.now entries d result }
 {
     match copies(alloc, id, name) {
         Ok((id, name)) => RecordFault::NoDependency(id, name),
@@ -267,7 +290,9 @@ fn no_dependency(alloc: Global, id: &str, name: &str) -> RecordFault
 }
 
 fn no_optional(alloc: Global, id: &str, name: &str) -> RecordFault
-    ensures { (w : Workspace) (entries : List Entry) (d : Declared) → name.now ≡ name_of d → d.line.optional ≡ true → is_member w id.now ≡ true → list_any (fits w d) entries ≡ false → HasNoLine w id.now entries d result }
+    ensures { (w : Workspace) (entries : List Entry) (d : Declared) → name.now ≡ name_of d
+        → d.line.optional ≡ true → is_member w id.now ≡ true → list_any (fits w d) entries ≡ false
+        → HasNoLine w id.now entries d result }
 {
     match copies(alloc, id, name) {
         Ok((id, name)) => RecordFault::NoOptional(id, name),
@@ -293,7 +318,8 @@ fn push_line(
     to: &str,
     dependency: &Dependency,
 ) -> Result<(), AllocError>
-    ensures { OnOk result (IsOneMore (line_rows links.old.items) (row_of from.now to.now dependency.now) (line_rows links.new.items)) }
+    ensures { OnOk result (IsOneMore (line_rows links.old.items)
+        (row_of from.now to.now dependency.now) (line_rows links.new.items)) }
 {
     match place_of(links, start, from, to, dependency.name()) {
         Some(place) => {

@@ -10,7 +10,7 @@ ghost use Rattle.cargo_record.specs.declared.fault.RecordFault.TheVariants.{Form
 
 use crate::fault::RecordFault;
 use crate::lines::links_of;
-use crate::members::{Wanted, workspace_of};
+use crate::members::{RequestedMembers, workspace_of};
 use crate::packages::kept_rows;
 use cargo_metadata::Metadata;
 use std::alloc::Global;
@@ -22,15 +22,17 @@ use workspace_record::{LinkRecord, PackageRecord, WorkspaceInfo, WorkspaceRecord
 pub fn record_of(
     alloc: Global,
     metadata: &Metadata,
-    wanted: Wanted<'_>,
+    wanted: RequestedMembers<'_>,
 ) -> Result<WorkspaceRecord, RecordFault>
     ensures packages { IfOk result (λ w. w.packages ≡ map spec.kept_row metadata.now.packages) }
     ensures workspace { IfOk result (λ w. IsWorkspaceOf metadata.now wanted.entry w.workspace) }
     ensures lines { IfOk result (λ w. AreLinesOf (unlinked w) metadata.now (line_rows w.links)) }
-    ensures own { IfOk result (λ w. list_all (spec.owns_targets (unlinked w)) metadata.now.packages ≡ true) }
+    ensures own { IfOk result (λ w. list_all (spec.owns_targets (unlinked w)) metadata.now.packages
+        ≡ true) }
     ensures rest { IfOk result (λ w. (w.groups ≡ []) × (w.default_filter ≡ None)) }
     ensures refused { IfErr result (RefusesRecord metadata.now wanted.entry) }
-    ensures askable { IfOk result (λ _. (metadata.now.format ≡ Some 1) × (are_names metadata.now wanted.entry ≡ true)) }
+    ensures askable { IfOk result (λ _. (metadata.now.format ≡ Some 1)
+        × (are_names metadata.now wanted.entry ≡ true)) }
 {
     check_format(metadata)?;
     let workspace = workspace_of(alloc, metadata, wanted)?;
@@ -76,9 +78,11 @@ fn with_links(
     requires { rows.links ≡ [] }
     ensures packages { IfOk result (λ w. w.packages ≡ rows.packages) }
     ensures workspace { IfOk result (λ w. w.workspace ≡ rows.workspace) }
-    ensures rest { IfOk result (λ w. (w.groups ≡ rows.groups) × (w.default_filter ≡ rows.default_filter)) }
+    ensures rest { IfOk result (λ w. (w.groups ≡ rows.groups)
+        × (w.default_filter ≡ rows.default_filter)) }
     ensures lines { IfOk result (λ w. AreLinesOf (unlinked w) metadata.now (line_rows w.links)) }
-    ensures own { IfOk result (λ w. list_all (spec.owns_targets (unlinked w)) metadata.now.packages ≡ true) }
+    ensures own { IfOk result (λ w. list_all (spec.owns_targets (unlinked w)) metadata.now.packages
+        ≡ true) }
     ensures refused { IfErr result (RefusesLinks rows metadata.now) }
 {
     let links = links_of(alloc, &rows, metadata)?;

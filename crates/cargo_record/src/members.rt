@@ -5,7 +5,7 @@ ghost use Rattle.std.specs.List.{list_all, list_any};
 ghost use Rattle.workspace_record.specs.Records.{Text};
 ghost use Rattle.cargo_record.specs.Members as spec;
 ghost use Rattle.cargo_record.specs.Refused.{AsksFor, RefusesMembers};
-ghost use Rattle.cargo_record.specs.declared.members.Wanted.{Wanted};
+ghost use Rattle.cargo_record.specs.declared.members.RequestedMembers.{RequestedMembers};
 
 use crate::fault::RecordFault;
 use cargo_metadata::{DeclaringPackage, Metadata, WorkspaceNames, folder_of};
@@ -14,7 +14,7 @@ use workspace_record::{MemberRecord, WorkspaceInfo};
 
 /// Which members are asked about, as Cargo chooses them.
 #[derive(Clone, Copy)]
-pub enum Wanted<'a> {
+pub enum RequestedMembers<'a> {
     /// The default members, or all where none are named.
     Default,
     /// All members.
@@ -27,7 +27,7 @@ pub enum Wanted<'a> {
 pub(crate) fn workspace_of(
     alloc: Global,
     metadata: &Metadata,
-    wanted: Wanted<'_>,
+    wanted: RequestedMembers<'_>,
 ) -> Result<WorkspaceInfo, RecordFault>
     ensures names { IfOk result (λ _. spec.are_names metadata.now wanted.entry ≡ true) }
     ensures is { IfOk result (λ w. spec.IsWorkspaceOf metadata.now wanted.entry w) }
@@ -53,7 +53,9 @@ fn workspace_named(
     ensures target_directory { IfOk result (λ w. w.target_directory ≡ names.now.target_directory) }
     ensures build_directory { IfOk result (λ w. w.build_directory ≡ names.now.build_directory) }
     ensures members { IfOk result (λ w. w.members ≡ members.items) }
-    ensures default_members { IfOk result (λ w. w.default_members ≡ filter (spec.is_among (spec.ids members.items)) (spec.named_defaults names.now.default_members)) }
+    ensures default_members { IfOk result (λ w. w.default_members
+        ≡ filter (spec.is_among (spec.ids members.items))
+        (spec.named_defaults names.now.default_members)) }
 {
     let default_members = default_members_of(alloc, &names.default_members, &members)?;
     let root = String::from_str(alloc, names.root.as_str())?;
@@ -82,11 +84,15 @@ pub(crate) fn copy_text(alloc: Global, text: &Option<String>) -> Result<Option<S
 fn members_of(
     alloc: Global,
     metadata: &Metadata,
-    wanted: Wanted<'_>,
+    wanted: RequestedMembers<'_>,
     ids: &[String],
 ) -> Result<Vec<MemberRecord>, RecordFault>
-    ensures members { IfOk result (λ v. v.items ≡ map (spec.member_with metadata.now) (filter (spec.is_asked metadata.now wanted.entry) (map string_bytes ids.now))) }
-    ensures refused { IfErr result (λ e. ((id : Text) → Contains (map string_bytes ids.now) id → Contains metadata.now.workspace.members id) → RefusesMembers metadata.now wanted.entry e) }
+    ensures members { IfOk result (λ v. v.items
+        ≡ map (spec.member_with metadata.now)
+        (filter (spec.is_asked metadata.now wanted.entry) (map string_bytes ids.now))) }
+    ensures refused { IfErr result (λ e. ((id : Text) → Contains (map string_bytes ids.now) id
+        → Contains metadata.now.workspace.members id)
+        → RefusesMembers metadata.now wanted.entry e) }
 {
     let mut members = Vec::new(alloc);
     for id in ids {
@@ -110,7 +116,9 @@ fn member_package<'a>(
     id: &str,
 ) -> Result<&'a DeclaringPackage, RecordFault>
     ensures package { IfOk result (λ p. spec.package_with metadata.entry.now id.now ≡ Some p.now) }
-    ensures refused { IfErr result (λ e. (asked : Wanted) → Contains metadata.entry.now.workspace.members id.now → RefusesMembers metadata.entry.now asked e) }
+    ensures refused { IfErr result (λ e. (asked : RequestedMembers)
+        → Contains metadata.entry.now.workspace.members id.now
+        → RefusesMembers metadata.entry.now asked e) }
 {
     match package_with(metadata, id) {
         Some(package) => Ok(package),
@@ -150,13 +158,13 @@ fn member_of(
 }
 
 /// Whether a member is asked about.
-fn is_wanted(wanted: Wanted<'_>, names: &WorkspaceNames, id: &str, name: &str) -> bool
+fn is_wanted(wanted: RequestedMembers<'_>, names: &WorkspaceNames, id: &str, name: &str) -> bool
     ensures { result ≡ spec.is_wanted wanted.entry names.now id.now name.now }
 {
     match wanted {
-        Wanted::Workspace => true,
-        Wanted::Named(all) => is_named(all, name),
-        Wanted::Default => is_default(&names.default_members, id),
+        RequestedMembers::Workspace => true,
+        RequestedMembers::Named(all) => is_named(all, name),
+        RequestedMembers::Default => is_default(&names.default_members, id),
     }
 }
 
@@ -167,7 +175,8 @@ fn is_named(all: &[&str], name: &str) -> bool
 }
 
 fn is_default(defaults: &Option<Vec<String>>, id: &str) -> bool
-    ensures { result ≡ spec.is_default (option_map (λ v. map string_bytes v.items) defaults.now) id.now }
+    ensures { result ≡ spec.is_default (option_map (λ v. map string_bytes v.items) defaults.now)
+        id.now }
 {
     match defaults {
         Some(ids) => is_among(ids, id),
@@ -212,7 +221,9 @@ fn default_members_of(
     defaults: &Option<Vec<String>>,
     members: &[MemberRecord],
 ) -> Result<Vec<String>, AllocError>
-    ensures { IfOk result (λ v. map string_bytes v.items ≡ filter (spec.is_among (spec.ids members.now)) (spec.named_defaults (option_map (λ w. map string_bytes w.items) defaults.now))) }
+    ensures { IfOk result (λ v. map string_bytes v.items
+        ≡ filter (spec.is_among (spec.ids members.now))
+        (spec.named_defaults (option_map (λ w. map string_bytes w.items) defaults.now))) }
 {
     match defaults {
         Some(ids) => ids_among(alloc, ids, members),
@@ -225,7 +236,8 @@ fn ids_among(
     ids: &[String],
     members: &[MemberRecord],
 ) -> Result<Vec<String>, AllocError>
-    ensures { IfOk result (λ v. map string_bytes v.items ≡ filter (spec.is_among (spec.ids members.now)) (map string_bytes ids.now)) }
+    ensures { IfOk result (λ v. map string_bytes v.items
+        ≡ filter (spec.is_among (spec.ids members.now)) (map string_bytes ids.now)) }
 {
     let mut found = Vec::new(alloc);
     for id in ids {
@@ -249,19 +261,26 @@ fn has_id(members: &[MemberRecord], id: &str) -> bool
 }
 
 /// Refuses a name that is asked for and that no member has.
-fn check_names(alloc: Global, metadata: &Metadata, wanted: Wanted<'_>) -> Result<(), RecordFault>
+fn check_names(
+    alloc: Global,
+    metadata: &Metadata,
+    wanted: RequestedMembers<'_>,
+) -> Result<(), RecordFault>
     ensures names { IfOk result (λ _. spec.are_names metadata.now wanted.entry ≡ true) }
     ensures refused { IfErr result (RefusesMembers metadata.now wanted.entry) }
 {
     match wanted {
-        Wanted::Named(names) => check_each(alloc, metadata, names),
+        RequestedMembers::Named(names) => check_each(alloc, metadata, names),
         _ => Ok(()),
     }
 }
 
 fn check_each(alloc: Global, metadata: &Metadata, names: &[&str]) -> Result<(), RecordFault>
-    ensures names { IfOk result (λ _. list_all (λ name. spec.is_member_name metadata.now name.now) names.now ≡ true) }
-    ensures refused { IfErr result (λ e. (asked : Wanted) → ((name : Text) → Contains (map (λ t. t.now) names.now) name → AsksFor asked name) → RefusesMembers metadata.now asked e) }
+    ensures names { IfOk result (λ _. list_all (λ name. spec.is_member_name metadata.now name.now)
+        names.now ≡ true) }
+    ensures refused { IfErr result (λ e. (asked : RequestedMembers)
+        → ((name : Text) → Contains (map (λ t. t.now) names.now) name → AsksFor asked name)
+        → RefusesMembers metadata.now asked e) }
 {
     match unknown_name(metadata, names) {
         Some(name) => Err(RecordFault::NoMember(String::from_str(alloc, name)?)),
@@ -271,8 +290,10 @@ fn check_each(alloc: Global, metadata: &Metadata, names: &[&str]) -> Result<(), 
 
 /// The first name that no member has.
 fn unknown_name<'a>(metadata: &Metadata, names: &[&'a str]) -> Option<&'a str>
-    ensures none { IfNone result (list_all (λ name. spec.is_member_name metadata.now name.now) names.entry.now ≡ true) }
-    ensures some { IfSome result (λ name. Contains (map (λ t. t.now) names.entry.now) name.now × (spec.is_member_name metadata.now name.now ≡ false)) }
+    ensures none { IfNone result (list_all (λ name. spec.is_member_name metadata.now name.now)
+        names.entry.now ≡ true) }
+    ensures some { IfSome result (λ name. Contains (map (λ t. t.now) names.entry.now) name.now
+        × (spec.is_member_name metadata.now name.now ≡ false)) }
 {
     for name in names {
         if !is_member_name(metadata, name) {
@@ -290,7 +311,8 @@ fn is_member_name(metadata: &Metadata, name: &str) -> bool
 }
 
 fn has_member_name(packages: &[DeclaringPackage], ids: &[String], name: &str) -> bool
-    ensures { result ≡ list_any (λ p. bytes_eq p.row.name name.now && spec.is_among (map string_bytes ids.now) p.row.id) packages.now }
+    ensures { result ≡ list_any (λ p. bytes_eq p.row.name name.now
+        && spec.is_among (map string_bytes ids.now) p.row.id) packages.now }
 {
     packages.iter().any(|package| {
         package.row.name.as_str() == name && is_among(ids, package.row.id.as_str())

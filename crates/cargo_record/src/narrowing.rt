@@ -1,10 +1,9 @@
 //! Which of several packages a dependency means.
 
 use cargo_metadata::{Dependency, ResolvedDependency};
-use record_index::RecordIndex;
 use semver::{Version, VersionReq};
 use std::alloc::{AllocError, Global};
-use workspace_record::PackageRecord;
+use workspace_record::{PackageRecord, RecordIndex};
 
 /// What a package has in common with the dependency that means it.
 #[derive(Clone, Copy)]

@@ -77,8 +77,10 @@ pub(crate) fn foreign_feature<'a>(
     features: &[FeatureRecord],
     required: &'a [String],
 ) -> Option<&'a str>
-    ensures none { IfNone result (list_all (spec.is_feature features.now) (map string_bytes required.entry.now) ≡ true) }
-    ensures some { IfSome result (λ name. Contains (map string_bytes required.entry.now) name.now × (spec.is_feature features.now name.now ≡ false)) }
+    ensures none { IfNone result (list_all (spec.is_feature features.now)
+        (map string_bytes required.entry.now) ≡ true) }
+    ensures some { IfSome result (λ name. Contains (map string_bytes required.entry.now) name.now
+        × (spec.is_feature features.now name.now ≡ false)) }
 {
     for name in required {
         if !is_feature(features, name.as_str()) {

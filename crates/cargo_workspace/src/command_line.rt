@@ -1,56 +1,15 @@
 //! The command line, as `clap` reads it.
 
-use clap::{Arg, ArgAction, Command};
-use std::alloc::{AllocError, Global};
+use test_select_files::{Program, Shape, Subcommand, Word};
 
-/// The program's command, with a subcommand for each conversion.
-pub(crate) fn command<'a>(alloc: Global) -> Result<Command<'a>, AllocError> {
-    let mut command = program(alloc)?;
-    for subcommand in &SUBCOMMANDS {
-        command = with_subcommand(command, subcommand.command(alloc))?;
-    }
-    Ok(command)
-}
-
-/// The command without its subcommands.
-fn program<'a>(alloc: Global) -> Result<Command<'a>, AllocError> {
-    let named = Command::new(alloc, "cargo_workspace").bin_name("cargo_workspace")?;
-    Ok(
-        named
-            .version("0.1.0")
-            .about("Makes the files that test_select reads of what Cargo and rustc print")
-            .after_help(STATUSES)
-            .subcommand_required(true)
-            .arg_required_else_help(true),
-    )
-}
-
-fn with_subcommand<'a>(
-    command: Command<'a>,
-    subcommand: Result<Command<'a>, AllocError>,
-) -> Result<Command<'a>, AllocError> {
-    command.subcommand(subcommand?)
-}
-
-/// A conversion: its name, what it does, its help, and the words that it takes.
-struct Subcommand {
-    name: &'static str,
-    about: &'static str,
-    help: &'static str,
-    words: &'static [Word],
-}
-
-impl Subcommand {
-    fn command<'a>(&self, alloc: Global) -> Result<Command<'a>, AllocError> {
-        let mut command = Command::new(alloc, self.name)
-            .about(self.about)
-            .after_help(self.help);
-        for word in self.words {
-            command = command.arg(word.argument(alloc))?;
-        }
-        Ok(command)
-    }
-}
+/// The program, with a subcommand for each conversion.
+pub(crate) const PROGRAM: Program = Program {
+    name: "cargo_workspace",
+    about: "Makes the files that test_select reads of what Cargo and rustc print",
+    help: STATUSES,
+    words: &[],
+    subcommands: &SUBCOMMANDS,
+};
 
 /// The subcommands, in the order of the help.
 const SUBCOMMANDS: [Subcommand; 4] = [
@@ -61,7 +20,7 @@ const SUBCOMMANDS: [Subcommand; 4] = [
         words: &[
             Word {
                 name: "package",
-                shape: Shape::Names,
+                shape: Shape::ShortOptions('p', "NAME"),
                 help: "A member that is asked about, by its name [default: the default members]",
             },
             Word {
@@ -71,7 +30,7 @@ const SUBCOMMANDS: [Subcommand; 4] = [
             },
             Word {
                 name: "metadata",
-                shape: Shape::File,
+                shape: Shape::Place("FILE"),
                 help: "What `cargo metadata --format-version 1 --all-features` printed",
             },
         ],
@@ -83,17 +42,17 @@ const SUBCOMMANDS: [Subcommand; 4] = [
         words: &[
             Word {
                 name: "triple",
-                shape: Shape::Option,
+                shape: Shape::Option("VALUE"),
                 help: "The name of the target, as `rustc -vV` prints it for the host",
             },
             Word {
                 name: "record",
-                shape: Shape::Option,
+                shape: Shape::Option("VALUE"),
                 help: "The record whose specs are answered",
             },
             Word {
                 name: "cfg",
-                shape: Shape::File,
+                shape: Shape::Place("FILE"),
                 help: "What `rustc --print cfg` printed for the target, with the flags of the build",
             },
         ],
@@ -105,12 +64,12 @@ const SUBCOMMANDS: [Subcommand; 4] = [
         words: &[
             Word {
                 name: "record",
-                shape: Shape::Option,
+                shape: Shape::Option("VALUE"),
                 help: "The record whose features are named",
             },
             Word {
                 name: "features",
-                shape: Shape::Lists,
+                shape: Shape::Options("FEATURES"),
                 help: "Features, as NAME or PACKAGE/NAME, parted by commas or blanks",
             },
             Word {
@@ -132,7 +91,7 @@ const SUBCOMMANDS: [Subcommand; 4] = [
         words: &[
             Word {
                 name: "record",
-                shape: Shape::Option,
+                shape: Shape::Option("VALUE"),
                 help: "The record whose binaries are listed",
             },
             Word {
@@ -147,62 +106,12 @@ const SUBCOMMANDS: [Subcommand; 4] = [
             },
             Word {
                 name: "lists",
-                shape: Shape::File,
+                shape: Shape::Place("FILE"),
                 help: "A folder with what each binary printed for `--list --format terse`",
             },
         ],
     },
 ];
-
-/// A word that a subcommand takes.
-#[derive(Clone, Copy)]
-struct Word {
-    name: &'static str,
-    shape: Shape,
-    help: &'static str,
-}
-
-/// How a word stands on the command line.
-#[derive(Clone, Copy)]
-enum Shape {
-    /// The name of a file, by its place.
-    File,
-    /// `--NAME VALUE`, once.
-    Option,
-    /// `--NAME`.
-    Flag,
-    /// `-p NAME`, several times.
-    Names,
-    /// `--NAME VALUE`, several times.
-    Lists,
-}
-
-impl Word {
-    fn argument<'a>(self, alloc: Global) -> Arg<'a> {
-        let named = Arg::new(alloc, self.name).help(self.help);
-        match self.shape {
-            Shape::File => named
-                .value_name("FILE")
-                .required(true)
-                .action(ArgAction::Set),
-            Shape::Option => named
-                .long(self.name)
-                .value_name("VALUE")
-                .required(true)
-                .action(ArgAction::Set),
-            Shape::Flag => named.long(self.name).action(ArgAction::SetTrue),
-            Shape::Names => named
-                .long(self.name)
-                .short('p')
-                .value_name("NAME")
-                .action(ArgAction::Append),
-            Shape::Lists => named
-                .long(self.name)
-                .value_name("FEATURES")
-                .action(ArgAction::Append),
-        }
-    }
-}
 
 const RECORD_HELP: &str =
     "Output: the record, as JSON. It has all packages, and a line for each dependency that Cargo

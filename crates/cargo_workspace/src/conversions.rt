@@ -2,17 +2,17 @@
 
 use crate::failure::Failure;
 use crate::lists::folder_listings;
-use cargo_choice::FeatureWords;
 use cargo_files::{
-    Refusal, RefusedFile, binary_ids, choice_file, listings_file, nextest_listings, record_file,
-    settings_file, table_file,
+    FeatureWords, Refusal, RefusedFile, binary_ids, choice_file, listings_file, nextest_listings,
+    record_file, settings_file, table_file,
 };
-use cargo_record::Wanted;
+use cargo_record::RequestedMembers;
 use clap::ArgMatches;
 use std::alloc::AllocGlobal;
 use std::fs;
 use std::io::ErrorKind;
 use std::rt::Files;
+use test_select_files::required;
 
 /// The text that the command line asks for. `clap` takes no command line without a command.
 pub(crate) fn converted<'a, R: Files + AllocGlobal>(
@@ -38,11 +38,11 @@ fn record_made<'a, R: Files + AllocGlobal>(
 }
 
 /// The members that the command line asks about.
-fn wanted_in<'m, 'a: 'm>(asked: &'m ArgMatches<'a>) -> Wanted<'m> {
+fn wanted_in<'m, 'a: 'm>(asked: &'m ArgMatches<'a>) -> RequestedMembers<'m> {
     match asked.get_strs("package") {
-        Some(names) => Wanted::Named(names),
-        None if asked.get_flag("workspace") => Wanted::Workspace,
-        None => Wanted::Default,
+        Some(names) => RequestedMembers::Named(names),
+        None if asked.get_flag("workspace") => RequestedMembers::Workspace,
+        None => RequestedMembers::Default,
     }
 }
 
@@ -92,11 +92,6 @@ fn listings_made<'a, R: Files + AllocGlobal>(
         accepted(lists, folder_listings(rt, lists, &ids, built))?
     };
     accepted(lists, listings_file(rt.alloc(), &listings))
-}
-
-/// The value of a required word, without which `clap` takes no command line.
-fn required<'a>(asked: &ArgMatches<'a>, name: &str) -> &'a str {
-    asked.get_str(name).unwrap_or("")
 }
 
 fn bytes_in<'a, R: Files + AllocGlobal>(rt: &R, name: &'a str) -> Result<Vec<u8>, Failure<'a>> {

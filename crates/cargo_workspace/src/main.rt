@@ -1,5 +1,7 @@
 //! The program `cargo_workspace`: makes the files that `test_select` reads of what Cargo, rustc and
 //! test binaries print.
+//!
+//! Begin with `main.rt`; all that it makes stands in `cargo_files`.
 #![tactic(auto)]
 
 mod command_line;
@@ -7,36 +9,20 @@ mod conversions;
 mod failure;
 mod lists;
 
-use crate::command_line::command;
+use crate::command_line::PROGRAM;
 use crate::conversions::converted;
 use crate::failure::Failure;
-use std::alloc::{AllocGlobal, Global};
-use std::io::{self, ErrorKind, Write};
+use std::alloc::AllocGlobal;
+use std::io::{self, Write};
 use std::process::ExitCode;
+use test_select_files::{exit_code, words};
 
 fn main(rt: HostRuntime) -> ExitCode {
-    match words(&rt) {
-        Ok(words) => ExitCode::from(run_on(&rt, &words)),
-        Err(error) if error.kind() == ErrorKind::OutOfMemory => {
-            let _ = eprintln!(rt; "out of memory");
-            ExitCode::from(1)
-        }
-        Err(_) => {
-            let _ = eprintln!(rt; "error: a word of the command line is not UTF-8");
-            ExitCode::from(2)
-        }
-    }
+    exit_code(&rt, run(&rt))
 }
 
-/// The words of the command line, the program's name first.
-fn words(rt: &HostRuntime) -> io::Result<Vec<String>> {
-    let mut words = Vec::new(rt.alloc());
-    for word in std::env::args(rt)? {
-        if words.push(word).is_err() {
-            return Err(io::Error::from(ErrorKind::OutOfMemory));
-        }
-    }
-    Ok(words)
+fn run(rt: &HostRuntime) -> io::Result<u8> {
+    Ok(run_on(rt, &words(rt)?))
 }
 
 /// Runs the program, and answers its status.
@@ -57,7 +43,7 @@ fn try_run<'a, O: Write>(
     words: &'a [String],
     out: &mut O,
 ) -> Result<(), Failure<'a>> {
-    match command(rt.alloc())?.try_get_matches_from(words) {
+    match PROGRAM.command(rt.alloc())?.try_get_matches_from(words) {
         Ok(matches) => {
             let text = converted(rt, &matches)?;
             writeln!(out, "{text}")?;

@@ -1,44 +1,27 @@
 //! The program `check_account`: judges the account of what is on, or the explanation of a feature, by
 //! the rules of a record alone. It stands on no graph and on no search.
+//!
+//! Begin with `main.rt`; what it judges by is `feature_account`.
 #![tactic(auto)]
 
 mod command_line;
 mod program;
 
 use crate::program::run;
-use question_files::SystemFiles;
 use std::alloc::AllocGlobal;
-use std::io::{self, ErrorKind};
+use std::io;
 use std::process::ExitCode;
+use test_select_files::{SystemFiles, exit_code, words};
 
 fn main(rt: HostRuntime) -> ExitCode {
-    match words(&rt) {
-        Ok(words) => ExitCode::from(run_on(&rt, &words)),
-        Err(error) if error.kind() == ErrorKind::OutOfMemory => {
-            let _ = eprintln!(rt; "out of memory");
-            ExitCode::from(1)
-        }
-        Err(_) => {
-            let _ = eprintln!(rt; "error: a word of the command line is not UTF-8");
-            ExitCode::from(2)
-        }
-    }
+    exit_code(&rt, run_on(&rt))
 }
 
-/// The words of the command line, the program's name first.
-fn words(rt: &HostRuntime) -> io::Result<Vec<String>> {
-    let mut words = Vec::new(rt.alloc());
-    for word in std::env::args(rt)? {
-        if words.push(word).is_err() {
-            return Err(io::Error::from(ErrorKind::OutOfMemory));
-        }
-    }
-    Ok(words)
-}
-
-fn run_on(rt: &HostRuntime, words: &[String]) -> u8 {
+/// Runs the program on the words of the command line.
+fn run_on(rt: &HostRuntime) -> io::Result<u8> {
+    let words = words(rt)?;
     let mut files = SystemFiles { rt };
     let mut out = rt.stdout();
     let mut err = rt.stderr();
-    run(rt.alloc(), words, &mut files, &mut out, &mut err)
+    Ok(run(rt.alloc(), &words, &mut files, &mut out, &mut err))
 }

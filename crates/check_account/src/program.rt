@@ -1,13 +1,13 @@
 //! The program, over any files and any two streams.
 
 ghost use Rattle.std.specs.Prelude.{◌≡◌, ◌≤◌, IfErr};
-ghost use Rattle.question_files.specs.Failures.{status_of};
+ghost use Rattle.test_select_files.specs.Failures.{status_of};
 
-use crate::command_line::command;
-use question_files::{FileSource, RunFailure, print_verdict};
+use crate::command_line::PROGRAM;
 use std::alloc::Global;
 use std::convert::AsStr;
 use std::io::Write;
+use test_select_files::{FileSource, RunFailure, print_verdict};
 
 /// Runs the program on a command line, whose first word is the program's name, and answers the status
 /// that it ends with: 0 if the account is accepted, 1 if it or a file is refused, and 2 for a bad
@@ -43,7 +43,7 @@ fn try_run<'a, S: AsStr, O: Write>(
 ) -> Result<(), RunFailure<'a>>
     ensures { IfErr result (λ f. status_of f ≡ 2 → O.contents out.new ≡ O.contents out.old) }
 {
-    match command(alloc)?.try_get_matches_from(words) {
+    match PROGRAM.command(alloc)?.try_get_matches_from(words) {
         Ok(matches) => print_verdict(alloc, &matches, files, out)?,
         Err(shown) if !shown.use_stderr() => write!(out, "{shown}")?,
         Err(error) => return Err(RunFailure::from(error)),

@@ -9,10 +9,10 @@ use Rattle.std.proofs.lemmas.Option.{slice_get_within, get_or_from_slice_get, sl
 use Rattle.indexmap.specs.IndexSet.{IndexSet}
 use Rattle.list_facts.proofs.Tests.{and_not_parts, implied}
 use Rattle.workspace_record.specs.Features.{FeatureValue, feature_eq}
-use Rattle.feature_rules.specs.Closed.{FeatureSet, has_premises, is_open, IsClosed}
+use Rattle.feature_account_rules.specs.Closed.{FeatureSet, has_premises, is_open, IsClosed}
 use Rattle.feature_account.specs.Accounts.{conclusions, concluded_set, concludes, MayStand, IsSoundAfter, IsSound, IsFirstFault, IsUnknown, IsRepeated, IsUnsupported, IsFirstOpen, IsFault, IsVerdict, IsValidAccount}
-use Rattle.feature_rules.specs.Found.{found_set}
-use Rattle.feature_rules.specs.declared.rule.Rule.{Rule}
+use Rattle.feature_account_rules.specs.Found.{found_set}
+use Rattle.feature_account_rules.specs.declared.rule.Rule.{Rule}
 use Rattle.feature_account.specs.declared.verdict.Verdict.{Verdict}
 use Rattle.feature_account.specs.declared.verdict.Verdict.TheVariants.{Accepted, UnknownRule, RepeatedConclusion, MissingPremise, NotClosed, NotGoal, Unused}
 

@@ -8,13 +8,13 @@ use Rattle.workspace_record.specs.Choices.{Choice}
 use Rattle.workspace_record.specs.declared.choice.PlatformTable.{PlatformTable}
 use Rattle.workspace_record.specs.Features.{FeatureValue, feature_eq, features_decide}
 use Rattle.feature_account.specs.Accounts.{conclusions, concluded_set, concludes, IsSoundAfter, IsValidAccount}
-use Rattle.feature_rules.specs.Closed.{FeatureSet, has_premises, IsClosed, IsOn}
-use Rattle.feature_rules.specs.IsRule.{IsInForce}
-use Rattle.feature_rules.specs.RuleList.{rule_list}
-use Rattle.feature_rules.specs.declared.rule.Premises.{Premises}
-use Rattle.feature_rules.specs.declared.rule.Premises.TheVariants as premises
-use Rattle.feature_rules.specs.declared.rule.Rule.{Rule}
-use Rattle.feature_rules.proofs.RuleFacts.{rule_list-grows}
+use Rattle.feature_account_rules.specs.Closed.{FeatureSet, has_premises, IsClosed, IsOn}
+use Rattle.feature_account_rules.specs.IsRule.{IsInForce}
+use Rattle.feature_account_rules.specs.RuleList.{rule_list}
+use Rattle.feature_account_rules.specs.declared.rule.Premises.{Premises}
+use Rattle.feature_account_rules.specs.declared.rule.Premises.TheVariants as premises
+use Rattle.feature_account_rules.specs.declared.rule.Rule.{Rule}
+use Rattle.feature_account_rules.proofs.RuleFacts.{rule_list-grows}
 use Rattle.feature_account.proofs.AccountFacts.{Contains-slice_get, conclusions-push}
 
 -- each feature of the one set is in the other

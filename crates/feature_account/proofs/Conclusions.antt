@@ -8,7 +8,7 @@ use Rattle.std.proofs.lemmas.List.Folds.{list_any-append}
 use Rattle.workspace_record.specs.Features.{FeatureValue, feature_eq, features_decide}
 use Rattle.feature_account.specs.Accounts.{conclusions, concluded_set, concludes, IsSoundAfter}
 use Rattle.feature_account.specs.Explanations.{EndsIn}
-use Rattle.feature_rules.specs.declared.rule.Rule.{Rule}
+use Rattle.feature_account_rules.specs.declared.rule.Rule.{Rule}
 use Rattle.feature_account.proofs.ClosedSets.{IsWithin}
 
 -- what two lists conclude, one after the other

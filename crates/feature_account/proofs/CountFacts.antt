@@ -11,7 +11,7 @@ use Rattle.list_facts.proofs.Membership.{Contains-append_cases, Contains-append_
 use Rattle.workspace_record.specs.Features.{FeatureValue, feature_cmp, feature_cmp_total}
 use Rattle.feature_account.specs.Accounts.{conclusions, IsSoundAfter, IsValidAccount}
 use Rattle.feature_account.specs.Laws.{AccountsCountWhatIsOn}
-use Rattle.feature_rules.specs.declared.rule.Rule.{Rule}
+use Rattle.feature_account_rules.specs.declared.rule.Rule.{Rule}
 use Rattle.feature_account.proofs.AccountFacts.{conclusions-push}
 use Rattle.feature_account.proofs.ClosedSets.{concludes_iff}
 use Rattle.feature_account.proofs.ConcludedFacts.{concluded_iff}

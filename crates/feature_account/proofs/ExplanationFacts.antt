@@ -5,9 +5,9 @@ use Rattle.std.proofs.Math.Seq.{drop-length}
 use Rattle.std.proofs.lemmas.Option.{slice_get_within, slice_get-get_or}
 use Rattle.workspace_record.specs.Features.{FeatureValue}
 use Rattle.feature_account.specs.Accounts.{IsFault, IsSound}
-use Rattle.feature_rules.specs.Closed.{FeatureSet, is_premise}
+use Rattle.feature_account_rules.specs.Closed.{FeatureSet, is_premise}
 use Rattle.feature_account.specs.Explanations.{EndsIn, needs, is_used, EachIsUsed, IsFirstUnused, IsExplanation, IsExplanationVerdict}
-use Rattle.feature_rules.specs.declared.rule.Rule.{Rule}
+use Rattle.feature_account_rules.specs.declared.rule.Rule.{Rule}
 use Rattle.feature_account.specs.declared.verdict.Verdict.{Verdict}
 use Rattle.feature_account.specs.declared.verdict.Verdict.TheVariants.{Accepted, UnknownRule, RepeatedConclusion, MissingPremise, NotClosed, NotGoal, Unused}
 use Rattle.feature_account.proofs.AccountFacts.{sound_has_no_fault, stands_at}

@@ -4,11 +4,11 @@ use Rattle.std.specs.Option.{option_map}
 use Rattle.std.proofs.lemmas.Bool.{and_parts, or_cases, or_left, or_right}
 use Rattle.workspace_record.specs.Features.{FeatureValue, feature_eq, features_decide}
 use Rattle.feature_account.specs.Accounts.{concludes, IsSoundAfter}
-use Rattle.feature_rules.specs.Closed.{FeatureSet, has_premises, is_premise}
+use Rattle.feature_account_rules.specs.Closed.{FeatureSet, has_premises, is_premise}
 use Rattle.feature_account.specs.Explanations.{EndsIn, needs, EachIsUsed, IsExplanation, IsSublist}
-use Rattle.feature_rules.specs.declared.rule.Premises.{Premises}
-use Rattle.feature_rules.specs.declared.rule.Premises.TheVariants as premises
-use Rattle.feature_rules.specs.declared.rule.Rule.{Rule}
+use Rattle.feature_account_rules.specs.declared.rule.Premises.{Premises}
+use Rattle.feature_account_rules.specs.declared.rule.Premises.TheVariants as premises
+use Rattle.feature_account_rules.specs.declared.rule.Rule.{Rule}
 use Rattle.feature_account.proofs.ClosedSets.{IsWithin}
 use Rattle.feature_account.proofs.Conclusions.{same_feature, concludes-append, concludes-cons, ends_in-concludes, not_again, within_push, within_both}
 use Rattle.feature_account.proofs.ExplanationFacts.{needs-cons, is_used-known}

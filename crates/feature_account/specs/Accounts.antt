@@ -2,8 +2,8 @@
 use Rattle.std.specs.Prelude.{◌≡◌, ℕ, true, false, List, [], ◌∷◌, ◌++◌, Option, Some, None, option_map, take, slice_get}
 use Rattle.std.specs.List.{list_any, filter_map}
 use Rattle.workspace_record.specs.Features.{FeatureValue, feature_eq}
-use Rattle.feature_rules.specs.Closed.{FeatureSet, has_premises, IsClosed}
-use Rattle.feature_rules.specs.declared.rule.Rule.{Rule}
+use Rattle.feature_account_rules.specs.Closed.{FeatureSet, has_premises, IsClosed}
+use Rattle.feature_account_rules.specs.declared.rule.Rule.{Rule}
 use Rattle.feature_account.specs.declared.verdict.Verdict.{Verdict}
 use Rattle.feature_account.specs.declared.verdict.Verdict.TheVariants.{Accepted, UnknownRule, RepeatedConclusion, MissingPremise, NotClosed, NotGoal, Unused}
 

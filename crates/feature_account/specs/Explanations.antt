@@ -4,8 +4,8 @@ use Rattle.std.specs.List.{list_any}
 use Rattle.std.specs.Option.{option_map_or}
 use Rattle.workspace_record.specs.Features.{FeatureValue}
 use Rattle.feature_account.specs.Accounts.{IsFault, IsSound}
-use Rattle.feature_rules.specs.Closed.{FeatureSet, is_premise}
-use Rattle.feature_rules.specs.declared.rule.Rule.{Rule}
+use Rattle.feature_account_rules.specs.Closed.{FeatureSet, is_premise}
+use Rattle.feature_account_rules.specs.declared.rule.Rule.{Rule}
 use Rattle.feature_account.specs.declared.verdict.Verdict.{Verdict}
 use Rattle.feature_account.specs.declared.verdict.Verdict.TheVariants.{Accepted, NotGoal, Unused}
 

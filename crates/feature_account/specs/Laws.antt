@@ -7,11 +7,11 @@ use Rattle.workspace_record.specs.Choices.{Choice}
 use Rattle.workspace_record.specs.Tables.{answer}
 use Rattle.workspace_record.specs.declared.choice.PlatformTable.{PlatformTable}
 use Rattle.feature_account.specs.Accounts.{concludes, IsValidAccount}
-use Rattle.feature_rules.specs.Closed.{IsOn}
+use Rattle.feature_account_rules.specs.Closed.{IsOn}
 use Rattle.feature_account.specs.Explanations.{IsExplanation, IsSublist}
-use Rattle.feature_rules.specs.IsRule.{IsRule}
-use Rattle.feature_rules.specs.RuleList.{rule_list}
-use Rattle.feature_rules.specs.declared.rule.Rule.{Rule}
+use Rattle.feature_account_rules.specs.IsRule.{IsRule}
+use Rattle.feature_account_rules.specs.RuleList.{rule_list}
+use Rattle.feature_account_rules.specs.declared.rule.Rule.{Rule}
 
 -- a rule stands in the list exactly if it is one of the record's rules
 abbrev pub ListsEachRule : Type 0

@@ -2,19 +2,18 @@
 //! the rules and the account, entry by entry.
 
 ghost use Rattle.std.specs.Prelude.{◌≡◌, [], ◌↔◌, IfOk, IfNone, IfSome};
-ghost use Rattle.feature_rules.specs.Closed.{IsClosed};
-ghost use Rattle.feature_rules.specs.Found.{found_set};
+ghost use Rattle.feature_account_rules.specs.Closed.{IsClosed};
+ghost use Rattle.feature_account_rules.specs.Found.{found_set};
 ghost use Rattle.feature_account.specs.Accounts.{IsFirstOpen, IsValidAccount, IsVerdict};
-ghost use Rattle.feature_rules.specs.RuleList.{rule_list};
+ghost use Rattle.feature_account_rules.specs.RuleList.{rule_list};
 
 use crate::soundness::first_fault;
 use crate::verdict::Verdict;
-use feature_rules::found::is_open;
-use feature_rules::{LentFeature, LentRule, lent_rules};
+use feature_account_rules::found::is_open;
+use feature_account_rules::{FeatureRef, LentRule, lent_rules};
 use indexmap::IndexSet;
-use record_index::RecordIndex;
 use std::alloc::{AllocError, Global};
-use workspace_record::{FeatureChoice, PlatformTable, WorkspaceRecord};
+use workspace_record::{FeatureChoice, PlatformTable, RecordIndex, WorkspaceRecord};
 
 /// Whether a list of rule numbers accounts for what is on: each rule is known, each conclusion is new,
 /// each premise is concluded earlier, and what is concluded is closed under the rules. Else the first
@@ -29,7 +28,8 @@ pub fn check_account(
     table: &PlatformTable,
     account: &[usize],
 ) -> Result<Verdict, AllocError>
-    ensures verdict { IfOk result (IsVerdict (rule_list record.now choice.now table.now) account.now) }
+    ensures verdict { IfOk result (IsVerdict (rule_list record.now choice.now table.now)
+        account.now) }
     ensures accepted { IfOk result (λ v. (v ≡ Verdict.Accepted)
         ↔ IsValidAccount (rule_list record.now choice.now table.now) account.now) }
 {
@@ -41,7 +41,7 @@ pub fn check_account(
 // The lowest rule that is open, if there is one.
 fn first_open<'r, 'a>(
     rules: &'r [LentRule<'a>],
-    concluded: &IndexSet<&'r LentFeature<'a>>,
+    concluded: &IndexSet<&'r FeatureRef<'a>>,
 ) -> Option<usize>
     ensures none { IfNone result (IsClosed rules.entry.now (found_set concluded.now)) }
     ensures first { IfSome result (IsFirstOpen rules.entry.now (found_set concluded.now)) }
@@ -67,7 +67,7 @@ fn verdict_of(
 
 /// The verdict, by a set for the features that are concluded, which is empty yet.
 fn verdict_by<'r, 'a>(
-    concluded: &mut IndexSet<&'r LentFeature<'a>>,
+    concluded: &mut IndexSet<&'r FeatureRef<'a>>,
     rules: &'r [LentRule<'a>],
     account: &[usize],
 ) -> Result<Verdict, AllocError>

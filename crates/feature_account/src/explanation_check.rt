@@ -3,16 +3,15 @@
 ghost use Rattle.std.specs.Prelude.{◌≡◌, [], ◌↔◌, IfOk, IsTrue, MatchOption};
 ghost use Rattle.feature_account.specs.Accounts.{IsSound};
 ghost use Rattle.feature_account.specs.Explanations.{EachIsUsed, EndsIn, IsExplanation, IsExplanationVerdict, IsFirstUnused};
-ghost use Rattle.feature_rules.specs.RuleList.{rule_list};
+ghost use Rattle.feature_account_rules.specs.RuleList.{rule_list};
 
 use crate::soundness::{first_fault, rule_of};
 use crate::verdict::Verdict;
-use feature_rules::found::{contains, insert_premises};
-use feature_rules::{LentFeature, LentRule, lent_rules};
+use feature_account_rules::found::{contains, insert_premises};
+use feature_account_rules::{FeatureRef, LentRule, lent_rules};
 use indexmap::IndexSet;
-use record_index::RecordIndex;
 use std::alloc::{AllocError, Global};
-use workspace_record::{Feature, FeatureChoice, PlatformTable, WorkspaceRecord};
+use workspace_record::{Feature, FeatureChoice, PlatformTable, RecordIndex, WorkspaceRecord};
 
 /// Whether a list of rule numbers explains why the feature is on: each rule is known, each conclusion
 /// is new, each premise is concluded earlier, the last entry concludes the feature, and what each other
@@ -29,7 +28,8 @@ pub fn check_explanation(
     feature: &Feature,
     explanation: &[usize],
 ) -> Result<Verdict, AllocError>
-    ensures verdict { IfOk result (IsExplanationVerdict (rule_list record.now choice.now table.now) feature.now explanation.now) }
+    ensures verdict { IfOk result (IsExplanationVerdict (rule_list record.now choice.now table.now)
+        feature.now explanation.now) }
     ensures accepted { IfOk result (λ v. (v ≡ Verdict.Accepted)
         ↔ IsExplanation (rule_list record.now choice.now table.now) feature.now explanation.now) }
 {
@@ -83,7 +83,7 @@ fn ends_in(rules: &[LentRule<'_>], goal: &Feature, entries: &[usize]) -> bool
         None => false,
         Some((number, _)) => match rules.get(*number) {
             None => false,
-            Some(rule) => *rule.conclusion() == LentFeature::of(goal),
+            Some(rule) => *rule.conclusion() == FeatureRef::of(goal),
         },
     }
 }
@@ -96,21 +96,23 @@ fn first_unused(
     entries: &[usize],
 ) -> Result<Option<usize>, AllocError>
     requires { IsSound rules.now entries.now }
-    ensures { IfOk result (λ o. MatchOption o (EachIsUsed rules.now entries.now) (IsFirstUnused rules.now entries.now)) }
+    ensures { IfOk result (λ o. MatchOption o (EachIsUsed rules.now entries.now)
+        (IsFirstUnused rules.now entries.now)) }
 {
-    let mut needed: IndexSet<&LentFeature<'_>> = IndexSet::new(alloc);
+    let mut needed: IndexSet<&FeatureRef<'_>> = IndexSet::new(alloc);
     first_unneeded(&mut needed, rules, entries)
 }
 
 /// The same, by a set for the premises of later entries, which is empty yet.
 fn first_unneeded<'r, 'a>(
-    needed: &mut IndexSet<&'r LentFeature<'a>>,
+    needed: &mut IndexSet<&'r FeatureRef<'a>>,
     rules: &'r [LentRule<'a>],
     entries: &[usize],
 ) -> Result<Option<usize>, AllocError>
     requires empty { needed.old.keys ≡ [] }
     requires sound { IsSound rules.now entries.now }
-    ensures { IfOk result (λ o. MatchOption o (EachIsUsed rules.entry.now entries.now) (IsFirstUnused rules.entry.now entries.now)) }
+    ensures { IfOk result (λ o. MatchOption o (EachIsUsed rules.entry.now entries.now)
+        (IsFirstUnused rules.entry.now entries.now)) }
 {
     let mut unused = None;
     for place in (0..entries.len()).rev() {

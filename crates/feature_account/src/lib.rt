@@ -1,5 +1,8 @@
-//! Checkers of accounts of what is on, and of explanations why a feature is. It gives out the rules that
-//! these are about.
+//! Checkers of accounts of what is on, and of explanations why a feature is. It gives out the rules
+//! that these are about.
+//!
+//! Begin with `specs/Accounts.antt`, then `account_check.rt`. It is what a stranger trusts, and stays
+//! small: nothing here searches, and nothing of the graphs stands below.
 #![tactic(auto)]
 
 mod account_check;
@@ -12,8 +15,8 @@ pub use crate::account_check::check_account;
 pub use crate::explanation_check::check_explanation;
 pub use crate::soundness::rule_of;
 pub use crate::verdict::Verdict;
-pub use feature_rules::{
-    LentFeature, LentPremises, LentRule, Premises, Rule, chosen_features, lend_rules, lent_rules,
+pub use feature_account_rules::{
+    FeatureRef, LentPremises, LentRule, Premises, Rule, chosen_features, lend_rules, lent_rules,
     rules, rules_in,
 };
 pub use workspace_record::{

@@ -2,11 +2,11 @@
 
 ghost use Rattle.std.specs.Prelude.{◌≡◌, ◌<◌, [], length, slice_get, IfOk, IfNone, IfSome};
 ghost use Rattle.feature_account.specs.Accounts.{concludes, IsFault, IsSound};
-ghost use Rattle.feature_rules.specs.Found.{found_set};
+ghost use Rattle.feature_account_rules.specs.Found.{found_set};
 
 use crate::verdict::Verdict;
-use feature_rules::found::{contains, has_premises, insert};
-use feature_rules::{LentFeature, LentRule};
+use feature_account_rules::found::{contains, has_premises, insert};
+use feature_account_rules::{FeatureRef, LentRule};
 use indexmap::IndexSet;
 use std::alloc::AllocError;
 
@@ -14,12 +14,13 @@ use std::alloc::AllocError;
 pub(crate) fn first_fault<'r, 'a>(
     rules: &'r [LentRule<'a>],
     entries: &[usize],
-    concluded: &mut IndexSet<&'r LentFeature<'a>>,
+    concluded: &mut IndexSet<&'r FeatureRef<'a>>,
 ) -> Result<Option<Verdict>, AllocError>
     requires { concluded.old.keys ≡ [] }
     ensures fault { IfOk result (λ o. IfSome o (IsFault rules.entry.now entries.now)) }
     ensures sound { IfOk result (λ o. IfNone o (IsSound rules.entry.now entries.now)) }
-    ensures concluded { IfOk result (λ o. IfNone o (found_set concluded.new ≡ concludes rules.entry.now entries.now)) }
+    ensures concluded { IfOk result (λ o. IfNone o
+        (found_set concluded.new ≡ concludes rules.entry.now entries.now)) }
 {
     for (place, number) in entries.iter().enumerate() {
         let Some(rule) = rules.get(*number) else {

@@ -2,7 +2,7 @@
 use Rattle.std.proofs.Common.{◌≡◌, ◌∙◌, ℕ, ◌+◌, List, [], ◌∷◌, ◌++◌, ap, flat_map, refl}
 use Rattle.list_facts.proofs.Lists.{flat_map-flat_map, flat_map-map}
 use Rattle.workspace_record.specs.Records.{FeatureEntry, Link, Package}
-use Rattle.guppy_row_parts.specs.Warnings.{Warning}
+use Rattle.guppy_package_parts.specs.Warnings.{Warning}
 use Rattle.workspace_record.specs.Features.{FeatureValue}
 use Rattle.guppy_feature_demands.specs.Demands.{NumberedValue, base_demands, demands_of, kept_demands, link_demands, package_demands, same_name}
 use Rattle.guppy_feature_demands.specs.Entries.{entry_value}

@@ -1,12 +1,12 @@
 use Rattle.guppy_feature_demands.specs.Demands.{FormValue, FeatureToBase, NamedFeature, NamedFeatureDepColon, StrongSlash, WeakSlash, DependenciesSection, DemandValue, NumberedValue}
 use Rattle.guppy_feature_demands.specs.HashedViews.{hashed_view}
-use Rattle.guppy_feature_demands.specs.declared.demand.Form.{Form}
-use Rattle.guppy_feature_demands.specs.declared.demand.Form.TheVariants as code
+use Rattle.guppy_feature_demands.specs.declared.demand.EdgeKind.{EdgeKind}
+use Rattle.guppy_feature_demands.specs.declared.demand.EdgeKind.TheVariants as code
 use Rattle.guppy_feature_demands.specs.declared.demand.Demand.{Demand}
 use Rattle.guppy_feature_demands.specs.declared.demand.NumberedDemand.{NumberedDemand}
 
 -- what contracts see of a form
-abbrev pub form_view : Form → FormValue
+abbrev pub form_view : EdgeKind → FormValue
 form_view code.FeatureToBase = FeatureToBase
 form_view code.NamedFeature = NamedFeature
 form_view code.NamedFeatureDepColon = NamedFeatureDepColon

@@ -3,7 +3,7 @@ use Rattle.std.specs.Prelude.{ℕ, List, map}
 use Rattle.std.specs.List.{flat_map}
 use Rattle.workspace_record.specs.Records.{Text, FeatureEntry, Package, Link}
 use Rattle.workspace_record.specs.Features.{FeatureValue}
-use Rattle.guppy_row_parts.specs.Warnings.{Warning}
+use Rattle.guppy_package_parts.specs.Warnings.{Warning}
 use Rattle.guppy_feature_demands.specs.Demands.{DemandValue, entry_demands, same_name}
 use Rattle.guppy_feature_demands.specs.Entries.{EntryValue, entry_value}
 use Rattle.guppy_feature_demands.specs.Nodes.{first_of_each, named_of}

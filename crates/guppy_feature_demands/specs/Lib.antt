@@ -1,3 +1,7 @@
+pub mod Kinds
+pub mod LabelViews
+pub mod Printing
+pub mod IdViews
 pub mod Equivalences
 pub mod Entries
 pub mod EntryView

@@ -11,7 +11,7 @@ use Rattle.guppy_feature_demands.specs.Equivalences.{on_equivalence}
 use Rattle.guppy_feature_demands.specs.IdHashes.{text_hash}
 use Rattle.guppy_feature_demands.specs.Numbered.{links_named}
 use Rattle.guppy_feature_demands.specs.NumberedViews.{link_view}
-use Rattle.guppy_feature_demands.specs.declared.numbered.LinkAt.{LinkAt}
+use Rattle.guppy_feature_demands.specs.declared.numbered.NumberedLink.{NumberedLink}
 use Rattle.guppy_feature_demands.specs.declared.link_names.LinkName.{LinkName}
 use Rattle.guppy_feature_demands.specs.declared.link_names.LinkNames.{LinkNames}
 
@@ -41,7 +41,7 @@ pub record IsNameOf (id : Text) (name : Text) (q : LinkName) : Type 0 where
   pub name_is : q.name.now ≡ name
 
 -- the links of a group, if there is one
-abbrev pub links_in : Option (Vec LinkAt Global) → List (ℕ × Link)
+abbrev pub links_in : Option (Vec NumberedLink Global) → List (ℕ × Link)
 links_in None = []
 links_in (Some group) = map link_view group.items
 

@@ -1,5 +1,5 @@
 use Rattle.workspace_record.specs.Features.{FeatureValue}
-use Rattle.guppy_feature_ids.specs.LabelViews.{label_view}
+use Rattle.guppy_feature_demands.specs.LabelViews.{label_view}
 use Rattle.guppy_feature_demands.specs.declared.feature_name.FeatureName.{FeatureName}
 
 -- what contracts see of a feature that is named by texts

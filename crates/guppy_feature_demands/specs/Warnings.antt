@@ -4,8 +4,8 @@ use Rattle.std.specs.List.{flat_map}
 use Rattle.std.specs.Str.{bytes_eq}
 use Rattle.workspace_record.specs.Records.{Text, FeatureEntry, Package, Line, Link}
 use Rattle.workspace_record.specs.Features.{FeatureValue}
-use Rattle.guppy_row_parts.specs.Warnings.{Stage, AddNamedFeatureEdges, AddDependencyEdges, Warning, MissingFeature, SelfLoop}
-use Rattle.guppy_feature_ids.specs.Printing.{label_text}
+use Rattle.guppy_package_parts.specs.Warnings.{Stage, AddNamedFeatureEdges, AddDependencyEdges, Warning, MissingFeature, SelfLoop}
+use Rattle.guppy_feature_demands.specs.Printing.{label_text}
 use Rattle.guppy_feature_demands.specs.Entries.{EntryValue, OwnFeature, Dependency, Strong, Weak, entry_value}
 use Rattle.guppy_feature_demands.specs.Nodes.{named_of, dep_of, first_of_each, nodes_of, is_node}
 use Rattle.guppy_feature_demands.specs.Numbered.{numbered, links_named}

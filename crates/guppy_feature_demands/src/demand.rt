@@ -1,10 +1,10 @@
 //! What leads from one feature to another.
 
-use crate::hashed_name::HashedName;
+use crate::feature_key::FeatureKey;
 
 /// Why one feature leads to another. An entry with a slash names a dependency.
 #[derive(Clone, Copy, Debug)]
-pub enum Form<'g> {
+pub enum EdgeKind<'g> {
     FeatureToBase,
     NamedFeature,
     NamedFeatureDepColon,
@@ -17,9 +17,9 @@ pub enum Form<'g> {
 /// its own in the link.
 #[derive(Clone, Copy)]
 pub(crate) struct Demand<'g> {
-    pub from: HashedName<'g>,
-    pub to: HashedName<'g>,
-    pub form: Form<'g>,
+    pub from: FeatureKey<'g>,
+    pub to: FeatureKey<'g>,
+    pub form: EdgeKind<'g>,
     pub line: Option<(usize, usize)>,
 }
 
@@ -28,6 +28,6 @@ pub(crate) struct Demand<'g> {
 pub struct NumberedDemand<'g> {
     pub from: usize,
     pub to: usize,
-    pub form: Form<'g>,
+    pub form: EdgeKind<'g>,
     pub line: Option<(usize, usize)>,
 }

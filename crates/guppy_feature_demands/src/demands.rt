@@ -11,16 +11,16 @@ ghost use Rattle.guppy_feature_demands.specs.Nodes.{named_of};
 ghost use Rattle.guppy_feature_demands.specs.Numbered.{links_named, numbered};
 ghost use Rattle.guppy_feature_demands.specs.NumberedViews.{ends_view, line_view, link_view};
 
-use crate::demand::{Demand, Form};
+use crate::demand::{Demand, EdgeKind};
 use crate::entries::EntryAt;
 use crate::entry::Entry;
+use crate::feature_key::FeatureKey;
 use crate::hashed_id::HashedId;
-use crate::hashed_name::HashedName;
 use crate::link_ends::LinkEnds;
 use crate::link_table::LinkTable;
 use crate::nodes::NodeTable;
-use crate::numbered::{LineAt, LinkAt};
-use guppy_row_parts::LineRow;
+use crate::numbered::{LineAt, NumberedLink};
+use guppy_package_parts::LineRow;
 use std::alloc::{AllocError, Global};
 
 /// Each feature leads to its package.
@@ -42,7 +42,8 @@ pub(crate) fn entry_demands<'g>(
     nodes: &NodeTable<'g>,
     links: &LinkTable<'g>,
 ) -> Result<Vec<Demand<'g>>, AllocError>
-    ensures { IfOk result (λ v. map demand_view v.items ≡ flat_map (at_demands nodes.now links.now) (map entry_at_view entries.now)) }
+    ensures { IfOk result (λ v. map demand_view v.items
+        ≡ flat_map (at_demands nodes.now links.now) (map entry_at_view entries.now)) }
 {
     let mut demands: Vec<Demand<'g>> = Vec::new(alloc);
     push_entries(entries, nodes, links, &mut demands)?;
@@ -62,10 +63,11 @@ pub(crate) fn link_demands<'g>(
 }
 
 fn push_base_demands<'g>(
-    names: &[HashedName<'g>],
+    names: &[FeatureKey<'g>],
     demands: &mut Vec<Demand<'g>>,
 ) -> Result<(), AllocError>
-    ensures { OnOk result (map demand_view demands.new.items ≡ map demand_view demands.old.items ++ base_demands (map hashed_view names.now)) }
+    ensures { OnOk result (map demand_view demands.new.items
+        ≡ map demand_view demands.old.items ++ base_demands (map hashed_view names.now)) }
 {
     for name in names {
         demands.push(base_demand(*name))?;
@@ -73,13 +75,13 @@ fn push_base_demands<'g>(
     Ok(())
 }
 
-fn base_demand<'g>(name: HashedName<'g>) -> Demand<'g>
+fn base_demand<'g>(name: FeatureKey<'g>) -> Demand<'g>
     ensures { demand_view result ∷ [] ≡ base_demands (hashed_view name.entry ∷ []) }
 {
     Demand {
         from: name,
-        to: HashedName::base(name.id),
-        form: Form::FeatureToBase,
+        to: FeatureKey::base(name.id),
+        form: EdgeKind::FeatureToBase,
         line: None,
     }
 }
@@ -90,7 +92,9 @@ fn push_entries<'g>(
     links: &LinkTable<'g>,
     demands: &mut Vec<Demand<'g>>,
 ) -> Result<(), AllocError>
-    ensures { OnOk result (map demand_view demands.new.items ≡ map demand_view demands.old.items ++ flat_map (at_demands nodes.now links.now) (map entry_at_view entries.now)) }
+    ensures { OnOk result (map demand_view demands.new.items
+        ≡ map demand_view demands.old.items
+        ++ flat_map (at_demands nodes.now links.now) (map entry_at_view entries.now)) }
 {
     for at in entries {
         push_entry(*at, nodes, links, demands)?;
@@ -104,38 +108,42 @@ fn push_entry<'g>(
     links: &LinkTable<'g>,
     demands: &mut Vec<Demand<'g>>,
 ) -> Result<(), AllocError>
-    ensures { OnOk result (map demand_view demands.new.items ≡ map demand_view demands.old.items ++ at_demands nodes.now links.now (entry_at_view at.entry)) }
+    ensures { OnOk result (map demand_view demands.new.items
+        ≡ map demand_view demands.old.items
+        ++ at_demands nodes.now links.now (entry_at_view at.entry)) }
 {
     let id = at.id;
-    let from = HashedName::named(id, at.feature);
+    let from = FeatureKey::named(id, at.feature);
     match at.entry {
         Entry::OwnFeature(name) => {
-            let to = HashedName::named(id, name);
-            push_lead(from, to, Form::NamedFeature, demands)
+            let to = FeatureKey::named(id, name);
+            push_lead(from, to, EdgeKind::NamedFeature, demands)
         }
         Entry::Dependency(name) => {
-            let to = HashedName::dep(id, name);
-            push_lead(from, to, Form::NamedFeatureDepColon, demands)
+            let to = FeatureKey::dep(id, name);
+            push_lead(from, to, EdgeKind::NamedFeatureDepColon, demands)
         }
         Entry::Strong(name, feature) => {
-            let form = Form::StrongSlash(name);
+            let form = EdgeKind::StrongSlash(name);
             push_slash(from, name, feature, form, links, demands)?;
             push_dependency(from, name, nodes, demands)
         }
         Entry::Weak(name, feature) => {
-            let form = Form::WeakSlash(name);
+            let form = EdgeKind::WeakSlash(name);
             push_slash(from, name, feature, form, links, demands)
         }
     }
 }
 
 fn push_lead<'g>(
-    from: HashedName<'g>,
-    to: HashedName<'g>,
-    form: Form<'g>,
+    from: FeatureKey<'g>,
+    to: FeatureKey<'g>,
+    form: EdgeKind<'g>,
     demands: &mut Vec<Demand<'g>>,
 ) -> Result<(), AllocError>
-    ensures { OnOk result (map demand_view demands.new.items ≡ map demand_view demands.old.items ++ leads (form_view form.entry) (hashed_view from.entry) (hashed_view to.entry) ∷ []) }
+    ensures { OnOk result (map demand_view demands.new.items
+        ≡ map demand_view demands.old.items
+        ++ leads (form_view form.entry) (hashed_view from.entry) (hashed_view to.entry) ∷ []) }
 {
     let line = None;
     demands.push(Demand {
@@ -148,31 +156,37 @@ fn push_lead<'g>(
 }
 
 fn push_dependency<'g>(
-    from: HashedName<'g>,
+    from: FeatureKey<'g>,
     name: &'g str,
     nodes: &NodeTable<'g>,
     demands: &mut Vec<Demand<'g>>,
 ) -> Result<(), AllocError>
-    ensures { OnOk result (map demand_view demands.new.items ≡ map demand_view demands.old.items ++ dependency_demands nodes.now from.entry.id.text.now (hashed_view from.entry) name.entry.now) }
+    ensures { OnOk result (map demand_view demands.new.items
+        ≡ map demand_view demands.old.items
+        ++ dependency_demands nodes.now from.entry.id.text.now (hashed_view from.entry)
+        name.entry.now) }
 {
-    let dep = HashedName::dep(from.id, name);
-    push_lead(from, dep, Form::NamedFeatureDepColon, demands)?;
+    let dep = FeatureKey::dep(from.id, name);
+    push_lead(from, dep, EdgeKind::NamedFeatureDepColon, demands)?;
     if nodes.has(dep) {
-        let to = HashedName::named(from.id, name);
-        push_lead(from, to, Form::NamedFeature, demands)?;
+        let to = FeatureKey::named(from.id, name);
+        push_lead(from, to, EdgeKind::NamedFeature, demands)?;
     }
     Ok(())
 }
 
 fn push_slash<'g>(
-    from: HashedName<'g>,
+    from: FeatureKey<'g>,
     name: &'g str,
     feature: &'g str,
-    form: Form<'g>,
+    form: EdgeKind<'g>,
     links: &LinkTable<'g>,
     demands: &mut Vec<Demand<'g>>,
 ) -> Result<(), AllocError>
-    ensures { OnOk result (map demand_view demands.new.items ≡ map demand_view demands.old.items ++ flat_map (slash_demands (form_view form.entry) (hashed_view from.entry) feature.entry.now) (links_named links.now from.entry.id.text.now name.entry.now)) }
+    ensures { OnOk result (map demand_view demands.new.items
+        ≡ map demand_view demands.old.items
+        ++ flat_map (slash_demands (form_view form.entry) (hashed_view from.entry)
+        feature.entry.now) (links_named links.now from.entry.id.text.now name.entry.now)) }
 {
     match links.named(from.id, name) {
         Some(group) => push_slash_links(from, feature, form, group, demands),
@@ -181,13 +195,16 @@ fn push_slash<'g>(
 }
 
 fn push_slash_links<'g>(
-    from: HashedName<'g>,
+    from: FeatureKey<'g>,
     feature: &'g str,
-    form: Form<'g>,
-    links: &[LinkAt<'g>],
+    form: EdgeKind<'g>,
+    links: &[NumberedLink<'g>],
     demands: &mut Vec<Demand<'g>>,
 ) -> Result<(), AllocError>
-    ensures { OnOk result (map demand_view demands.new.items ≡ map demand_view demands.old.items ++ flat_map (slash_demands (form_view form.entry) (hashed_view from.entry) feature.entry.now) (map link_view links.now)) }
+    ensures { OnOk result (map demand_view demands.new.items
+        ≡ map demand_view demands.old.items
+        ++ flat_map (slash_demands (form_view form.entry) (hashed_view from.entry)
+        feature.entry.now) (map link_view links.now)) }
 {
     for link in links {
         push_slash_link(from, feature, form, *link, demands)?;
@@ -196,28 +213,34 @@ fn push_slash_links<'g>(
 }
 
 fn push_slash_link<'g>(
-    from: HashedName<'g>,
+    from: FeatureKey<'g>,
     feature: &'g str,
-    form: Form<'g>,
-    link: LinkAt<'g>,
+    form: EdgeKind<'g>,
+    link: NumberedLink<'g>,
     demands: &mut Vec<Demand<'g>>,
 ) -> Result<(), AllocError>
-    ensures { OnOk result (map demand_view demands.new.items ≡ map demand_view demands.old.items ++ slash_demands (form_view form.entry) (hashed_view from.entry) feature.entry.now (link_view link.entry)) }
+    ensures { OnOk result (map demand_view demands.new.items
+        ≡ map demand_view demands.old.items
+        ++ slash_demands (form_view form.entry) (hashed_view from.entry) feature.entry.now
+        (link_view link.entry)) }
 {
     let row = link.row;
-    let to = HashedName::named(HashedId::of(row.to.as_str()), feature);
+    let to = FeatureKey::named(HashedId::of(row.to.as_str()), feature);
     push_slash_lines(from, to, form, link.number, &row.lines, demands)
 }
 
 fn push_slash_lines<'g>(
-    from: HashedName<'g>,
-    to: HashedName<'g>,
-    form: Form<'g>,
+    from: FeatureKey<'g>,
+    to: FeatureKey<'g>,
+    form: EdgeKind<'g>,
     link: usize,
     lines: &[LineRow],
     demands: &mut Vec<Demand<'g>>,
 ) -> Result<(), AllocError>
-    ensures { OnOk result (map demand_view demands.new.items ≡ map demand_view demands.old.items ++ map (λ line. leads_by (form_view form.entry) (hashed_view from.entry) (hashed_view to.entry) (link, line.0)) (numbered lines.now)) }
+    ensures { OnOk result (map demand_view demands.new.items
+        ≡ map demand_view demands.old.items
+        ++ map (λ line. leads_by (form_view form.entry) (hashed_view from.entry)
+        (hashed_view to.entry) (link, line.0)) (numbered lines.now)) }
 {
     for (number, _) in lines.iter().enumerate() {
         push_by_line(from, to, form, (link, number), demands)?;
@@ -226,13 +249,16 @@ fn push_slash_lines<'g>(
 }
 
 fn push_by_line<'g>(
-    from: HashedName<'g>,
-    to: HashedName<'g>,
-    form: Form<'g>,
+    from: FeatureKey<'g>,
+    to: FeatureKey<'g>,
+    form: EdgeKind<'g>,
     place: (usize, usize),
     demands: &mut Vec<Demand<'g>>,
 ) -> Result<(), AllocError>
-    ensures { OnOk result (map demand_view demands.new.items ≡ map demand_view demands.old.items ++ leads_by (form_view form.entry) (hashed_view from.entry) (hashed_view to.entry) place ∷ []) }
+    ensures { OnOk result (map demand_view demands.new.items
+        ≡ map demand_view demands.old.items
+        ++ leads_by (form_view form.entry) (hashed_view from.entry) (hashed_view to.entry) place
+        ∷ []) }
 {
     let line = Some(place);
     demands.push(Demand {
@@ -245,7 +271,8 @@ fn push_by_line<'g>(
 }
 
 fn push_links<'g>(links: &[LinkEnds<'g>], demands: &mut Vec<Demand<'g>>) -> Result<(), AllocError>
-    ensures { OnOk result (map demand_view demands.new.items ≡ map demand_view demands.old.items ++ flat_map link_demands (map ends_view links.now)) }
+    ensures { OnOk result (map demand_view demands.new.items
+        ≡ map demand_view demands.old.items ++ flat_map link_demands (map ends_view links.now)) }
 {
     for link in links {
         push_link(*link, demands)?;
@@ -254,7 +281,8 @@ fn push_links<'g>(links: &[LinkEnds<'g>], demands: &mut Vec<Demand<'g>>) -> Resu
 }
 
 fn push_link<'g>(link: LinkEnds<'g>, demands: &mut Vec<Demand<'g>>) -> Result<(), AllocError>
-    ensures { OnOk result (map demand_view demands.new.items ≡ map demand_view demands.old.items ++ link_demands (ends_view link.entry)) }
+    ensures { OnOk result (map demand_view demands.new.items
+        ≡ map demand_view demands.old.items ++ link_demands (ends_view link.entry)) }
 {
     let row = link.at.row;
     push_lines(link, &row.lines, demands)
@@ -265,7 +293,10 @@ fn push_lines<'g>(
     lines: &'g [LineRow],
     demands: &mut Vec<Demand<'g>>,
 ) -> Result<(), AllocError>
-    ensures { OnOk result (map demand_view demands.new.items ≡ map demand_view demands.old.items ++ flat_map (λ line. line_demands link.entry.at.row.now ((link.entry.at.number, line.0), line.1)) (numbered lines.entry.now)) }
+    ensures { OnOk result (map demand_view demands.new.items
+        ≡ map demand_view demands.old.items
+        ++ flat_map (λ line. line_demands link.entry.at.row.now
+        ((link.entry.at.number, line.0), line.1)) (numbered lines.entry.now)) }
 {
     for (number, row) in lines.iter().enumerate() {
         let place = (link.at.number, number);
@@ -279,13 +310,15 @@ fn push_line<'g>(
     at: LineAt<'g>,
     demands: &mut Vec<Demand<'g>>,
 ) -> Result<(), AllocError>
-    ensures { OnOk result (map demand_view demands.new.items ≡ map demand_view demands.old.items ++ line_demands link.entry.at.row.now (line_view at.entry)) }
+    ensures { OnOk result (map demand_view demands.new.items
+        ≡ map demand_view demands.old.items
+        ++ line_demands link.entry.at.row.now (line_view at.entry)) }
 {
     let from = line_start(link, at);
     push_by_line(
         from,
-        HashedName::base(link.to),
-        Form::DependenciesSection,
+        FeatureKey::base(link.to),
+        EdgeKind::DependenciesSection,
         at.place,
         demands,
     )?;
@@ -294,45 +327,51 @@ fn push_line<'g>(
     push_listed(from, link.to, &line.features, at.place, demands)
 }
 
-fn line_start<'g>(link: LinkEnds<'g>, at: LineAt<'g>) -> HashedName<'g>
+fn line_start<'g>(link: LinkEnds<'g>, at: LineAt<'g>) -> FeatureKey<'g>
     ensures { hashed_view result ≡ line_start link.entry.at.row.now at.entry.row.now }
 {
     let (row, line) = (link.at.row, at.row);
     if line.optional {
-        HashedName::dep(link.from, row.name.as_str())
+        FeatureKey::dep(link.from, row.name.as_str())
     } else {
-        HashedName::base(link.from)
+        FeatureKey::base(link.from)
     }
 }
 
 fn push_default<'g>(
-    from: HashedName<'g>,
+    from: FeatureKey<'g>,
     id: HashedId<'g>,
     at: LineAt<'g>,
     demands: &mut Vec<Demand<'g>>,
 ) -> Result<(), AllocError>
-    ensures { OnOk result (map demand_view demands.new.items ≡ map demand_view demands.old.items ++ map (λ g. leads_by DependenciesSection (hashed_view from.entry) g at.entry.place) (default_of id.entry.text.now at.entry.row.now)) }
+    ensures { OnOk result (map demand_view demands.new.items
+        ≡ map demand_view demands.old.items
+        ++ map (λ g. leads_by DependenciesSection (hashed_view from.entry) g at.entry.place)
+        (default_of id.entry.text.now at.entry.row.now)) }
 {
     let line = at.row;
     if line.default_features {
-        let to = HashedName::named(id, "default");
-        push_by_line(from, to, Form::DependenciesSection, at.place, demands)?;
+        let to = FeatureKey::named(id, "default");
+        push_by_line(from, to, EdgeKind::DependenciesSection, at.place, demands)?;
     }
     Ok(())
 }
 
 fn push_listed<'g>(
-    from: HashedName<'g>,
+    from: FeatureKey<'g>,
     id: HashedId<'g>,
     names: &'g [String],
     place: (usize, usize),
     demands: &mut Vec<Demand<'g>>,
 ) -> Result<(), AllocError>
-    ensures { OnOk result (map demand_view demands.new.items ≡ map demand_view demands.old.items ++ map (λ g. leads_by DependenciesSection (hashed_view from.entry) g place) (map (named_of id.entry.text.now) (map string_bytes names.entry.now))) }
+    ensures { OnOk result (map demand_view demands.new.items
+        ≡ map demand_view demands.old.items
+        ++ map (λ g. leads_by DependenciesSection (hashed_view from.entry) g place)
+        (map (named_of id.entry.text.now) (map string_bytes names.entry.now))) }
 {
     for name in names {
-        let to = HashedName::named(id, name.as_str());
-        push_by_line(from, to, Form::DependenciesSection, place, demands)?;
+        let to = FeatureKey::named(id, name.as_str());
+        push_by_line(from, to, EdgeKind::DependenciesSection, place, demands)?;
     }
     Ok(())
 }

@@ -26,7 +26,8 @@ pub(crate) fn entries_of<'g>(
     alloc: Global,
     packages: &[PackageAt<'g>],
 ) -> Result<Vec<EntryAt<'g>>, AllocError>
-    ensures { IfOk result (λ v. map entry_at_view v.items ≡ flat_map package_entries (map (λ p. p.row.now) packages.now)) }
+    ensures { IfOk result (λ v. map entry_at_view v.items
+        ≡ flat_map package_entries (map (λ p. p.row.now) packages.now)) }
 {
     let mut entries: Vec<EntryAt<'g>> = Vec::new(alloc);
     for at in packages {
@@ -40,7 +41,8 @@ fn push_package<'g>(
     at: PackageAt<'g>,
     entries: &mut Vec<EntryAt<'g>>,
 ) -> Result<(), AllocError>
-    ensures { OnOk result (map entry_at_view entries.new.items ≡ map entry_at_view entries.old.items ++ package_entries at.entry.row.now) }
+    ensures { OnOk result (map entry_at_view entries.new.items
+        ≡ map entry_at_view entries.old.items ++ package_entries at.entry.row.now) }
 {
     let row = at.row;
     let features = named_entries(alloc, &row.features)?;
@@ -55,7 +57,9 @@ fn push_features<'g>(
     features: &[NamedRow<'g>],
     entries: &mut Vec<EntryAt<'g>>,
 ) -> Result<(), AllocError>
-    ensures { OnOk result (map entry_at_view entries.new.items ≡ map entry_at_view entries.old.items ++ flat_map (feature_entries id.entry.text.now) (map named_view features.now)) }
+    ensures { OnOk result (map entry_at_view entries.new.items
+        ≡ map entry_at_view entries.old.items
+        ++ flat_map (feature_entries id.entry.text.now) (map named_view features.now)) }
 {
     for feature in features {
         push_feature(id, *feature, entries)?;
@@ -68,7 +72,9 @@ fn push_feature<'g>(
     feature: NamedRow<'g>,
     entries: &mut Vec<EntryAt<'g>>,
 ) -> Result<(), AllocError>
-    ensures { OnOk result (map entry_at_view entries.new.items ≡ map entry_at_view entries.old.items ++ feature_entries id.entry.text.now (named_view feature.entry)) }
+    ensures { OnOk result (map entry_at_view entries.new.items
+        ≡ map entry_at_view entries.old.items
+        ++ feature_entries id.entry.text.now (named_view feature.entry)) }
 {
     let row = feature.row;
     push_entries(id, row.name.as_str(), &row.enables, entries)
@@ -80,7 +86,13 @@ fn push_entries<'g>(
     texts: &'g [String],
     entries: &mut Vec<EntryAt<'g>>,
 ) -> Result<(), AllocError>
-    ensures { OnOk result (map entry_at_view entries.new.items ≡ map entry_at_view entries.old.items ++ map (λ text. record { package_id = id.entry.text.now; feature = feature.entry.now; entry = entry_value text }) (map string_bytes texts.entry.now)) }
+    ensures { OnOk result (map entry_at_view entries.new.items
+        ≡ map entry_at_view entries.old.items
+        ++ map (λ text. record {
+          package_id = id.entry.text.now;
+          feature = feature.entry.now;
+          entry = entry_value text;
+        }) (map string_bytes texts.entry.now)) }
 {
     for text in texts {
         let entry = entry_of(text.as_str());

@@ -22,7 +22,11 @@ pub(crate) fn kept_demands<'g>(
     nodes: &NodeTable<'g>,
     links: &LinkTable<'g>,
 ) -> Result<Vec<NumberedDemand<'g>>, AllocError>
-    ensures { IfOk result (λ v. map numbered_view v.items ≡ kept_demands nodes.now (base_demands nodes.now ++ (flat_map (at_demands nodes.now links.now) (map entry_at_view entries.now) ++ flat_map link_demands links.now))) }
+    ensures { IfOk result (λ v. map numbered_view v.items
+        ≡ kept_demands nodes.now
+        (base_demands nodes.now
+        ++ (flat_map (at_demands nodes.now links.now) (map entry_at_view entries.now)
+        ++ flat_map link_demands links.now))) }
 {
     let mut kept: Vec<NumberedDemand<'g>> = Vec::new(alloc);
     keep_bases(alloc, nodes, &mut kept)?;
@@ -36,7 +40,8 @@ fn keep_bases<'g>(
     nodes: &NodeTable<'g>,
     kept: &mut Vec<NumberedDemand<'g>>,
 ) -> Result<(), AllocError>
-    ensures { OnOk result (map numbered_view kept.new.items ≡ map numbered_view kept.old.items ++ kept_demands nodes.now (base_demands nodes.now)) }
+    ensures { OnOk result (map numbered_view kept.new.items
+        ≡ map numbered_view kept.old.items ++ kept_demands nodes.now (base_demands nodes.now)) }
 {
     let demands = base_demands(alloc, nodes)?;
     keep_demands(nodes, &demands, kept)
@@ -49,7 +54,10 @@ fn keep_entries<'g>(
     links: &LinkTable<'g>,
     kept: &mut Vec<NumberedDemand<'g>>,
 ) -> Result<(), AllocError>
-    ensures { OnOk result (map numbered_view kept.new.items ≡ map numbered_view kept.old.items ++ kept_demands nodes.now (flat_map (at_demands nodes.now links.now) (map entry_at_view entries.now))) }
+    ensures { OnOk result (map numbered_view kept.new.items
+        ≡ map numbered_view kept.old.items
+        ++ kept_demands nodes.now
+        (flat_map (at_demands nodes.now links.now) (map entry_at_view entries.now))) }
 {
     let demands = entry_demands(alloc, entries, nodes, links)?;
     keep_demands(nodes, &demands, kept)
@@ -61,7 +69,9 @@ fn keep_links<'g>(
     links: &LinkTable<'g>,
     kept: &mut Vec<NumberedDemand<'g>>,
 ) -> Result<(), AllocError>
-    ensures { OnOk result (map numbered_view kept.new.items ≡ map numbered_view kept.old.items ++ kept_demands nodes.now (flat_map link_demands links.now)) }
+    ensures { OnOk result (map numbered_view kept.new.items
+        ≡ map numbered_view kept.old.items
+        ++ kept_demands nodes.now (flat_map link_demands links.now)) }
 {
     let demands = link_demands(alloc, links)?;
     keep_demands(nodes, &demands, kept)

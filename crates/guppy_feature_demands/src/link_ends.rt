@@ -1,12 +1,12 @@
 ghost use Rattle.std.specs.Prelude.{◌≡◌};
 
 use crate::hashed_id::HashedId;
-use crate::numbered::LinkAt;
+use crate::numbered::NumberedLink;
 
 /// A numbered link, and the ids of the packages between which it stands.
 #[derive(Clone, Copy)]
 pub(crate) struct LinkEnds<'g> {
-    pub at: LinkAt<'g>,
+    pub at: NumberedLink<'g>,
     pub from: HashedId<'g>,
     pub to: HashedId<'g>,
     ghost from_row: { from.text.now ≡ at.row.now.from },
@@ -15,7 +15,7 @@ pub(crate) struct LinkEnds<'g> {
 
 impl<'g> LinkEnds<'g> {
     /// The ends of a link, which may start at the package with this id.
-    pub(crate) fn of(at: LinkAt<'g>, last: HashedId<'g>) -> LinkEnds<'g>
+    pub(crate) fn of(at: NumberedLink<'g>, last: HashedId<'g>) -> LinkEnds<'g>
         ensures { result.at ≡ at.entry }
     {
         let row = at.row;

@@ -10,7 +10,7 @@ ghost use Rattle.guppy_feature_demands.specs.declared.link_names.LinkName.{LinkN
 
 use crate::hashed_id::HashedId;
 use crate::link_ends::LinkEnds;
-use crate::numbered::LinkAt;
+use crate::numbered::NumberedLink;
 use indexmap::IndexMap;
 use std::alloc::{AllocError, Global};
 use std::hash::{Hash, Hasher};
@@ -70,7 +70,7 @@ impl<'g> LinkName<'g> {
 
 /// The links of each name.
 pub(crate) struct LinkNames<'g> {
-    groups: IndexMap<LinkName<'g>, Vec<LinkAt<'g>>>,
+    groups: IndexMap<LinkName<'g>, Vec<NumberedLink<'g>>>,
 }
 
 // Written out, so that a function that lets one go takes one step.
@@ -83,8 +83,9 @@ impl Drop for LinkNames<'_> {
 
 impl<'g> LinkNames<'g> {
     /// The package's links under a name, if there are any.
-    pub(crate) fn links(&self, key: LinkName<'g>) -> Option<&[LinkAt<'g>]>
-        ensures some { IfSome result (λ group. map link_view group.now ≡ links_in (get key_eq self.now.groups key.entry)) }
+    pub(crate) fn links(&self, key: LinkName<'g>) -> Option<&[NumberedLink<'g>]>
+        ensures some { IfSome result (λ group. map link_view group.now
+            ≡ links_in (get key_eq self.now.groups key.entry)) }
         ensures none { IfNone result (links_in (get key_eq self.now.groups key.entry) ≡ []) }
     {
         let group = self.groups.get(&key)?;
@@ -112,7 +113,10 @@ fn push_link<'g>(
     names: &mut LinkNames<'g>,
     ends: LinkEnds<'g>,
 ) -> Result<(), AllocError>
-    ensures { OnOk result ((id name : Text) (q : LinkName) → IsNameOf id name q → links_in (get key_eq names.new.groups q) ≡ links_in (get key_eq names.old.groups q) ++ links_named (ends_view ends.entry ∷ []) id name) }
+    ensures { OnOk result ((id name : Text) (q : LinkName) → IsNameOf id name q
+        → links_in (get key_eq names.new.groups q)
+        ≡ links_in (get key_eq names.old.groups q)
+        ++ links_named (ends_view ends.entry ∷ []) id name) }
 {
     let link = ends.at;
     let row = link.row;

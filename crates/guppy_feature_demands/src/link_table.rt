@@ -7,8 +7,8 @@ ghost use Rattle.guppy_feature_demands.specs.NumberedViews.{ends_view, link_view
 use crate::hashed_id::HashedId;
 use crate::link_ends::LinkEnds;
 use crate::link_names::{LinkName, LinkNames, link_names};
-use crate::numbered::{LinkAt, numbered_links};
-use guppy_row_parts::LinkRow;
+use crate::numbered::{NumberedLink, numbered_links};
+use guppy_package_parts::LinkRow;
 use std::alloc::{AllocError, Global};
 use std::marker::Model;
 
@@ -56,8 +56,9 @@ impl<'g> LinkTable<'g> {
     }
 
     /// The package's links under a name, if there are any.
-    pub(crate) fn named(&self, id: HashedId<'g>, name: &'g str) -> Option<&[LinkAt<'g>]>
-        ensures some { IfSome result (λ group. map link_view group.now ≡ links_named self.now id.entry.text.now name.entry.now) }
+    pub(crate) fn named(&self, id: HashedId<'g>, name: &'g str) -> Option<&[NumberedLink<'g>]>
+        ensures some { IfSome result (λ group. map link_view group.now
+            ≡ links_named self.now id.entry.text.now name.entry.now) }
         ensures none { IfNone result (links_named self.now id.entry.text.now name.entry.now ≡ []) }
     {
         self.names.links(LinkName::of(id, name))

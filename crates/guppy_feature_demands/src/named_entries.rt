@@ -6,7 +6,7 @@ ghost use Rattle.guppy_feature_demands.specs.Demands.{same_name};
 ghost use Rattle.guppy_feature_demands.specs.NamedRows.{named_view};
 ghost use Rattle.guppy_feature_demands.specs.Nodes.{first_of_each};
 
-use guppy_row_parts::FeatureRow;
+use guppy_package_parts::FeatureRow;
 use indexmap::IndexSet;
 use std::alloc::{AllocError, Global};
 use std::hash::{Hash, Hasher};
@@ -57,7 +57,8 @@ pub(crate) fn named_entries<'g>(
     alloc: Global,
     features: &'g [FeatureRow],
 ) -> Result<IndexSet<NamedRow<'g>>, AllocError>
-    ensures { IfOk result (λ set. map named_view set.keys ≡ first_of_each same_name features.entry.now) }
+    ensures { IfOk result (λ set. map named_view set.keys
+        ≡ first_of_each same_name features.entry.now) }
 {
     let mut set: IndexSet<NamedRow<'g>> = IndexSet::with_capacity(alloc, features.len())?;
     for row in features {
@@ -67,7 +68,8 @@ pub(crate) fn named_entries<'g>(
 }
 
 fn insert_row<'g>(set: &mut IndexSet<NamedRow<'g>>, row: &'g FeatureRow) -> Result<(), AllocError>
-    ensures { OnOk result (map named_view set.new.keys ≡ insert_key same_name (map named_view set.old.keys) row.entry.now) }
+    ensures { OnOk result (map named_view set.new.keys
+        ≡ insert_key same_name (map named_view set.old.keys) row.entry.now) }
 {
     set.insert(NamedRow { row })?;
     Ok(())

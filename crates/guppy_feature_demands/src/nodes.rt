@@ -4,17 +4,17 @@ ghost use Rattle.std.specs.Prelude.{◌≡◌, ◌∷◌, ◌++◌, [], IfOk, On
 ghost use Rattle.std.specs.List.{flat_map, list_any};
 ghost use Rattle.indexmap.specs.IndexSet.{insert_key};
 ghost use Rattle.workspace_record.specs.Features.{feature_eq};
-ghost use Rattle.guppy_feature_ids.specs.IdViews.{id_view};
+ghost use Rattle.guppy_feature_demands.specs.IdViews.{id_view};
 ghost use Rattle.guppy_feature_demands.specs.HashedViews.{hashed_view};
 ghost use Rattle.guppy_feature_demands.specs.NameViews.{name_view};
 ghost use Rattle.guppy_feature_demands.specs.Nodes.{base_of, named_of, dep_of, features_of, first_of_each, nodes_of, is_node, number_of};
 
+use crate::feature_id::FeatureId;
+use crate::feature_key::FeatureKey;
 use crate::feature_name::FeatureName;
 use crate::hashed_id::HashedId;
-use crate::hashed_name::HashedName;
 use crate::package_at::PackageAt;
-use guppy_feature_ids::FeatureId;
-use guppy_row_parts::{FeatureRow, PackageId};
+use guppy_package_parts::{FeatureRow, PackageId};
 use indexmap::IndexSet;
 use std::alloc::{AllocError, Global};
 use std::marker::Model;
@@ -22,7 +22,7 @@ use std::marker::Model;
 /// Features, each with its number: its place in the list.
 pub struct NodeTable<'g> {
     ids: Vec<FeatureId<'g>>,
-    names: IndexSet<HashedName<'g>>,
+    names: IndexSet<FeatureKey<'g>>,
 }
 
 // Written out, so that a function that lets one go takes one step.
@@ -36,7 +36,7 @@ impl Drop for NodeTable<'_> {
 impl<'g> Model for NodeTable<'g> {
     ghost use Rattle.std.specs.Prelude.{◌≡◌, List, map};
     ghost use Rattle.workspace_record.specs.Features.{FeatureValue};
-    ghost use Rattle.guppy_feature_ids.specs.IdViews.{id_view};
+    ghost use Rattle.guppy_feature_demands.specs.IdViews.{id_view};
     ghost use Rattle.guppy_feature_demands.specs.HashedViews.{hashed_view};
 
     ghost Value = { List FeatureValue };
@@ -63,7 +63,7 @@ impl<'g> NodeTable<'g> {
     }
 
     /// The same, with the hashes of the packages' ids.
-    pub(crate) fn names(&self) -> &[HashedName<'g>]
+    pub(crate) fn names(&self) -> &[FeatureKey<'g>]
         ensures value { map hashed_view result.now ≡ self.now }
     {
         self.names.as_slice()
@@ -84,14 +84,14 @@ impl<'g> NodeTable<'g> {
     }
 
     /// Whether there is such a feature.
-    pub(crate) fn has(&self, name: HashedName<'_>) -> bool
+    pub(crate) fn has(&self, name: FeatureKey<'_>) -> bool
         ensures answer { result ≡ is_node self.now (hashed_view name.entry) }
     {
         self.names.contains(&name)
     }
 
     /// The number of a feature; the number of features where there is none.
-    pub(crate) fn place_of(&self, name: HashedName<'_>) -> usize
+    pub(crate) fn place_of(&self, name: FeatureKey<'_>) -> usize
         ensures number { result ≡ number_of self.now (hashed_view name.entry) }
     {
         match self.names.get_index_of(&name) {
@@ -112,7 +112,8 @@ fn features_of<'g>(
     alloc: Global,
     packages: &[PackageAt<'g>],
 ) -> Result<Vec<FeatureId<'g>>, AllocError>
-    ensures { IfOk result (λ v. map id_view v.items ≡ flat_map features_of (map (λ p. p.row.now) packages.now)) }
+    ensures { IfOk result (λ v. map id_view v.items
+        ≡ flat_map features_of (map (λ p. p.row.now) packages.now)) }
 {
     let mut features: Vec<FeatureId<'g>> = Vec::new(alloc);
     for entry in packages {
@@ -122,7 +123,8 @@ fn features_of<'g>(
 }
 
 fn push_features<'g>(at: PackageAt<'g>, features: &mut Vec<FeatureId<'g>>) -> Result<(), AllocError>
-    ensures { OnOk result (map id_view features.new.items ≡ map id_view features.old.items ++ features_of at.entry.row.now) }
+    ensures { OnOk result (map id_view features.new.items
+        ≡ map id_view features.old.items ++ features_of at.entry.row.now) }
 {
     let row = at.row;
     features.push(FeatureId::base(at.id))?;
@@ -135,7 +137,9 @@ fn push_named<'g>(
     named: &'g [FeatureRow],
     features: &mut Vec<FeatureId<'g>>,
 ) -> Result<(), AllocError>
-    ensures { OnOk result (map id_view features.new.items ≡ map id_view features.old.items ++ map (λ f. named_of id.entry.now f.name) named.entry.now) }
+    ensures { OnOk result (map id_view features.new.items
+        ≡ map id_view features.old.items
+        ++ map (λ f. named_of id.entry.now f.name) named.entry.now) }
 {
     for feature in named {
         features.push(FeatureId::named(id, feature.name.as_str()))?;
@@ -148,7 +152,9 @@ fn push_dependencies<'g>(
     names: &'g [String],
     features: &mut Vec<FeatureId<'g>>,
 ) -> Result<(), AllocError>
-    ensures { OnOk result (map id_view features.new.items ≡ map id_view features.old.items ++ map (dep_of id.entry.now) (map string_bytes names.entry.now)) }
+    ensures { OnOk result (map id_view features.new.items
+        ≡ map id_view features.old.items
+        ++ map (dep_of id.entry.now) (map string_bytes names.entry.now)) }
 {
     for name in names {
         features.push(FeatureId::optional_dependency(id, name.as_str()))?;
@@ -160,7 +166,7 @@ fn first_of_each<'g>(alloc: Global, features: &[FeatureId<'g>]) -> Result<NodeTa
     ensures { IfOk result (λ t. t ≡ first_of_each feature_eq (map id_view features.now)) }
 {
     let mut ids: Vec<FeatureId<'g>> = Vec::with_capacity(alloc, features.len())?;
-    let mut names: IndexSet<HashedName<'g>> = IndexSet::with_capacity(alloc, features.len())?;
+    let mut names: IndexSet<FeatureKey<'g>> = IndexSet::with_capacity(alloc, features.len())?;
     match push_firsts(features, &mut names, &mut ids) {
         Ok(()) => Ok(NodeTable { ids, names }),
         Err(refused) => {
@@ -173,17 +179,18 @@ fn first_of_each<'g>(alloc: Global, features: &[FeatureId<'g>]) -> Result<NodeTa
 /// Lists the first of each of these features, with its name, where none is listed yet.
 fn push_firsts<'g>(
     features: &[FeatureId<'g>],
-    names: &mut IndexSet<HashedName<'g>>,
+    names: &mut IndexSet<FeatureKey<'g>>,
     ids: &mut Vec<FeatureId<'g>>,
 ) -> Result<(), AllocError>
     requires names { names.old.keys ≡ [] }
     requires ids { ids.old.items ≡ [] }
-    ensures names { OnOk result (map hashed_view names.new.keys ≡ first_of_each feature_eq (map id_view features.now)) }
+    ensures names { OnOk result (map hashed_view names.new.keys
+        ≡ first_of_each feature_eq (map id_view features.now)) }
     ensures ids { OnOk result (map id_view ids.new.items ≡ map hashed_view names.new.keys) }
 {
     let mut last = HashedId::of("");
     for feature in features {
-        let name = HashedName::of(last, *feature);
+        let name = FeatureKey::of(last, *feature);
         last = name.id;
         push_first(name, *feature, names, ids)?;
     }
@@ -191,13 +198,16 @@ fn push_firsts<'g>(
 }
 
 fn push_first<'g>(
-    name: HashedName<'g>,
+    name: FeatureKey<'g>,
     id: FeatureId<'g>,
-    names: &mut IndexSet<HashedName<'g>>,
+    names: &mut IndexSet<FeatureKey<'g>>,
     ids: &mut Vec<FeatureId<'g>>,
 ) -> Result<(), AllocError>
-    ensures names { OnOk result (map hashed_view names.new.keys ≡ insert_key feature_eq (map hashed_view names.old.keys) (hashed_view name.entry)) }
-    ensures ids { OnOk result (map id_view ids.new.items ≡ (if list_any (feature_eq (hashed_view name.entry)) (map hashed_view names.old.keys) then map id_view ids.old.items else map id_view ids.old.items ++ id_view id.entry ∷ [])) }
+    ensures names { OnOk result (map hashed_view names.new.keys
+        ≡ insert_key feature_eq (map hashed_view names.old.keys) (hashed_view name.entry)) }
+    ensures ids { OnOk result (map id_view ids.new.items
+        ≡ (if list_any (feature_eq (hashed_view name.entry)) (map hashed_view names.old.keys)
+        then map id_view ids.old.items else map id_view ids.old.items ++ id_view id.entry ∷ [])) }
 {
     if names.insert(name)? {
         ids.push(id)?;

@@ -6,12 +6,12 @@ ghost use Rattle.guppy_feature_demands.specs.NumberedViews.{ends_view};
 
 use crate::hashed_id::HashedId;
 use crate::link_ends::LinkEnds;
-use guppy_row_parts::{LineRow, LinkRow};
+use guppy_package_parts::{LineRow, LinkRow};
 use std::alloc::{AllocError, Global};
 
 /// A link's row and its number.
 #[derive(Clone, Copy)]
-pub(crate) struct LinkAt<'g> {
+pub(crate) struct NumberedLink<'g> {
     pub number: usize,
     pub row: &'g LinkRow,
 }
@@ -32,7 +32,7 @@ pub(crate) fn numbered_links<'g>(
     let mut all: Vec<LinkEnds<'g>> = Vec::with_capacity(alloc, links.len())?;
     let mut last = HashedId::of("");
     for (number, row) in links.iter().enumerate() {
-        let ends = LinkEnds::of(LinkAt { number, row }, last);
+        let ends = LinkEnds::of(NumberedLink { number, row }, last);
         last = ends.from;
         all.push(ends)?;
     }

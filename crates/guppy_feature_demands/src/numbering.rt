@@ -7,10 +7,10 @@ ghost use Rattle.guppy_feature_demands.specs.HashedViews.{hashed_view};
 ghost use Rattle.guppy_feature_demands.specs.Nodes.{number_of};
 
 use crate::demand::{Demand, NumberedDemand};
+use crate::feature_key::FeatureKey;
+use crate::feature_label::FeatureLabel;
 use crate::hashed_id::HashedId;
-use crate::hashed_name::HashedName;
 use crate::nodes::NodeTable;
-use guppy_feature_ids::FeatureLabel;
 use std::alloc::AllocError;
 
 /// Adds the demands between two different nodes, which are told by their numbers.
@@ -19,7 +19,9 @@ pub(crate) fn keep_demands<'g>(
     demands: &[Demand<'g>],
     kept: &mut Vec<NumberedDemand<'g>>,
 ) -> Result<(), AllocError>
-    ensures { OnOk result (map numbered_view kept.new.items ≡ map numbered_view kept.old.items ++ kept_demands nodes.now (map demand_view demands.now)) }
+    ensures { OnOk result (map numbered_view kept.new.items
+        ≡ map numbered_view kept.old.items
+        ++ kept_demands nodes.now (map demand_view demands.now)) }
 {
     let mut from = LastNumber::of(nodes);
     let mut base = LastNumber::of(nodes);
@@ -36,7 +38,9 @@ fn push_kept<'g>(
     demand: NumberedDemand<'g>,
     kept: &mut Vec<NumberedDemand<'g>>,
 ) -> Result<(), AllocError>
-    ensures { OnOk result (map numbered_view kept.new.items ≡ map numbered_view kept.old.items ++ filter (is_between_nodes (length nodes.now)) (numbered_view demand.entry ∷ [])) }
+    ensures { OnOk result (map numbered_view kept.new.items
+        ≡ map numbered_view kept.old.items
+        ++ filter (is_between_nodes (length nodes.now)) (numbered_view demand.entry ∷ [])) }
 {
     if is_between(nodes, demand) {
         kept.push(demand)?;
@@ -52,7 +56,8 @@ fn with_numbers<'g>(
 ) -> NumberedDemand<'g>
     requires base { base.old.nodes.now ≡ from.old.nodes.now }
     requires to { to.old.nodes.now ≡ from.old.nodes.now }
-    ensures value { numbered_view result ≡ with_numbers from.old.nodes.now (demand_view demand.entry) }
+    ensures value { numbered_view result ≡ with_numbers from.old.nodes.now
+        (demand_view demand.entry) }
     ensures from { from.new.nodes.now ≡ from.old.nodes.now }
     ensures base { base.new.nodes.now ≡ base.old.nodes.now }
     ensures to { to.new.nodes.now ≡ to.old.nodes.now }
@@ -69,7 +74,7 @@ fn with_numbers<'g>(
 fn number_to<'g>(
     base: &mut LastNumber<'_, 'g>,
     other: &mut LastNumber<'_, 'g>,
-    feature: HashedName<'g>,
+    feature: FeatureKey<'g>,
 ) -> usize
     requires { other.old.nodes.now ≡ base.old.nodes.now }
     ensures number { result ≡ number_of base.old.nodes.now (hashed_view feature.entry) }
@@ -87,7 +92,7 @@ fn number_to<'g>(
 #[derive(Clone, Copy)]
 struct LastNumber<'a, 'g> {
     nodes: &'a NodeTable<'g>,
-    feature: HashedName<'g>,
+    feature: FeatureKey<'g>,
     number: usize,
     ghost known: { number ≡ number_of nodes.now (hashed_view feature) },
 }
@@ -96,7 +101,7 @@ impl<'a, 'g> LastNumber<'a, 'g> {
     fn of(nodes: &'a NodeTable<'g>) -> LastNumber<'a, 'g>
         ensures { result.nodes.now ≡ nodes.entry.now }
     {
-        let feature = HashedName::base(HashedId::of(""));
+        let feature = FeatureKey::base(HashedId::of(""));
         let number = nodes.place_of(feature);
         LastNumber {
             nodes,
@@ -106,7 +111,7 @@ impl<'a, 'g> LastNumber<'a, 'g> {
     }
 
     /// The number of a feature; the number of features where there is none.
-    fn number_of(&mut self, feature: HashedName<'g>) -> usize
+    fn number_of(&mut self, feature: FeatureKey<'g>) -> usize
         ensures number { result ≡ number_of self.old.nodes.now (hashed_view feature.entry) }
         ensures nodes { self.new.nodes.now ≡ self.old.nodes.now }
     {

@@ -1,6 +1,6 @@
 ghost use Rattle.std.specs.Prelude.{◌≡◌};
 
-use guppy_row_parts::{PackageId, PackageRow};
+use guppy_package_parts::{PackageId, PackageRow};
 
 /// A package's row, with the package's id.
 #[derive(Clone, Copy)]

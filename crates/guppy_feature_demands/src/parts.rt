@@ -1,7 +1,7 @@
 //! All that rows say of features.
 
 ghost use Rattle.std.specs.Prelude.{◌≡◌, IfOk, map};
-ghost use Rattle.guppy_row_parts.specs.WarningViews.{warning_view};
+ghost use Rattle.guppy_package_parts.specs.WarningViews.{warning_view};
 ghost use Rattle.guppy_feature_demands.specs.Demands.{demands_of, kept_demands};
 ghost use Rattle.guppy_feature_demands.specs.DemandViews.{numbered_view};
 ghost use Rattle.guppy_feature_demands.specs.Nodes.{nodes_of};
@@ -14,7 +14,7 @@ use crate::link_table::LinkTable;
 use crate::nodes::NodeTable;
 use crate::package_at::PackageAt;
 use crate::warnings::warnings_of;
-use guppy_row_parts::{FeatureGraphWarning, LinkRow};
+use guppy_package_parts::{FeatureGraphWarning, LinkRow};
 use std::alloc::{AllocError, Global};
 
 /// The features of packages, what leads from one to another, and what is odd.
@@ -33,8 +33,11 @@ pub fn feature_parts<'g>(
     links: &'g [LinkRow],
 ) -> Result<FeatureParts<'g>, AllocError>
     ensures nodes { IfOk result (λ p. p.nodes ≡ nodes_of (map (λ at. at.row.now) packages.now)) }
-    ensures demands { IfOk result (λ p. map numbered_view p.demands.items ≡ kept_demands (nodes_of (map (λ at. at.row.now) packages.now)) (demands_of (map (λ at. at.row.now) packages.now) links.entry.now)) }
-    ensures warnings { IfOk result (λ p. map warning_view p.warnings.items ≡ warnings_of (map (λ at. at.row.now) packages.now) links.entry.now) }
+    ensures demands { IfOk result (λ p. map numbered_view p.demands.items
+        ≡ kept_demands (nodes_of (map (λ at. at.row.now) packages.now))
+        (demands_of (map (λ at. at.row.now) packages.now) links.entry.now)) }
+    ensures warnings { IfOk result (λ p. map warning_view p.warnings.items
+        ≡ warnings_of (map (λ at. at.row.now) packages.now) links.entry.now) }
 {
     let nodes = NodeTable::of(alloc, packages)?;
     let table = LinkTable::of(alloc, links)?;

@@ -2,10 +2,10 @@
 
 ghost use Rattle.std.specs.Prelude.{◌≡◌, ◌∷◌, ◌++◌, [], IfOk, OnOk, map, string_bytes};
 ghost use Rattle.std.specs.List.{flat_map};
-ghost use Rattle.guppy_row_parts.specs.Warnings.{AddNamedFeatureEdges, MissingFeature, SelfLoop};
-ghost use Rattle.guppy_feature_ids.specs.LabelViews.{label_view};
-ghost use Rattle.guppy_feature_ids.specs.Printing.{label_text};
-ghost use Rattle.guppy_row_parts.specs.WarningViews.{stage_view, warning_view};
+ghost use Rattle.guppy_package_parts.specs.Warnings.{AddNamedFeatureEdges, MissingFeature, SelfLoop};
+ghost use Rattle.guppy_feature_demands.specs.LabelViews.{label_view};
+ghost use Rattle.guppy_feature_demands.specs.Printing.{label_text};
+ghost use Rattle.guppy_package_parts.specs.WarningViews.{stage_view, warning_view};
 ghost use Rattle.guppy_feature_demands.specs.EntriesAt.{at_warnings};
 ghost use Rattle.guppy_feature_demands.specs.EntryAtView.{entry_at_view};
 ghost use Rattle.guppy_feature_demands.specs.HashedViews.{hashed_view};
@@ -17,18 +17,18 @@ ghost use Rattle.guppy_feature_demands.specs.Warnings.{line_warnings, link_warni
 
 use crate::entries::EntryAt;
 use crate::entry::Entry;
+use crate::feature_key::FeatureKey;
 use crate::hashed_id::HashedId;
-use crate::hashed_name::HashedName;
 use crate::link_ends::LinkEnds;
 use crate::link_table::LinkTable;
 use crate::nodes::NodeTable;
-use crate::numbered::LinkAt;
-use guppy_row_parts::{FeatureBuildStage, FeatureGraphWarning, LineRow, PackageId};
+use crate::numbered::NumberedLink;
+use guppy_package_parts::{FeatureBuildStage, FeatureGraphWarning, LineRow, PackageId};
 use std::alloc::{AllocError, Global};
 
 /// Where a feature is named: by an entry of a package's feature, or by a package's dependency.
 #[derive(Clone, Copy)]
-pub(crate) enum StageAt<'g> {
+pub(crate) enum WarningSite<'g> {
     Entry(&'g str, &'g str),
     Line(&'g str, &'g str),
 }
@@ -40,7 +40,9 @@ pub(crate) fn warnings_of<'g>(
     nodes: &NodeTable<'g>,
     links: &LinkTable<'g>,
 ) -> Result<Vec<FeatureGraphWarning>, AllocError>
-    ensures { IfOk result (λ v. map warning_view v.items ≡ flat_map (at_warnings nodes.now links.now) (map entry_at_view entries.now) ++ flat_map (λ link. link_warnings nodes.now link.1) links.now) }
+    ensures { IfOk result (λ v. map warning_view v.items
+        ≡ flat_map (at_warnings nodes.now links.now) (map entry_at_view entries.now)
+        ++ flat_map (λ link. link_warnings nodes.now link.1) links.now) }
 {
     let mut warnings: Vec<FeatureGraphWarning> = Vec::new(alloc);
     push_entries(alloc, entries, nodes, links, &mut warnings)?;
@@ -55,7 +57,9 @@ fn push_entries<'g>(
     links: &LinkTable<'g>,
     warnings: &mut Vec<FeatureGraphWarning>,
 ) -> Result<(), AllocError>
-    ensures { OnOk result (map warning_view warnings.new.items ≡ map warning_view warnings.old.items ++ flat_map (at_warnings nodes.now links.now) (map entry_at_view entries.now)) }
+    ensures { OnOk result (map warning_view warnings.new.items
+        ≡ map warning_view warnings.old.items
+        ++ flat_map (at_warnings nodes.now links.now) (map entry_at_view entries.now)) }
 {
     for at in entries {
         push_entry(alloc, *at, nodes, links, warnings)?;
@@ -70,14 +74,22 @@ fn push_entry<'g>(
     links: &LinkTable<'g>,
     warnings: &mut Vec<FeatureGraphWarning>,
 ) -> Result<(), AllocError>
-    ensures { OnOk result (map warning_view warnings.new.items ≡ map warning_view warnings.old.items ++ at_warnings nodes.now links.now (entry_at_view at.entry)) }
+    ensures { OnOk result (map warning_view warnings.new.items
+        ≡ map warning_view warnings.old.items
+        ++ at_warnings nodes.now links.now (entry_at_view at.entry)) }
 {
     let (id, from) = (at.id, at.feature);
     match at.entry {
         Entry::OwnFeature(name) => push_own(alloc, id, from, name, nodes, warnings),
         Entry::Dependency(name) => {
-            let dep = HashedName::dep(id, name);
-            push_missing(alloc, StageAt::Entry(id.text, from), dep, nodes, warnings)
+            let dep = FeatureKey::dep(id, name);
+            push_missing(
+                alloc,
+                WarningSite::Entry(id.text, from),
+                dep,
+                nodes,
+                warnings,
+            )
         }
         Entry::Strong(name, feature) | Entry::Weak(name, feature) => {
             push_slash(alloc, at, name, feature, nodes, links, warnings)
@@ -93,16 +105,18 @@ fn push_own<'g>(
     nodes: &NodeTable<'g>,
     warnings: &mut Vec<FeatureGraphWarning>,
 ) -> Result<(), AllocError>
-    ensures { OnOk result (map warning_view warnings.new.items ≡ map warning_view warnings.old.items ++ own_warnings nodes.now id.entry.text.now from.entry.now name.entry.now) }
+    ensures { OnOk result (map warning_view warnings.new.items
+        ≡ map warning_view warnings.old.items
+        ++ own_warnings nodes.now id.entry.text.now from.entry.now name.entry.now) }
 {
     if name == from {
         warnings.push(self_loop(alloc, id.text, from)?)?;
         Ok(())
     } else {
-        let feature = HashedName::named(id, name);
+        let feature = FeatureKey::named(id, name);
         push_missing(
             alloc,
-            StageAt::Entry(id.text, from),
+            WarningSite::Entry(id.text, from),
             feature,
             nodes,
             warnings,
@@ -119,9 +133,12 @@ fn push_slash<'g>(
     links: &LinkTable<'g>,
     warnings: &mut Vec<FeatureGraphWarning>,
 ) -> Result<(), AllocError>
-    ensures { OnOk result (map warning_view warnings.new.items ≡ map warning_view warnings.old.items ++ slash_warnings nodes.now (AddNamedFeatureEdges at.entry.id.text.now at.entry.feature.now) feature.entry.now (links_named links.now at.entry.id.text.now name.entry.now)) }
+    ensures { OnOk result (map warning_view warnings.new.items
+        ≡ map warning_view warnings.old.items
+        ++ slash_warnings nodes.now (AddNamedFeatureEdges at.entry.id.text.now at.entry.feature.now)
+        feature.entry.now (links_named links.now at.entry.id.text.now name.entry.now)) }
 {
-    let stage = StageAt::Entry(at.id.text, at.feature);
+    let stage = WarningSite::Entry(at.id.text, at.feature);
     match links.named(at.id, name) {
         Some(group) => push_slash_links(alloc, stage, feature, group, nodes, warnings),
         None => Ok(()),
@@ -130,13 +147,16 @@ fn push_slash<'g>(
 
 fn push_slash_links<'g>(
     alloc: Global,
-    stage: StageAt<'g>,
+    stage: WarningSite<'g>,
     feature: &'g str,
-    links: &[LinkAt<'g>],
+    links: &[NumberedLink<'g>],
     nodes: &NodeTable<'g>,
     warnings: &mut Vec<FeatureGraphWarning>,
 ) -> Result<(), AllocError>
-    ensures { OnOk result (map warning_view warnings.new.items ≡ map warning_view warnings.old.items ++ slash_warnings nodes.now (place_view stage.entry) feature.entry.now (map link_view links.now)) }
+    ensures { OnOk result (map warning_view warnings.new.items
+        ≡ map warning_view warnings.old.items
+        ++ slash_warnings nodes.now (place_view stage.entry) feature.entry.now
+        (map link_view links.now)) }
 {
     for link in links {
         push_slash_link(alloc, stage, feature, *link, nodes, warnings)?;
@@ -146,16 +166,19 @@ fn push_slash_links<'g>(
 
 fn push_slash_link<'g>(
     alloc: Global,
-    stage: StageAt<'g>,
+    stage: WarningSite<'g>,
     feature: &'g str,
-    link: LinkAt<'g>,
+    link: NumberedLink<'g>,
     nodes: &NodeTable<'g>,
     warnings: &mut Vec<FeatureGraphWarning>,
 ) -> Result<(), AllocError>
-    ensures { OnOk result (map warning_view warnings.new.items ≡ map warning_view warnings.old.items ++ missing nodes.now (place_view stage.entry) (named_of link.entry.row.now.to feature.entry.now)) }
+    ensures { OnOk result (map warning_view warnings.new.items
+        ≡ map warning_view warnings.old.items
+        ++ missing nodes.now (place_view stage.entry)
+        (named_of link.entry.row.now.to feature.entry.now)) }
 {
     let row = link.row;
-    let to = HashedName::named(HashedId::of(row.to.as_str()), feature);
+    let to = FeatureKey::named(HashedId::of(row.to.as_str()), feature);
     push_missing(alloc, stage, to, nodes, warnings)
 }
 
@@ -165,7 +188,9 @@ fn push_links<'g>(
     nodes: &NodeTable<'g>,
     warnings: &mut Vec<FeatureGraphWarning>,
 ) -> Result<(), AllocError>
-    ensures { OnOk result (map warning_view warnings.new.items ≡ map warning_view warnings.old.items ++ flat_map (λ link. link_warnings nodes.now link.1) (map ends_view links.now)) }
+    ensures { OnOk result (map warning_view warnings.new.items
+        ≡ map warning_view warnings.old.items
+        ++ flat_map (λ link. link_warnings nodes.now link.1) (map ends_view links.now)) }
 {
     for link in links {
         push_link(alloc, *link, nodes, warnings)?;
@@ -179,7 +204,8 @@ fn push_link<'g>(
     nodes: &NodeTable<'g>,
     warnings: &mut Vec<FeatureGraphWarning>,
 ) -> Result<(), AllocError>
-    ensures { OnOk result (map warning_view warnings.new.items ≡ map warning_view warnings.old.items ++ link_warnings nodes.now link.entry.at.row.now) }
+    ensures { OnOk result (map warning_view warnings.new.items
+        ≡ map warning_view warnings.old.items ++ link_warnings nodes.now link.entry.at.row.now) }
 {
     let row = link.at.row;
     push_lines(alloc, link, &row.lines, nodes, warnings)
@@ -192,7 +218,9 @@ fn push_lines<'g>(
     nodes: &NodeTable<'g>,
     warnings: &mut Vec<FeatureGraphWarning>,
 ) -> Result<(), AllocError>
-    ensures { OnOk result (map warning_view warnings.new.items ≡ map warning_view warnings.old.items ++ flat_map (line_warnings nodes.now link.entry.at.row.now) lines.entry.now) }
+    ensures { OnOk result (map warning_view warnings.new.items
+        ≡ map warning_view warnings.old.items
+        ++ flat_map (line_warnings nodes.now link.entry.at.row.now) lines.entry.now) }
 {
     for line in lines {
         push_line(alloc, link, line, nodes, warnings)?;
@@ -207,27 +235,32 @@ fn push_line<'g>(
     nodes: &NodeTable<'g>,
     warnings: &mut Vec<FeatureGraphWarning>,
 ) -> Result<(), AllocError>
-    ensures { OnOk result (map warning_view warnings.new.items ≡ map warning_view warnings.old.items ++ line_warnings nodes.now link.entry.at.row.now line.entry.now) }
+    ensures { OnOk result (map warning_view warnings.new.items
+        ≡ map warning_view warnings.old.items
+        ++ line_warnings nodes.now link.entry.at.row.now line.entry.now) }
 {
     let row = link.at.row;
-    let stage = StageAt::Line(link.from.text, row.name.as_str());
+    let stage = WarningSite::Line(link.from.text, row.name.as_str());
     push_optional(alloc, stage, link, line, nodes, warnings)?;
     push_listed(alloc, stage, link.to, &line.features, nodes, warnings)
 }
 
 fn push_optional<'g>(
     alloc: Global,
-    stage: StageAt<'g>,
+    stage: WarningSite<'g>,
     link: LinkEnds<'g>,
     line: &'g LineRow,
     nodes: &NodeTable<'g>,
     warnings: &mut Vec<FeatureGraphWarning>,
 ) -> Result<(), AllocError>
-    ensures { OnOk result (map warning_view warnings.new.items ≡ map warning_view warnings.old.items ++ optional_warnings nodes.now (place_view stage.entry) link.entry.at.row.now line.entry.now) }
+    ensures { OnOk result (map warning_view warnings.new.items
+        ≡ map warning_view warnings.old.items
+        ++ optional_warnings nodes.now (place_view stage.entry) link.entry.at.row.now
+        line.entry.now) }
 {
     if line.optional {
         let row = link.at.row;
-        let dep = HashedName::dep(link.from, row.name.as_str());
+        let dep = FeatureKey::dep(link.from, row.name.as_str());
         push_missing(alloc, stage, dep, nodes, warnings)
     } else {
         Ok(())
@@ -236,16 +269,19 @@ fn push_optional<'g>(
 
 fn push_listed<'g>(
     alloc: Global,
-    stage: StageAt<'g>,
+    stage: WarningSite<'g>,
     to: HashedId<'g>,
     names: &'g [String],
     nodes: &NodeTable<'g>,
     warnings: &mut Vec<FeatureGraphWarning>,
 ) -> Result<(), AllocError>
-    ensures { OnOk result (map warning_view warnings.new.items ≡ map warning_view warnings.old.items ++ flat_map (λ x. missing nodes.now (place_view stage.entry) (named_of to.entry.text.now x)) (map string_bytes names.entry.now)) }
+    ensures { OnOk result (map warning_view warnings.new.items
+        ≡ map warning_view warnings.old.items
+        ++ flat_map (λ x. missing nodes.now (place_view stage.entry) (named_of to.entry.text.now x))
+        (map string_bytes names.entry.now)) }
 {
     for name in names {
-        let feature = HashedName::named(to, name.as_str());
+        let feature = FeatureKey::named(to, name.as_str());
         push_missing(alloc, stage, feature, nodes, warnings)?;
     }
     Ok(())
@@ -253,12 +289,14 @@ fn push_listed<'g>(
 
 fn push_missing<'g>(
     alloc: Global,
-    stage: StageAt<'g>,
-    feature: HashedName<'g>,
+    stage: WarningSite<'g>,
+    feature: FeatureKey<'g>,
     nodes: &NodeTable<'g>,
     warnings: &mut Vec<FeatureGraphWarning>,
 ) -> Result<(), AllocError>
-    ensures { OnOk result (map warning_view warnings.new.items ≡ map warning_view warnings.old.items ++ missing nodes.now (place_view stage.entry) (hashed_view feature.entry)) }
+    ensures { OnOk result (map warning_view warnings.new.items
+        ≡ map warning_view warnings.old.items
+        ++ missing nodes.now (place_view stage.entry) (hashed_view feature.entry)) }
 {
     if !nodes.has(feature) {
         warnings.push(missing_feature(alloc, stage, feature)?)?;
@@ -268,10 +306,12 @@ fn push_missing<'g>(
 
 fn missing_feature(
     alloc: Global,
-    stage: StageAt<'_>,
-    feature: HashedName<'_>,
+    stage: WarningSite<'_>,
+    feature: FeatureKey<'_>,
 ) -> Result<FeatureGraphWarning, AllocError>
-    ensures { IfOk result (λ w. warning_view w ≡ MissingFeature (place_view stage.entry) feature.entry.id.text.now (label_text (label_view feature.entry.label))) }
+    ensures { IfOk result (λ w. warning_view w
+        ≡ MissingFeature (place_view stage.entry) feature.entry.id.text.now
+        (label_text (label_view feature.entry.label))) }
 {
     let package_id = id_of(alloc, feature.id.text)?;
     let label = feature.label;
@@ -295,11 +335,11 @@ fn self_loop(alloc: Global, id: &str, feature: &str) -> Result<FeatureGraphWarni
     })
 }
 
-fn stage_of(alloc: Global, stage: StageAt<'_>) -> Result<FeatureBuildStage, AllocError>
+fn stage_of(alloc: Global, stage: WarningSite<'_>) -> Result<FeatureBuildStage, AllocError>
     ensures { IfOk result (λ s. stage_view s ≡ place_view stage.entry) }
 {
     match stage {
-        StageAt::Entry(id, from) => {
+        WarningSite::Entry(id, from) => {
             let package_id = id_of(alloc, id)?;
             let from_feature = String::from_str(alloc, from)?;
             Ok(FeatureBuildStage::AddNamedFeatureEdges {
@@ -307,7 +347,7 @@ fn stage_of(alloc: Global, stage: StageAt<'_>) -> Result<FeatureBuildStage, Allo
                 from_feature,
             })
         }
-        StageAt::Line(id, name) => {
+        WarningSite::Line(id, name) => {
             let package_id = id_of(alloc, id)?;
             let dep_name = String::from_str(alloc, name)?;
             Ok(FeatureBuildStage::AddDependencyEdges {

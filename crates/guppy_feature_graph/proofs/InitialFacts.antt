@@ -9,7 +9,7 @@ use Rattle.list_facts.proofs.Membership.{Contains-filter, Contains-filter_cases}
 use Rattle.numbered_graph.specs.Sets.{has}
 use Rattle.workspace_record.specs.Records.{Package}
 use Rattle.guppy_package_table.specs.Tables.{TableValue}
-use Rattle.guppy_feature_lists.specs.Labels.{labels_of}
+use Rattle.guppy_feature_views.specs.Labels.{labels_of}
 use Rattle.guppy_feature_graph.specs.FeaturesFor.{HasInitial, has_row}
 use Rattle.guppy_feature_graph.specs.Queries.{AreInitials, QueryValue}
 use Rattle.guppy_feature_graph.specs.Sets.{SetValue}

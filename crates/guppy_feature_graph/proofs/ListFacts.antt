@@ -25,8 +25,8 @@ use Rattle.guppy_feature_nodes.specs.Graphs.{AreListed, FeatureGraphValue, featu
 use Rattle.guppy_feature_nodes.proofs.DistinctFacts.{nodes_differ, number_at}
 use Rattle.guppy_feature_nodes.proofs.NodeFacts.{own_id}
 use Rattle.std.specs.declared.alloc.AllocError.{AllocError}
-use Rattle.guppy_feature_lists.specs.Labels.{AreLabels, labels_of}
-use Rattle.guppy_feature_lists.specs.ListValues.{ListValue}
+use Rattle.guppy_feature_views.specs.Labels.{AreLabels, labels_of}
+use Rattle.guppy_feature_views.specs.ListValues.{ListValue}
 use Rattle.guppy_feature_graph.specs.FeaturesFor.{IsRowOf, ListEach, ListsAll, ListsAt, ListsThose, has_label, labels_in}
 use Rattle.guppy_feature_graph.specs.PackageFeatures.{IsOfFeature, IsPackageSetOf, id_seen}
 use Rattle.guppy_feature_graph.specs.Queries.{QueryValue}

@@ -17,7 +17,7 @@ use Rattle.numbered_offers.specs.Edges.{edge_at, has_offer, is_offer, required_h
 use Rattle.numbered_offers.specs.Graphs.{OfferGraphValue}
 use Rattle.numbered_offers.specs.OfferWalks.{OfferWalkValue}
 use Rattle.numbered_offers.specs.Runs.{IsLegalRun, IsReachedBy, Run}
-use Rattle.guppy_row_parts.specs.declared.dependency_direction.DependencyDirection.{DependencyDirection}
+use Rattle.guppy_package_parts.specs.declared.dependency_direction.DependencyDirection.{DependencyDirection}
 use Rattle.guppy_package_graph.specs.Directions.{direction_of}
 use Rattle.guppy_package_graph.specs.Visits.{Chain, SameSteps}
 use Rattle.guppy_feature_nodes.specs.GraphEdges.{edge_ends}

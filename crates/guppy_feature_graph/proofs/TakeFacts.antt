@@ -6,7 +6,7 @@ use Rattle.std.proofs.lemmas.List.Kept.{AllPairs-filter}
 use Rattle.list_facts.proofs.Membership.{Contains-filter, Contains-filter_cases, Contains-map, Contains-map_cases, Contains-none}
 use Rattle.list_facts.proofs.Quantifiers.{All-from_Contains}
 use Rattle.numbered_graph.specs.Sets.{has}
-use Rattle.guppy_row_parts.specs.declared.dependency_direction.DependencyDirection.{DependencyDirection}
+use Rattle.guppy_package_parts.specs.declared.dependency_direction.DependencyDirection.{DependencyDirection}
 use Rattle.guppy_package_graph.specs.Visits.{Chain}
 use Rattle.guppy_package_graph.proofs.ChoiceFacts.{HasAnswered}
 use Rattle.guppy_package_graph.proofs.ResolveFacts.{Chain-push}

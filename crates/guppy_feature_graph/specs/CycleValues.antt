@@ -2,7 +2,7 @@
 use Rattle.std.specs.Prelude.{◌↔◌, ℕ, ◌<◌, All, Bool, List, Result, Ok, Err, IsTrue, length}
 use Rattle.numbered_graph.specs.declared.direction.Direction.TheVariants.{Reverse}
 use Rattle.numbered_graph.specs.Cycles.{AreCycles}
-use Rattle.guppy_row_parts.specs.declared.error.Error.{Error}
+use Rattle.guppy_package_parts.specs.declared.error.Error.{Error}
 use Rattle.workspace_record.specs.Features.{FeatureValue}
 use Rattle.guppy_package_graph.specs.CycleValues.{AreCyclic, AreNumbers}
 use Rattle.guppy_feature_nodes.specs.GraphEdges.{edge_ends}

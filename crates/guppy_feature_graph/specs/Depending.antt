@@ -2,8 +2,8 @@
 use Rattle.std.specs.Prelude.{◌≡◌, ◌↔◌, ◌⊎◌, ℕ, ◌<◌, Bool, List, Result, Ok, Err, IsTrue, length}
 use Rattle.numbered_graph.specs.declared.link.Link.{Link}
 use Rattle.numbered_graph.specs.Paths.{Reaches, any_link}
-use Rattle.guppy_row_parts.specs.declared.error.Error.{Error}
-use Rattle.guppy_row_parts.specs.declared.error.Error.TheVariants.{Memory, UnknownFeatureId}
+use Rattle.guppy_package_parts.specs.declared.error.Error.{Error}
+use Rattle.guppy_package_parts.specs.declared.error.Error.TheVariants.{Memory, UnknownFeatureId}
 use Rattle.workspace_record.specs.Features.{FeatureValue}
 use Rattle.guppy_package_table.specs.Tables.{IsBetween}
 use Rattle.guppy_feature_nodes.specs.GraphEdges.{edge_ends}

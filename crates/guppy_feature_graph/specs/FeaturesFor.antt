@@ -4,17 +4,17 @@ use Rattle.std.specs.List.{list_any}
 use Rattle.numbered_graph.specs.Sets.{has}
 use Rattle.workspace_record.specs.Records.{Package, Text}
 use Rattle.workspace_record.specs.Features.{LabelValue}
-use Rattle.guppy_row_parts.specs.declared.error.Error.{Error}
-use Rattle.guppy_row_parts.specs.declared.error.Error.TheVariants.{Memory, UnknownPackageId}
+use Rattle.guppy_package_parts.specs.declared.error.Error.{Error}
+use Rattle.guppy_package_parts.specs.declared.error.Error.TheVariants.{Memory, UnknownPackageId}
 use Rattle.guppy_package_table.specs.Tables.{TableValue, id_at}
 use Rattle.guppy_package_graph.specs.Finding.{IsAt, IsUnknown}
 use Rattle.numbered_graph.specs.ListedViews.{in_direction}
-use Rattle.guppy_row_parts.specs.declared.dependency_direction.DependencyDirection.{DependencyDirection}
+use Rattle.guppy_package_parts.specs.declared.dependency_direction.DependencyDirection.{DependencyDirection}
 use Rattle.guppy_package_graph.specs.Directions.{direction_of}
 use Rattle.guppy_package_graph.specs.SetValues as sets
 use Rattle.guppy_feature_demands.specs.Nodes.{number_of}
-use Rattle.guppy_feature_lists.specs.Labels.{AreLabels, labels_of}
-use Rattle.guppy_feature_lists.specs.ListValues.{ListValue}
+use Rattle.guppy_feature_views.specs.Labels.{AreLabels, labels_of}
+use Rattle.guppy_feature_views.specs.ListValues.{ListValue}
 use Rattle.guppy_feature_graph.specs.PackageFeatures.{IsOfFeature, IsPackageSetOf}
 use Rattle.guppy_feature_graph.specs.Queries.{QueryValue}
 use Rattle.guppy_feature_graph.specs.Sets.{SetValue}

@@ -3,8 +3,8 @@ use Rattle.std.specs.Prelude.{◌≡◌, Bool}
 use Rattle.std.specs.Borrow.{Bor}
 use Rattle.std.specs.Fn.{Shared, FnReturns}
 use Rattle.workspace_record.specs.Features.{FeatureValue}
-use Rattle.guppy_feature_ids.specs.IdViews.{id_view}
-use Rattle.guppy_feature_ids.specs.declared.feature_id.FeatureId.{FeatureId}
+use Rattle.guppy_feature_demands.specs.IdViews.{id_view}
+use Rattle.guppy_feature_demands.specs.declared.feature_id.FeatureId.{FeatureId}
 use Rattle.guppy_feature_nodes.specs.Graphs.{FeatureGraphValue}
 use Rattle.guppy_feature_graph.specs.Views.{feature_graph_of}
 use Rattle.guppy_feature_graph.specs.declared.feature_graph.FeatureGraph.{FeatureGraph}

@@ -2,8 +2,8 @@
 use Rattle.std.specs.Prelude.{◌≡◌, ◌⊎◌, ℕ, ◌<◌, Bool, true, false, List, All, Any, Result, Ok, Err, length}
 use Rattle.numbered_graph.specs.Sets.{has}
 use Rattle.workspace_record.specs.Features.{FeatureValue}
-use Rattle.guppy_row_parts.specs.declared.error.Error.{Error}
-use Rattle.guppy_row_parts.specs.declared.error.Error.TheVariants.{Memory, UnknownFeatureId}
+use Rattle.guppy_package_parts.specs.declared.error.Error.{Error}
+use Rattle.guppy_package_parts.specs.declared.error.Error.TheVariants.{Memory, UnknownFeatureId}
 use Rattle.guppy_feature_demands.specs.Nodes.{is_node, number_of}
 use Rattle.guppy_feature_nodes.specs.Graphs.{FeatureGraphValue}
 use Rattle.guppy_feature_views.specs.Views.{metadata_graph_of, node_of}

@@ -1,6 +1,6 @@
 -- Links that are shown where offers are made.
-use Rattle.guppy_feature_ids.specs.declared.link_declarations.LinkDeclarations.{LinkDeclarations}
-use Rattle.guppy_feature_ids.specs.declared.link_declarations.LinkDeclarations.TheVariants as shown
+use Rattle.guppy_feature_demands.specs.declared.link_declarations.LinkDeclarations.{LinkDeclarations}
+use Rattle.guppy_feature_demands.specs.declared.link_declarations.LinkDeclarations.TheVariants as shown
 use Rattle.guppy_feature_nodes.specs.Graphs.{FeatureGraphValue}
 use Rattle.guppy_feature_views.specs.Links.{LinkValue}
 use Rattle.numbered_offers.specs.declared.offer.Offer.{Offer}

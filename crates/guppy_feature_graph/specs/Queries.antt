@@ -1,7 +1,7 @@
 -- Queries: where a walk over features begins, and which way it goes.
 use Rattle.std.specs.Prelude.{◌≡◌, ◌↔◌, ℕ, ◌<◌, Bool, List, All, AllPairs, Contains, IsTrue}
 use Rattle.numbered_graph.specs.Sets.{has}
-use Rattle.guppy_row_parts.specs.declared.dependency_direction.DependencyDirection.{DependencyDirection}
+use Rattle.guppy_package_parts.specs.declared.dependency_direction.DependencyDirection.{DependencyDirection}
 use Rattle.guppy_feature_nodes.specs.Graphs.{FeatureGraphValue}
 
 -- what is seen of a query: the numbers of its initials ascend

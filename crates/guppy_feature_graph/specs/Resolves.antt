@@ -7,7 +7,7 @@ use Rattle.numbered_offers.specs.declared.edge.Edge.{Edge}
 use Rattle.numbered_offers.specs.declared.offer.Offer.{Offer}
 use Rattle.numbered_offers.specs.Least.{AnswersBy, IsLeast}
 use Rattle.numbered_offers.specs.Runs.{IsLegalRun, IsReachedBy, Run}
-use Rattle.guppy_row_parts.specs.declared.dependency_direction.DependencyDirection.{DependencyDirection}
+use Rattle.guppy_package_parts.specs.declared.dependency_direction.DependencyDirection.{DependencyDirection}
 use Rattle.guppy_package_graph.specs.Directions.{direction_of}
 use Rattle.guppy_feature_nodes.specs.GraphEdges.{edge_ends, ends_of}
 use Rattle.guppy_feature_nodes.specs.Offering.{offers_of}

@@ -3,10 +3,10 @@ use Rattle.std.specs.Prelude.{◌↔◌, ℕ, List, Contains, IsTrue, filter, le
 use Rattle.numbered_graph.specs.Listings.{numbers_below}
 use Rattle.numbered_graph.specs.Roots.{IsRoot, is_inside}
 use Rattle.numbered_graph.specs.Sets.{has}
-use Rattle.guppy_row_parts.specs.declared.dependency_direction.DependencyDirection.{DependencyDirection}
+use Rattle.guppy_package_parts.specs.declared.dependency_direction.DependencyDirection.{DependencyDirection}
 use Rattle.guppy_package_graph.specs.Directions.{direction_of}
 use Rattle.guppy_feature_nodes.specs.GraphEdges.{edge_ends}
-use Rattle.guppy_feature_parts.specs.RootOrder.{Ascend}
+use Rattle.guppy_feature_views.specs.RootOrder.{Ascend}
 use Rattle.guppy_feature_graph.specs.Sets.{SetValue}
 
 -- the numbers of the features of the set whose component no edge inside it enters from another one, in the order of roots

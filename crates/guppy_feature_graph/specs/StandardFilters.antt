@@ -1,9 +1,9 @@
 -- The features that Cargo switches on by its own options.
 use Rattle.std.specs.Prelude.{◌≡◌, ◌↔◌, ◌⊎◌, ◌<◌, ⊤, Bool, Result, Ok, Err, IsTrue, length}
 use Rattle.workspace_record.specs.Features.{FeatureValue}
-use Rattle.guppy_row_parts.specs.declared.error.Error.{Error}
-use Rattle.guppy_row_parts.specs.declared.error.Error.TheVariants.{UnknownFeatureId}
-use Rattle.guppy_feature_ids.specs.Kinds.{is_base_kind, kind_of}
+use Rattle.guppy_package_parts.specs.declared.error.Error.{Error}
+use Rattle.guppy_package_parts.specs.declared.error.Error.TheVariants.{UnknownFeatureId}
+use Rattle.guppy_feature_demands.specs.Kinds.{is_base_kind, kind_of}
 use Rattle.guppy_feature_demands.specs.Nodes.{number_of}
 use Rattle.guppy_feature_nodes.specs.Graphs.{FeatureGraphValue, IsDefault}
 use Rattle.guppy_feature_graph.specs.Finding.{IsUnknown}

@@ -21,10 +21,13 @@ pub(crate) fn choose<'g, F: FnMut(FeatureMetadata<'g>) -> bool>(
     callback: &mut F,
 ) -> Result<(NodeSet, NodeSet), AllocError>
     requires { F.IsAlwaysCallable callback.old }
-    ensures ok { IfOk result (λ parts. (asked : List (ℕ × Bool)) × AreAsked F.FnMut set.now direction callback.old asked callback.new
+    ensures ok { IfOk result
+        (λ parts. (asked : List (ℕ × Bool))
+        × AreAsked F.FnMut set.now direction callback.old asked callback.new
         × ((v : ℕ) → IsTrue (has parts.0 v) ↔ Contains asked (v, true))
         × ((v : ℕ) → IsTrue (has parts.1 v) ↔ Contains asked (v, false))) }
-    ensures sized { IfOk result (λ parts. (length parts.0 ≡ length set.now.graph.nodes) × (length parts.1 ≡ length set.now.graph.nodes)) }
+    ensures sized { IfOk result (λ parts. (length parts.0 ≡ length set.now.graph.nodes)
+        × (length parts.1 ≡ length set.now.graph.nodes)) }
     ensures err { OnErr result (callback.new ≡ callback.old) }
 {
     let graph = set.graph();
@@ -47,7 +50,9 @@ pub(crate) fn choose_accepted<'g, F: FnMut(FeatureMetadata<'g>) -> bool>(
     callback: &mut F,
 ) -> Result<NodeSet, AllocError>
     requires { F.IsAlwaysCallable callback.old }
-    ensures ok { IfOk result (λ kept. (asked : List (ℕ × Bool)) × AreAsked F.FnMut set.now direction callback.old asked callback.new
+    ensures ok { IfOk result
+        (λ kept. (asked : List (ℕ × Bool))
+        × AreAsked F.FnMut set.now direction callback.old asked callback.new
         × ((v : ℕ) → IsTrue (has kept v) ↔ Contains asked (v, true))) }
     ensures sized { IfOk result (λ kept. length kept ≡ length set.now.graph.nodes) }
     ensures err { OnErr result (callback.new ≡ callback.old) }
@@ -71,10 +76,13 @@ pub(crate) fn choose_some<'g, F: FnMut(FeatureMetadata<'g>) -> Option<bool>>(
     callback: &mut F,
 ) -> Result<(NodeSet, NodeSet), AllocError>
     requires { F.IsAlwaysCallable callback.old }
-    ensures ok { IfOk result (λ parts. (asked : List (ℕ × Option Bool)) × AreAsked F.FnMut set.now direction callback.old asked callback.new
+    ensures ok { IfOk result
+        (λ parts. (asked : List (ℕ × Option Bool))
+        × AreAsked F.FnMut set.now direction callback.old asked callback.new
         × ((v : ℕ) → IsTrue (has parts.0 v) ↔ Contains asked (v, Some true))
         × ((v : ℕ) → IsTrue (has parts.1 v) ↔ Contains asked (v, Some false))) }
-    ensures sized { IfOk result (λ parts. (length parts.0 ≡ length set.now.graph.nodes) × (length parts.1 ≡ length set.now.graph.nodes)) }
+    ensures sized { IfOk result (λ parts. (length parts.0 ≡ length set.now.graph.nodes)
+        × (length parts.1 ≡ length set.now.graph.nodes)) }
     ensures err { OnErr result (callback.new ≡ callback.old) }
 {
     let graph = set.graph();
@@ -96,7 +104,8 @@ fn ask_about<'g, A, F: FnMut(FeatureMetadata<'g>) -> A>(
 ) -> A
     requires callable { F.IsAlwaysCallable callback.old }
     requires within { node < length (feature_graph_of graph.now).nodes }
-    ensures asks { AsksFeature F.FnMut (feature_graph_of graph.now) callback.old node result callback.new }
+    ensures asks { AsksFeature F.FnMut (feature_graph_of graph.now) callback.old node result
+        callback.new }
     ensures callable { F.IsAlwaysCallable callback.new }
 {
     callback(FeatureMetadata::at(graph.built(), node))
@@ -111,7 +120,8 @@ fn says(answer: Option<bool>, wanted: bool) -> bool
 pub(crate) fn put_if(set: &mut NodeSet, node: usize, wanted: bool)
     requires { node < length set.old }
     ensures sized { length set.new ≡ length set.old }
-    ensures members { (v : ℕ) → IsTrue (has set.new v) ↔ (IsTrue (has set.old v) ⊎ (IsTrue wanted × (v ≡ node))) }
+    ensures members { (v : ℕ) → IsTrue (has set.new v)
+        ↔ (IsTrue (has set.old v) ⊎ (IsTrue wanted × (v ≡ node))) }
 {
     if wanted {
         set.insert(node);

@@ -4,7 +4,7 @@ ghost use Rattle.std.specs.Prelude.{◌≡◌, ◌↔◌, ◌<◌, ◌≤◌, �
 ghost use Rattle.numbered_graph.specs.Cycles.{AreCycles};
 ghost use Rattle.numbered_graph.specs.declared.direction.Direction.TheVariants.{Reverse};
 ghost use Rattle.guppy_package_graph.specs.CycleValues.{AreNumbers, has_node};
-ghost use Rattle.guppy_feature_ids.specs.IdViews.{id_view};
+ghost use Rattle.guppy_feature_demands.specs.IdViews.{id_view};
 ghost use Rattle.guppy_feature_nodes.specs.GraphEdges.{edge_ends};
 ghost use Rattle.guppy_feature_views.specs.CycleViews.{cycles_graph_of, cycles_left};
 ghost use Rattle.guppy_feature_graph.specs.CycleValues.{AnswersCyclic};
@@ -43,7 +43,8 @@ impl<'g> FeatureGraph<'g> {
     /// The cycles of the graph, none after one that leads to it.
     pub fn cycles(&self, alloc: Global) -> Result<Cycles<'g>, AllocError>
         ensures graph { IfOk result (λ c. c.graph ≡ feature_graph_of self.now) }
-        ensures cycles { IfOk result (λ c. AreCycles Reverse (edge_ends (feature_graph_of self.now).edges) c.cycles) }
+        ensures cycles { IfOk result (λ c. AreCycles Reverse
+            (edge_ends (feature_graph_of self.now).edges) c.cycles) }
     {
         let components = cycles(alloc, self.built().edge_graph(), Direction::Reverse)?;
         let numbers = numbers_of(alloc, self.feature_count(), &components)?;
@@ -62,7 +63,8 @@ impl<'g> Cycles<'g> {
         feature_a: FeatureId<'_>,
         feature_b: FeatureId<'_>,
     ) -> Result<bool, Error>
-        ensures answer { AnswersCyclic self.now.graph (id_view feature_a.entry) (id_view feature_b.entry) result }
+        ensures answer { AnswersCyclic self.now.graph (id_view feature_a.entry)
+            (id_view feature_b.entry) result }
     {
         match self.graph.numbers_of_both(feature_a, feature_b) {
             Ok((a, b)) => Ok(is_cyclic(&self.numbers, self.cycles.len(), a, b)),
@@ -89,14 +91,16 @@ impl fmt::Debug for Cycles<'_> {
 
 fn is_cyclic(numbers: &[usize], cycles: usize, a: usize, b: usize) -> bool
     requires { (a < length numbers.now) × (b < length numbers.now) }
-    ensures { IsTrue result ↔ ((slice_index_or numbers.now a 0 < cycles) × (slice_index_or numbers.now a 0 ≡ slice_index_or numbers.now b 0)) }
+    ensures { IsTrue result ↔ ((slice_index_or numbers.now a 0 < cycles)
+        × (slice_index_or numbers.now a 0 ≡ slice_index_or numbers.now b 0)) }
 {
     numbers[a] < cycles && numbers[a] == numbers[b]
 }
 
 // For each node the number of the first cycle that it is in, or how many cycles there are.
 fn numbers_of(alloc: Global, nodes: usize, cycles: &[Vec<usize>]) -> Result<Vec<usize>, AllocError>
-    ensures { IfOk result (λ numbers. AreNumbers nodes (map (λ c. c.items) cycles.now) 0 numbers.items) }
+    ensures { IfOk result (λ numbers.
+        AreNumbers nodes (map (λ c. c.items) cycles.now) 0 numbers.items) }
 {
     let mut numbers = vec![in alloc; cycles.len(); nodes]?;
     let mut number = cycles.len();
@@ -109,7 +113,9 @@ fn numbers_of(alloc: Global, nodes: usize, cycles: &[Vec<usize>]) -> Result<Vec<
 
 fn number_cycle(numbers: &mut Vec<usize>, cycle: &[usize], number: usize)
     ensures sized { length numbers.new.items ≡ length numbers.old.items }
-    ensures each { (v : ℕ) → v < length numbers.old.items → slice_index_or numbers.new.items v 0 ≡ (if has_node v cycle.now then number else slice_index_or numbers.old.items v 0) }
+    ensures each { (v : ℕ) → v < length numbers.old.items
+        → slice_index_or numbers.new.items v 0
+        ≡ (if has_node v cycle.now then number else slice_index_or numbers.old.items v 0) }
 {
     for node in cycle {
         if *node < numbers.len() {

@@ -1,31 +1,32 @@
 //! Whether one feature leads to another.
 
 ghost use Rattle.std.specs.Prelude.{◌≡◌, ◌↔◌, ◌<◌, IsTrue};
-ghost use Rattle.guppy_feature_ids.specs.IdViews.{id_view};
+ghost use Rattle.guppy_feature_demands.specs.IdViews.{id_view};
 ghost use Rattle.guppy_feature_graph.specs.Depending.{AnswersDepending, AnswersDirectly, FindsPair, HasLink};
 ghost use Rattle.guppy_feature_graph.specs.Views.{feature_graph_of};
 
 use crate::feature_graph::FeatureGraph;
 use guppy_feature_nodes::FeatureId;
 use guppy_package_graph::Error;
-use numbered_graph::{Direction, Graph, reach};
+use numbered_graph::{Direction, Graph, leads_to};
 use std::alloc::Global;
 
 impl FeatureGraph<'_> {
-    /// Whether a path of edges, maybe an empty one, leads from the first feature to the second.
+    /// Whether a path of edges, maybe an empty one, leads from the first feature to the second. The walk
+    /// ends once the second is reached.
     pub fn depends_on(
         &self,
         alloc: Global,
         feature_a: FeatureId<'_>,
         feature_b: FeatureId<'_>,
     ) -> Result<bool, Error>
-        ensures answer { AnswersDepending (feature_graph_of self.now) (id_view feature_a.entry) (id_view feature_b.entry) result }
+        ensures answer { AnswersDepending (feature_graph_of self.now) (id_view feature_a.entry)
+            (id_view feature_b.entry) result }
     {
         match self.numbers_of_both(feature_a, feature_b) {
             Ok((from, to)) => {
-                let graph = self.built().edge_graph();
-                let reached = reach(alloc, graph, &[from], Direction::Forward)?;
-                Ok(reached.contains(to))
+                let leads = leads_to(alloc, self.built().edge_graph(), from, to)?;
+                Ok(leads)
             }
             Err(error) => Err(error),
         }
@@ -37,7 +38,8 @@ impl FeatureGraph<'_> {
         feature_a: FeatureId<'_>,
         feature_b: FeatureId<'_>,
     ) -> Result<bool, Error>
-        ensures answer { AnswersDirectly (feature_graph_of self.now) (id_view feature_a.entry) (id_view feature_b.entry) result }
+        ensures answer { AnswersDirectly (feature_graph_of self.now) (id_view feature_a.entry)
+            (id_view feature_b.entry) result }
     {
         match self.numbers_of_both(feature_a, feature_b) {
             Ok((from, to)) => Ok(has_link(self.built().edge_graph(), from, to)),
@@ -50,7 +52,8 @@ impl FeatureGraph<'_> {
         feature_a: FeatureId<'_>,
         feature_b: FeatureId<'_>,
     ) -> Result<(usize, usize), Error>
-        ensures { FindsPair (feature_graph_of self.now) (id_view feature_a.entry) (id_view feature_b.entry) result }
+        ensures { FindsPair (feature_graph_of self.now) (id_view feature_a.entry)
+            (id_view feature_b.entry) result }
     {
         match (self.number_of(feature_a), self.number_of(feature_b)) {
             (Ok(a), Ok(b)) => Ok((a, b)),

@@ -3,7 +3,7 @@
 ghost use Rattle.std.specs.Prelude.{Bool, List, ℕ};
 ghost use Rattle.workspace_record.specs.Features.{FeatureValue};
 ghost use Rattle.guppy_package_graph.specs.Visits.{SameSteps};
-ghost use Rattle.guppy_feature_ids.specs.IdViews.{id_view};
+ghost use Rattle.guppy_feature_demands.specs.IdViews.{id_view};
 ghost use Rattle.guppy_feature_nodes.specs.Graphs.{FeatureGraphValue};
 ghost use Rattle.guppy_feature_graph.specs.Views.{feature_graph_of};
 
@@ -24,7 +24,8 @@ pub trait FeatureFilter {
     /// Whether the feature is taken.
     fn accept(&mut self, graph: &FeatureGraph<'_>, feature_id: FeatureId<'_>) -> bool
         requires { can_accept self.old }
-        ensures step { steps self.old (state self.old) (feature_graph_of graph.now, id_view feature_id.entry) result (state self.new) }
+        ensures step { steps self.old (state self.old)
+            (feature_graph_of graph.now, id_view feature_id.entry) result (state self.new) }
         ensures same { SameSteps (steps self.old) (steps self.new) }
         ensures can { can_accept self.new };
 }

@@ -1,8 +1,8 @@
 //! A view of a feature graph, and what it says of each feature.
 
 ghost use Rattle.std.specs.Prelude.{◌≡◌, ◌<◌, length, map};
-ghost use Rattle.guppy_row_parts.specs.WarningViews.{warning_view};
-ghost use Rattle.guppy_feature_ids.specs.IdViews.{id_view};
+ghost use Rattle.guppy_package_parts.specs.WarningViews.{warning_view};
+ghost use Rattle.guppy_feature_demands.specs.IdViews.{id_view};
 ghost use Rattle.guppy_feature_demands.specs.NameViews.{name_view};
 ghost use Rattle.guppy_feature_demands.specs.Nodes.{is_node};
 ghost use Rattle.guppy_feature_demands.specs.Warnings.{warnings_of};
@@ -46,7 +46,9 @@ impl<'g> FeatureGraph<'g> {
     /// What is odd about the rows.
     pub fn build_warnings(&self) -> &'g [FeatureGraphWarning]
         ensures value { map warning_view result.now ≡ (feature_graph_of self.now).warnings }
-        ensures warnings { (feature_graph_of self.now).warnings ≡ warnings_of (feature_graph_of self.now).rows.packages (feature_graph_of self.now).rows.links }
+        ensures warnings { (feature_graph_of self.now).warnings
+            ≡ warnings_of (feature_graph_of self.now).rows.packages
+            (feature_graph_of self.now).rows.links }
     {
         let built = self.built;
         built.build_warnings()
@@ -69,7 +71,8 @@ impl<'g> FeatureGraph<'g> {
 
     /// Whether there is such a feature.
     pub fn contains(&self, feature_id: FeatureId<'_>) -> bool
-        ensures answer { result ≡ is_node (feature_graph_of self.now).nodes (id_view feature_id.entry) }
+        ensures answer { result ≡ is_node (feature_graph_of self.now).nodes
+            (id_view feature_id.entry) }
     {
         self.built.contains(name_of(feature_id))
     }
@@ -86,7 +89,8 @@ impl<'g> FeatureGraph<'g> {
     /// and to features that others enable by name lead to it from `default`, or where the package names
     /// no such feature from the package itself.
     pub fn is_default_feature(&self, feature_id: FeatureId<'_>) -> Result<bool, Error>
-        ensures answer { FindsDefault (feature_graph_of self.now) (id_view feature_id.entry) result }
+        ensures answer { FindsDefault (feature_graph_of self.now) (id_view feature_id.entry)
+            result }
     {
         let node = self.number_of(feature_id)?;
         Ok(self.built.is_default(node))
@@ -109,7 +113,11 @@ impl<'g> FeatureGraph<'g> {
         declarations: LinkDeclarations,
     ) -> ConditionalLink<'g>
         requires { number < length (feature_graph_of self.now).edges }
-        ensures { link_view result ≡ record { graph = feature_graph_of self.now; number = number; declarations = declarations } }
+        ensures { link_view result ≡ record {
+          graph = feature_graph_of self.now;
+          number = number;
+          declarations = declarations;
+        } }
     {
         ConditionalLink::at(self.built, number, declarations)
     }

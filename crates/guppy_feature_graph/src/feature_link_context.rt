@@ -37,7 +37,8 @@ impl<'a> FeatureLinkContext<'a> {
 
     /// Whether the link's near end, `from` in direction Forward, is an initial.
     pub fn starts_from_initial(&self, link: &ConditionalLink<'_>) -> bool
-        ensures initial { IsTrue result ↔ Contains (query_of self.now).initials (near_node (query_of self.now).direction (link_view link.now)) }
+        ensures initial { IsTrue result ↔ Contains (query_of self.now).initials
+            (near_node (query_of self.now).direction (link_view link.now)) }
     {
         let near = match self.direction() {
             DependencyDirection::Forward => link.from().node(),

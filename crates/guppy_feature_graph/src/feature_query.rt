@@ -36,7 +36,8 @@ impl<'g> FeatureQuery<'g> {
         initials: FeatureSet<'g>,
         direction: DependencyDirection,
     ) -> Result<FeatureQuery<'g>, AllocError>
-        ensures { IfOk result (IsQueryOf initials.entry.graph direction (λ v. IsTrue (has initials.entry.included v))) }
+        ensures { IfOk result (IsQueryOf initials.entry.graph direction
+            (λ v. IsTrue (has initials.entry.included v))) }
     {
         let starts = initials.included().members(alloc)?;
         FeatureQuery::found(initials, direction, starts)
@@ -49,7 +50,11 @@ impl<'g> FeatureQuery<'g> {
         starts: Vec<usize>,
     ) -> Result<FeatureQuery<'g>, AllocError>
         requires { AreStarts (length initials.graph.nodes) initials.included starts.items }
-        ensures { result ≡ Ok record { graph = initials.entry.graph; direction = direction; initials = starts.items } }
+        ensures { result ≡ Ok record {
+          graph = initials.entry.graph;
+          direction = direction;
+          initials = starts.items;
+        } }
     {
         Ok(FeatureQuery {
             initials,

@@ -2,7 +2,7 @@ ghost use Rattle.std.specs.Prelude.{◌≡◌, ◌↔◌, ◌&&◌, ◌||◌, �
 ghost use Rattle.numbered_graph.specs.ListedViews.{in_direction, listed_left};
 ghost use Rattle.numbered_graph.specs.Sets.{differs, has};
 ghost use Rattle.guppy_package_graph.specs.Directions.{direction_of};
-ghost use Rattle.guppy_feature_ids.specs.IdViews.{id_view};
+ghost use Rattle.guppy_feature_demands.specs.IdViews.{id_view};
 ghost use Rattle.guppy_feature_graph.specs.Finding.{FindsMembership};
 ghost use Rattle.guppy_feature_graph.specs.Sets.{IsInOrder, listed};
 ghost use Rattle.guppy_feature_graph.specs.Views.{feature_graph_of};
@@ -95,7 +95,8 @@ impl<'g> FeatureSet<'g> {
 
     /// Whether a feature is in the set.
     pub fn contains(&self, feature_id: FeatureId<'_>) -> Result<bool, Error>
-        ensures found { FindsMembership self.now.graph self.now.included (id_view feature_id.entry) result }
+        ensures found { FindsMembership self.now.graph self.now.included (id_view feature_id.entry)
+            result }
     {
         let node = self.graph.number_of(feature_id)?;
         Ok(self.included.contains(node))
@@ -112,7 +113,8 @@ impl<'g> FeatureSet<'g> {
     pub fn union(&self, alloc: Global, other: &FeatureSet<'_>) -> Result<FeatureSet<'g>, AllocError>
         requires { self.now.graph.nodes ≡ other.now.graph.nodes }
         ensures graph { IfOk result (λ s. s.graph ≡ self.now.graph) }
-        ensures members { IfOk result (λ s. (v : ℕ) → has s.included v ≡ (has self.now.included v || has other.now.included v)) }
+        ensures members { IfOk result (λ s. (v : ℕ)
+            → has s.included v ≡ (has self.now.included v || has other.now.included v)) }
     {
         let included = self.included.union(alloc, &other.included)?;
         FeatureSet::found(&self.graph, included)
@@ -126,7 +128,8 @@ impl<'g> FeatureSet<'g> {
     ) -> Result<FeatureSet<'g>, AllocError>
         requires { self.now.graph.nodes ≡ other.now.graph.nodes }
         ensures graph { IfOk result (λ s. s.graph ≡ self.now.graph) }
-        ensures members { IfOk result (λ s. (v : ℕ) → has s.included v ≡ (has self.now.included v && has other.now.included v)) }
+        ensures members { IfOk result (λ s. (v : ℕ)
+            → has s.included v ≡ (has self.now.included v && has other.now.included v)) }
     {
         let included = self.included.intersection(alloc, &other.included)?;
         FeatureSet::found(&self.graph, included)
@@ -140,7 +143,8 @@ impl<'g> FeatureSet<'g> {
     ) -> Result<FeatureSet<'g>, AllocError>
         requires { self.now.graph.nodes ≡ other.now.graph.nodes }
         ensures graph { IfOk result (λ s. s.graph ≡ self.now.graph) }
-        ensures members { IfOk result (λ s. (v : ℕ) → has s.included v ≡ (has self.now.included v && not (has other.now.included v))) }
+        ensures members { IfOk result (λ s. (v : ℕ)
+            → has s.included v ≡ (has self.now.included v && not (has other.now.included v))) }
     {
         let included = self.included.difference(alloc, &other.included)?;
         FeatureSet::found(&self.graph, included)
@@ -154,7 +158,8 @@ impl<'g> FeatureSet<'g> {
     ) -> Result<FeatureSet<'g>, AllocError>
         requires { self.now.graph.nodes ≡ other.now.graph.nodes }
         ensures graph { IfOk result (λ s. s.graph ≡ self.now.graph) }
-        ensures members { IfOk result (λ s. (v : ℕ) → has s.included v ≡ differs (has self.now.included v) (has other.now.included v)) }
+        ensures members { IfOk result (λ s. (v : ℕ)
+            → has s.included v ≡ differs (has self.now.included v) (has other.now.included v)) }
     {
         let included = self.included.symmetric_difference(alloc, &other.included)?;
         FeatureSet::found(&self.graph, included)
@@ -165,7 +170,8 @@ impl<'g> FeatureSet<'g> {
     /// In Reverse that list reversed.
     pub fn feature_ids(&self, direction: DependencyDirection) -> FeatureIds<'g, '_>
         ensures graph { ids_graph_of result ≡ self.now.graph }
-        ensures listed { ids_nodes_left result ≡ in_direction (direction_of direction) (listed self.now) }
+        ensures listed { ids_nodes_left result ≡ in_direction (direction_of direction)
+            (listed self.now) }
         ensures listing { IsInOrder self.now }
     {
         FeatureIds::of(self.graph.built(), self.listed(direction))
@@ -174,7 +180,8 @@ impl<'g> FeatureSet<'g> {
     /// The features of the set, in the order of `feature_ids`.
     pub fn features(&self, direction: DependencyDirection) -> Features<'g, '_>
         ensures graph { features_graph_of result ≡ self.now.graph }
-        ensures listed { features_left result ≡ in_direction (direction_of direction) (listed self.now) }
+        ensures listed { features_left result ≡ in_direction (direction_of direction)
+            (listed self.now) }
         ensures listing { IsInOrder self.now }
     {
         Features::of(self.graph.built(), self.listed(direction))
@@ -182,7 +189,8 @@ impl<'g> FeatureSet<'g> {
 
     /// The numbers of the features of the set, in that order.
     pub(crate) fn listed(&self, direction: DependencyDirection) -> Listed<'_>
-        ensures listed { listed_left result ≡ in_direction (direction_of direction) (listed self.now) }
+        ensures listed { listed_left result ≡ in_direction (direction_of direction)
+            (listed self.now) }
         ensures within { All (λ v. v < length self.now.graph.nodes) (listed_left result) }
         ensures listing { IsInOrder self.now }
     {

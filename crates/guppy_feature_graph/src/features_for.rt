@@ -3,16 +3,16 @@
 ghost use Rattle.std.specs.Prelude.{◌≡◌, ◌++◌, ◌∷◌, ◌||◌, [], IfErr, IfOk, OnOk, filter, map, string_bytes, if◌then◌else◌};
 ghost use Rattle.std.specs.List.{list_any};
 ghost use Rattle.workspace_record.specs.Features.{Base, Named, Dep};
-ghost use Rattle.guppy_feature_ids.specs.LabelViews.{label_view};
-ghost use Rattle.guppy_feature_lists.specs.Labels.{labels_of};
+ghost use Rattle.guppy_feature_demands.specs.LabelViews.{label_view};
+ghost use Rattle.guppy_feature_views.specs.Labels.{labels_of};
 ghost use Rattle.guppy_feature_graph.specs.FeaturesFor.{AnswersPackage, FindsList, IsNoPackage, ListsAll, ListsAt, has_label, labels_in};
 ghost use Rattle.guppy_feature_graph.specs.Views.{feature_graph_of};
 ghost use Rattle.guppy_package_graph.specs.Views.{graph_of, place_of};
 
 use crate::feature_graph::FeatureGraph;
 use crate::feature_set::FeatureSet;
-use guppy_feature_lists::{FeatureList, package_labels};
 use guppy_feature_nodes::{FeatureLabel, FeatureName};
+use guppy_feature_views::{FeatureList, package_labels};
 use guppy_package_graph::{Error, FeatureRow, PackageId, PackageMetadata, PackageRow};
 use std::alloc::{AllocError, Global};
 
@@ -24,7 +24,8 @@ impl<'g> FeatureGraph<'g> {
         package_id: &PackageId,
     ) -> Result<FeatureList<'g>, Error>
         ensures all { IfOk result (ListsAll (feature_graph_of self.now).rows package_id.now) }
-        ensures refused { IfErr result (IsNoPackage (feature_graph_of self.now).rows package_id.now) }
+        ensures refused { IfErr result (IsNoPackage (feature_graph_of self.now).rows
+            package_id.now) }
     {
         match self.package_graph().metadata(package_id) {
             Ok(package) => Ok(list_of(alloc, package)?),
@@ -35,7 +36,8 @@ impl<'g> FeatureGraph<'g> {
 
 // All features of a package.
 fn list_of<'g>(alloc: Global, package: PackageMetadata<'g>) -> Result<FeatureList<'g>, AllocError>
-    ensures { IfOk result (ListsAt labels_of (graph_of «package».entry) (place_of «package».entry)) }
+    ensures { IfOk result (ListsAt labels_of (graph_of «package».entry)
+        (place_of «package».entry)) }
 {
     let labels = package_labels(alloc, package.row())?;
     FeatureList::new(alloc, package, &labels)
@@ -77,7 +79,8 @@ pub(crate) fn list_in<'g>(
     set: &FeatureSet<'g>,
     package: PackageMetadata<'g>,
 ) -> Result<FeatureList<'g>, AllocError>
-    ensures { IfOk result (ListsAt (labels_in set.now) (graph_of «package».entry) (place_of «package».entry)) }
+    ensures { IfOk result (ListsAt (labels_in set.now) (graph_of «package».entry)
+        (place_of «package».entry)) }
 {
     let labels = labels_in(alloc, set, package.row())?;
     FeatureList::new(alloc, package, &labels)
@@ -89,7 +92,8 @@ fn labels_in<'g>(
     set: &FeatureSet<'g>,
     row: &'g PackageRow,
 ) -> Result<Vec<FeatureLabel<'g>>, AllocError>
-    ensures { IfOk result (λ v. map label_view v.items ≡ filter (has_label set.now row.entry.now.id) (labels_of row.entry.now)) }
+    ensures { IfOk result (λ v. map label_view v.items
+        ≡ filter (has_label set.now row.entry.now.id) (labels_of row.entry.now)) }
 {
     let labels = package_labels(alloc, row)?;
     kept_labels(alloc, set, row.id.as_str(), &labels)
@@ -101,7 +105,8 @@ fn kept_labels<'g>(
     id: &str,
     labels: &[FeatureLabel<'g>],
 ) -> Result<Vec<FeatureLabel<'g>>, AllocError>
-    ensures { IfOk result (λ v. map label_view v.items ≡ filter (has_label set.now id.now) (map label_view labels.now)) }
+    ensures { IfOk result (λ v. map label_view v.items
+        ≡ filter (has_label set.now id.now) (map label_view labels.now)) }
 {
     let mut kept: Vec<FeatureLabel<'g>> = Vec::new(alloc);
     for label in labels {
@@ -115,7 +120,8 @@ fn push_if<'g>(
     label: FeatureLabel<'g>,
     wanted: bool,
 ) -> Result<(), AllocError>
-    ensures { OnOk result (labels.new.items ≡ (if wanted then labels.old.items ++ label.entry ∷ [] else labels.old.items)) }
+    ensures { OnOk result (labels.new.items
+        ≡ (if wanted then labels.old.items ++ label.entry ∷ [] else labels.old.items)) }
 {
     if wanted {
         labels.push(label)?;
@@ -138,7 +144,9 @@ pub(crate) fn has_feature_of(set: &FeatureSet<'_>, row: &PackageRow) -> bool
 }
 
 fn has_one(set: &FeatureSet<'_>, row: &PackageRow) -> bool
-    ensures { result ≡ (has_label set.now row.now.id Base || (list_any (λ f. has_label set.now row.now.id (Named f.name)) row.now.features || list_any (λ n. has_label set.now row.now.id (Dep n)) row.now.optional)) }
+    ensures { result ≡ (has_label set.now row.now.id Base
+        || (list_any (λ f. has_label set.now row.now.id (Named f.name)) row.now.features
+        || list_any (λ n. has_label set.now row.now.id (Dep n)) row.now.optional)) }
 {
     let id = row.id.as_str();
     has_label(set, id, FeatureLabel::Base)
@@ -153,13 +161,15 @@ fn has_named(set: &FeatureSet<'_>, id: &str, features: &[FeatureRow]) -> bool
 }
 
 fn has_dependency(set: &FeatureSet<'_>, id: &str, names: &[String]) -> bool
-    ensures { result ≡ list_any (λ n. has_label set.now id.now (Dep n)) (map string_bytes names.now) }
+    ensures { result ≡ list_any (λ n. has_label set.now id.now (Dep n))
+        (map string_bytes names.now) }
 {
     has_any(set, id, names)
 }
 
 fn has_any(set: &FeatureSet<'_>, id: &str, names: &[String]) -> bool
-    ensures { result ≡ list_any (λ name. has_label set.now id.now (Dep (string_bytes name))) names.now }
+    ensures { result ≡ list_any (λ name. has_label set.now id.now (Dep (string_bytes name)))
+        names.now }
 {
     names.iter().any(|name| has_label(set, id, FeatureLabel::OptionalDependency(name.as_str())))
 }

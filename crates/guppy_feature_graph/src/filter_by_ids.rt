@@ -1,7 +1,7 @@
 ghost use Rattle.std.specs.Prelude.{◌≡◌, map};
 ghost use Rattle.std.specs.List.{list_any};
 ghost use Rattle.workspace_record.specs.Features.{feature_eq};
-ghost use Rattle.guppy_feature_ids.specs.IdViews.{id_view};
+ghost use Rattle.guppy_feature_demands.specs.IdViews.{id_view};
 ghost use Rattle.guppy_feature_graph.specs.WrappedFilters.{is_listed};
 
 use crate::feature_filter::FeatureFilter;
@@ -28,7 +28,8 @@ pub fn feature_id_filter<'a, B: FeatureFilter>(
 
 impl<B: FeatureFilter> FeatureIdFilter<'_, B> {
     fn takes(&self, feature_id: FeatureId<'_>) -> bool
-        ensures { result ≡ is_listed (map id_view self.now.feature_ids.now) (id_view feature_id.entry) }
+        ensures { result ≡ is_listed (map id_view self.now.feature_ids.now)
+            (id_view feature_id.entry) }
     {
         has_id(self.feature_ids, feature_id)
     }
@@ -36,7 +37,7 @@ impl<B: FeatureFilter> FeatureIdFilter<'_, B> {
 
 impl<B: FeatureFilter> FeatureFilter for FeatureIdFilter<'_, B> {
     ghost use Rattle.std.specs.Prelude.{◌≡◌, ◌||◌, Bool, map};
-    ghost use Rattle.guppy_feature_ids.specs.IdViews.{id_view};
+    ghost use Rattle.guppy_feature_demands.specs.IdViews.{id_view};
     ghost use Rattle.guppy_feature_graph.specs.WrappedFilters.{is_listed};
 
     ghost state = { λ f. B.state f.base };
@@ -53,7 +54,8 @@ impl<B: FeatureFilter> FeatureFilter for FeatureIdFilter<'_, B> {
 }
 
 fn has_id(feature_ids: &[FeatureId<'_>], feature_id: FeatureId<'_>) -> bool
-    ensures { result ≡ list_any (λ x. feature_eq (id_view x) (id_view feature_id.entry)) feature_ids.now }
+    ensures { result ≡ list_any (λ x. feature_eq (id_view x) (id_view feature_id.entry))
+        feature_ids.now }
 {
     feature_ids.iter().any(|id| *id == feature_id)
 }

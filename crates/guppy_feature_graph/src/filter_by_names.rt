@@ -1,7 +1,7 @@
 ghost use Rattle.std.specs.Prelude.{◌≡◌, map};
 ghost use Rattle.std.specs.List.{list_any};
 ghost use Rattle.std.specs.Str.{bytes_eq};
-ghost use Rattle.guppy_feature_ids.specs.IdViews.{id_view};
+ghost use Rattle.guppy_feature_demands.specs.IdViews.{id_view};
 ghost use Rattle.guppy_feature_graph.specs.WrappedFilters.{is_named_so};
 
 use crate::feature_filter::FeatureFilter;
@@ -28,7 +28,8 @@ pub fn named_feature_filter<'a, B: FeatureFilter>(
 
 impl<B: FeatureFilter> NamedFeatureFilter<'_, B> {
     fn takes(&self, feature_id: FeatureId<'_>) -> bool
-        ensures { result ≡ is_named_so (map (λ n. n.now) self.now.names.now) (id_view feature_id.entry).label }
+        ensures { result ≡ is_named_so (map (λ n. n.now) self.now.names.now)
+            (id_view feature_id.entry).label }
     {
         match feature_id.label() {
             FeatureLabel::Named(name) => has_name(self.names, name),
@@ -39,7 +40,7 @@ impl<B: FeatureFilter> NamedFeatureFilter<'_, B> {
 
 impl<B: FeatureFilter> FeatureFilter for NamedFeatureFilter<'_, B> {
     ghost use Rattle.std.specs.Prelude.{◌≡◌, ◌||◌, Bool, map};
-    ghost use Rattle.guppy_feature_ids.specs.IdViews.{id_view};
+    ghost use Rattle.guppy_feature_demands.specs.IdViews.{id_view};
     ghost use Rattle.guppy_feature_graph.specs.WrappedFilters.{is_named_so};
 
     ghost state = { λ f. B.state f.base };

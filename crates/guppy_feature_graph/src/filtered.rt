@@ -4,7 +4,7 @@ ghost use Rattle.std.specs.Prelude.{◌≡◌, ℕ, true, Contains, IfOk, OnErr}
 ghost use Rattle.guppy_package_graph.specs.Visits.{Chain, SameSteps};
 ghost use Rattle.guppy_package_graph.specs.Workspaces.{IsMemberPlace};
 ghost use Rattle.guppy_package_table.specs.Tables.{ids_of};
-ghost use Rattle.guppy_row_parts.specs.declared.dependency_direction.DependencyDirection.TheVariants.{Forward};
+ghost use Rattle.guppy_package_parts.specs.declared.dependency_direction.DependencyDirection.TheVariants.{Forward};
 ghost use Rattle.guppy_feature_graph.specs.Judging.{AreJudged, Judged, shown_features};
 ghost use Rattle.guppy_feature_graph.specs.PackageFeatures.{IsOfPackage, IsOfSet};
 ghost use Rattle.guppy_feature_graph.specs.Queries.{IsQueryOf};
@@ -29,7 +29,10 @@ impl<'g> FeatureGraph<'g> {
         filter: &mut F,
     ) -> Result<FeatureQuery<'g>, AllocError>
         requires { F.can_accept filter.old }
-        ensures ok { IfOk result (λ q. (judged : Judged) × AreJudged (IsOfPackage (feature_graph_of self.now) (IsMemberPlace (feature_graph_of self.now).rows)) judged
+        ensures ok { IfOk result
+            (λ q. (judged : Judged)
+            × AreJudged (IsOfPackage (feature_graph_of self.now)
+            (IsMemberPlace (feature_graph_of self.now).rows)) judged
             × Chain (F.steps filter.old) (F.state filter.old)
             (shown_features (feature_graph_of self.now) judged) (F.state filter.new)
             × IsQueryOf (feature_graph_of self.now) Forward (λ v. Contains judged (v, true)) q) }
@@ -50,9 +53,12 @@ pub(crate) fn query_by_filter<'g, F: FeatureFilter>(
     direction: DependencyDirection,
     filter: &mut F,
 ) -> Result<FeatureQuery<'g>, AllocError>
-    requires packages { ids_of packages.now.graph.packages ≡ ids_of (feature_graph_of graph.now).rows.packages }
+    requires packages { ids_of packages.now.graph.packages
+        ≡ ids_of (feature_graph_of graph.now).rows.packages }
     requires can { F.can_accept filter.old }
-    ensures ok { IfOk result (λ q. (judged : Judged) × AreJudged (IsOfSet (feature_graph_of graph.now) packages.now.included) judged
+    ensures ok { IfOk result
+        (λ q. (judged : Judged)
+        × AreJudged (IsOfSet (feature_graph_of graph.now) packages.now.included) judged
         × Chain (F.steps filter.old) (F.state filter.old)
         (shown_features (feature_graph_of graph.now) judged) (F.state filter.new)
         × IsQueryOf (feature_graph_of graph.now) direction (λ v. Contains judged (v, true)) q) }
@@ -77,9 +83,12 @@ pub(crate) fn set_by_filter<'g, F: FeatureFilter>(
     packages: &PackageSet<'_>,
     filter: &mut F,
 ) -> Result<FeatureSet<'g>, AllocError>
-    requires packages { ids_of packages.now.graph.packages ≡ ids_of (feature_graph_of graph.now).rows.packages }
+    requires packages { ids_of packages.now.graph.packages
+        ≡ ids_of (feature_graph_of graph.now).rows.packages }
     requires can { F.can_accept filter.old }
-    ensures ok { IfOk result (λ s. (judged : Judged) × AreJudged (IsOfSet (feature_graph_of graph.now) packages.now.included) judged
+    ensures ok { IfOk result
+        (λ s. (judged : Judged)
+        × AreJudged (IsOfSet (feature_graph_of graph.now) packages.now.included) judged
         × Chain (F.steps filter.old) (F.state filter.old)
         (shown_features (feature_graph_of graph.now) judged) (F.state filter.new)
         × IsSetOf (feature_graph_of graph.now) (λ v. Contains judged (v, true)) s) }

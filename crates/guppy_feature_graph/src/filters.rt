@@ -26,7 +26,9 @@ impl<'g> FeatureSet<'g> {
     where
         F: Drop,
         requires { F.IsAlwaysCallable callback }
-        ensures kept { IfOk result (λ s. (asked : List (ℕ × Bool)) × (last : F) × AreAsked F.FnMut self.now direction callback asked last
+        ensures kept { IfOk result
+            (λ s. (asked : List (ℕ × Bool)) × (last : F)
+            × AreAsked F.FnMut self.now direction callback asked last
             × IsSetOf self.now.graph (λ v. Contains asked (v, true)) s) }
     {
         self.filter_lent(alloc, direction, &mut callback)
@@ -40,7 +42,9 @@ impl<'g> FeatureSet<'g> {
         callback: &mut F,
     ) -> Result<FeatureSet<'g>, AllocError>
         requires { F.IsAlwaysCallable callback.old }
-        ensures kept { IfOk result (λ s. (asked : List (ℕ × Bool)) × AreAsked F.FnMut self.now direction callback.old asked callback.new
+        ensures kept { IfOk result
+            (λ s. (asked : List (ℕ × Bool))
+            × AreAsked F.FnMut self.now direction callback.old asked callback.new
             × IsSetOf self.now.graph (λ v. Contains asked (v, true)) s) }
         ensures err { OnErr result (callback.new ≡ callback.old) }
     {
@@ -59,7 +63,9 @@ impl<'g> FeatureSet<'g> {
     where
         F: Drop,
         requires { F.IsAlwaysCallable callback }
-        ensures parts { IfOk result (λ parts. (asked : List (ℕ × Bool)) × (last : F) × AreAsked F.FnMut self.now direction callback asked last
+        ensures parts { IfOk result
+            (λ parts. (asked : List (ℕ × Bool)) × (last : F)
+            × AreAsked F.FnMut self.now direction callback asked last
             × IsSetOf self.now.graph (λ v. Contains asked (v, true)) parts.0
             × IsSetOf self.now.graph (λ v. Contains asked (v, false)) parts.1) }
     {
@@ -74,7 +80,9 @@ impl<'g> FeatureSet<'g> {
         callback: &mut F,
     ) -> Result<(FeatureSet<'g>, FeatureSet<'g>), AllocError>
         requires { F.IsAlwaysCallable callback.old }
-        ensures parts { IfOk result (λ parts. (asked : List (ℕ × Bool)) × AreAsked F.FnMut self.now direction callback.old asked callback.new
+        ensures parts { IfOk result
+            (λ parts. (asked : List (ℕ × Bool))
+            × AreAsked F.FnMut self.now direction callback.old asked callback.new
             × IsSetOf self.now.graph (λ v. Contains asked (v, true)) parts.0
             × IsSetOf self.now.graph (λ v. Contains asked (v, false)) parts.1) }
         ensures err { OnErr result (callback.new ≡ callback.old) }
@@ -94,7 +102,9 @@ impl<'g> FeatureSet<'g> {
     where
         F: Drop,
         requires { F.IsAlwaysCallable callback }
-        ensures parts { IfOk result (λ parts. (asked : List (ℕ × Option Bool)) × (last : F) × AreAsked F.FnMut self.now direction callback asked last
+        ensures parts { IfOk result
+            (λ parts. (asked : List (ℕ × Option Bool)) × (last : F)
+            × AreAsked F.FnMut self.now direction callback asked last
             × IsSetOf self.now.graph (λ v. Contains asked (v, Some true)) parts.0
             × IsSetOf self.now.graph (λ v. Contains asked (v, Some false)) parts.1) }
     {
@@ -109,7 +119,9 @@ impl<'g> FeatureSet<'g> {
         callback: &mut F,
     ) -> Result<(FeatureSet<'g>, FeatureSet<'g>), AllocError>
         requires { F.IsAlwaysCallable callback.old }
-        ensures parts { IfOk result (λ parts. (asked : List (ℕ × Option Bool)) × AreAsked F.FnMut self.now direction callback.old asked callback.new
+        ensures parts { IfOk result
+            (λ parts. (asked : List (ℕ × Option Bool))
+            × AreAsked F.FnMut self.now direction callback.old asked callback.new
             × IsSetOf self.now.graph (λ v. Contains asked (v, Some true)) parts.0
             × IsSetOf self.now.graph (λ v. Contains asked (v, Some false)) parts.1) }
         ensures err { OnErr result (callback.new ≡ callback.old) }
@@ -127,7 +139,10 @@ fn both_found<'g>(
 ) -> Result<(FeatureSet<'g>, FeatureSet<'g>), AllocError>
     requires first { length first ≡ length (feature_graph_of graph.now).nodes }
     requires second { length second ≡ length (feature_graph_of graph.now).nodes }
-    ensures { result ≡ Ok (record { graph = feature_graph_of graph.now; included = first }, record { graph = feature_graph_of graph.now; included = second }) }
+    ensures { result ≡ Ok (
+      record { graph = feature_graph_of graph.now; included = first },
+      record { graph = feature_graph_of graph.now; included = second },
+    ) }
 {
     Ok((
         FeatureSet::of(*graph, first),

@@ -3,7 +3,7 @@
 ghost use Rattle.std.specs.Prelude.{◌≡◌, ◌↔◌, ◌<◌, ℕ, All, IfErr, IfOk, IsTrue, length, map};
 ghost use Rattle.numbered_graph.specs.Sets.{has};
 ghost use Rattle.guppy_feature_demands.specs.Nodes.{number_of};
-ghost use Rattle.guppy_feature_ids.specs.IdViews.{id_view};
+ghost use Rattle.guppy_feature_demands.specs.IdViews.{id_view};
 ghost use Rattle.guppy_feature_graph.specs.Finding.{AreKnown, IsMissing, IsNamed};
 ghost use Rattle.guppy_feature_graph.specs.Views.{feature_graph_of};
 
@@ -20,9 +20,12 @@ pub(crate) fn set_of_features(
     feature_ids: &[FeatureId<'_>],
 ) -> Result<NodeSet, Error>
     ensures sized { IfOk result (λ set. length set ≡ length (feature_graph_of graph.now).nodes) }
-    ensures named { IfOk result (λ set. (v : ℕ) → IsTrue (has set v) ↔ IsNamed (feature_graph_of graph.now) (map id_view feature_ids.now) v) }
-    ensures known { IfOk result (λ _. AreKnown (feature_graph_of graph.now) (map id_view feature_ids.now)) }
-    ensures refused { IfErr result (IsMissing (feature_graph_of graph.now) (map id_view feature_ids.now)) }
+    ensures named { IfOk result (λ set. (v : ℕ) → IsTrue (has set v)
+        ↔ IsNamed (feature_graph_of graph.now) (map id_view feature_ids.now) v) }
+    ensures known { IfOk result (λ _. AreKnown (feature_graph_of graph.now)
+        (map id_view feature_ids.now)) }
+    ensures refused { IfErr result (IsMissing (feature_graph_of graph.now)
+        (map id_view feature_ids.now)) }
 {
     let numbers = numbers_of(alloc, graph, feature_ids)?;
     let set = NodeSet::of(alloc, graph.feature_count(), &numbers)?;
@@ -34,9 +37,12 @@ fn numbers_of(
     graph: &FeatureGraph<'_>,
     feature_ids: &[FeatureId<'_>],
 ) -> Result<Vec<usize>, Error>
-    ensures found { IfOk result (λ v. v.items ≡ map (number_of (feature_graph_of graph.now).nodes) (map id_view feature_ids.now)) }
-    ensures within { IfOk result (λ v. All (λ n. n < length (feature_graph_of graph.now).nodes) v.items) }
-    ensures refused { IfErr result (IsMissing (feature_graph_of graph.now) (map id_view feature_ids.now)) }
+    ensures found { IfOk result (λ v. v.items
+        ≡ map (number_of (feature_graph_of graph.now).nodes) (map id_view feature_ids.now)) }
+    ensures within { IfOk result (λ v. All (λ n. n < length (feature_graph_of graph.now).nodes)
+        v.items) }
+    ensures refused { IfErr result (IsMissing (feature_graph_of graph.now)
+        (map id_view feature_ids.now)) }
 {
     let mut numbers = Vec::new(alloc);
     for feature_id in feature_ids {

@@ -1,5 +1,8 @@
 //! guppy's feature graph: features and the links between them, walks over them that a visitor steers,
-//! and sets of features. It gives out all of the nodes.
+//! and sets of features. It gives out all of the nodes and views.
+//!
+//! Begin with `feature_graph.rt`, then `feature_query.rt` and `feature_set.rt`; `specs/Resolves.antt`
+//! says what a resolve answers. Each public item is a name of guppy's.
 
 #![tactic(auto)]
 
@@ -52,13 +55,13 @@ pub use crate::package_sets::{
 };
 pub use crate::standard_features::StandardFeatures;
 pub use crate::visitor::FeatureLinkVisitor;
-pub use guppy_feature_lists::{DisplayFeatures, FeatureList, IntoIter, Iter, LabelNames};
 pub use guppy_feature_nodes::{
     ConditionalLinkImpl, EnabledLink, FeatureEdge, FeatureGraphData, FeatureId, FeatureKind,
     FeatureLabel, FeatureName, LinkDeclarations, NodeEdge, SlashForm, WeakIndex, WeakSlashImpl,
 };
 pub use guppy_feature_views::{
-    AllCycles, ConditionalLink, FeatureIds, FeatureIdsAt, FeatureMetadata, Features, PackageLinks,
+    AllCycles, ConditionalLink, DisplayFeatures, FeatureIds, FeatureIdsAt, FeatureList,
+    FeatureMetadata, Features, IntoIter, Iter, LabelNames, PackageLinks,
 };
 pub use numbered_graph::Graph;
 pub use numbered_offers::OfferGraph;

@@ -14,7 +14,7 @@ use crate::feature_query::FeatureQuery;
 use crate::feature_set::FeatureSet;
 use crate::features_for::list_in;
 use crate::packages_of::packages_of;
-use guppy_feature_lists::FeatureList;
+use guppy_feature_views::FeatureList;
 use guppy_package_graph::{DependencyDirection, Error, PackageId, PackageSet};
 use std::alloc::{AllocError, Global};
 
@@ -44,7 +44,9 @@ fn lists_for<'g>(
     requires sized { length set.now.included ≡ length set.now.graph.nodes }
     requires features { set.now.graph.nodes ≡ nodes_of set.now.graph.rows.packages }
     requires listed { AreListed set.now.graph }
-    ensures { IfOk result (λ lists. ListEach set.now (map (id_at packages.now.graph) (in_direction (direction_of direction) (listed packages.now))) lists.items) }
+    ensures { IfOk result (λ lists. ListEach set.now
+        (map (id_at packages.now.graph)
+        (in_direction (direction_of direction) (listed packages.now))) lists.items) }
 {
     let mut lists: Vec<FeatureList<'g>> = Vec::new(alloc);
     let mut left = packages.packages(direction);

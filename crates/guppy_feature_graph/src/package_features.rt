@@ -18,9 +18,11 @@ pub(crate) fn features_of_packages(
     graph: &FeatureGraph<'_>,
     packages: &PackageSet<'_>,
 ) -> Result<NodeSet, AllocError>
-    requires { ids_of packages.now.graph.packages ≡ ids_of (feature_graph_of graph.now).rows.packages }
+    requires { ids_of packages.now.graph.packages
+        ≡ ids_of (feature_graph_of graph.now).rows.packages }
     ensures sized { IfOk result (λ set. length set ≡ length (feature_graph_of graph.now).nodes) }
-    ensures members { IfOk result (λ set. (v : ℕ) → IsTrue (has set v) ↔ IsOfSet (feature_graph_of graph.now) packages.now.included v) }
+    ensures members { IfOk result (λ set. (v : ℕ) → IsTrue (has set v)
+        ↔ IsOfSet (feature_graph_of graph.now) packages.now.included v) }
 {
     let mut features = NodeSet::none(alloc, graph.feature_count())?;
     for node in 0..graph.feature_count() {
@@ -31,7 +33,8 @@ pub(crate) fn features_of_packages(
 
 fn is_of_set(graph: &FeatureGraph<'_>, packages: &PackageSet<'_>, node: usize) -> bool
     requires within { node < length (feature_graph_of graph.now).nodes }
-    requires same { ids_of packages.now.graph.packages ≡ ids_of (feature_graph_of graph.now).rows.packages }
+    requires same { ids_of packages.now.graph.packages
+        ≡ ids_of (feature_graph_of graph.now).rows.packages }
     ensures { IsTrue result ↔ IsOfSet (feature_graph_of graph.now) packages.now.included node }
 {
     let id = graph.built().feature_at(node);

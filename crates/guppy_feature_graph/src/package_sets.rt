@@ -6,7 +6,7 @@ ghost use Rattle.guppy_package_graph.specs.SetValues.{IsSetOf as IsSetOfPackages
 ghost use Rattle.guppy_package_graph.specs.Views.{graph_of, place_of};
 ghost use Rattle.guppy_package_graph.specs.Visits.{Chain, SameSteps};
 ghost use Rattle.guppy_package_table.specs.Tables.{id_at, ids_of};
-ghost use Rattle.guppy_feature_ids.specs.IdViews.{id_view};
+ghost use Rattle.guppy_feature_demands.specs.IdViews.{id_view};
 ghost use Rattle.guppy_feature_graph.specs.Judging.{AreJudged, Judged, shown_features};
 ghost use Rattle.guppy_feature_graph.specs.PackageFeatures.{IsDefaultId, IsOfPackage, IsOfSet};
 ghost use Rattle.guppy_feature_graph.specs.Queries.{IsQueryOf};
@@ -30,8 +30,10 @@ pub fn package_to_feature_set<'g>(
     graph: &FeatureGraph<'g>,
     package: &PackageMetadata<'_>,
 ) -> Result<FeatureSet<'g>, AllocError>
-    requires { ids_of (graph_of «package».now).packages ≡ ids_of (feature_graph_of graph.now).rows.packages }
-    ensures features { IfOk result (IsSetOf (feature_graph_of graph.now) (IsOfPackage (feature_graph_of graph.now) (λ place. place ≡ place_of «package».now))) }
+    requires { ids_of (graph_of «package».now).packages
+        ≡ ids_of (feature_graph_of graph.now).rows.packages }
+    ensures features { IfOk result (IsSetOf (feature_graph_of graph.now)
+        (IsOfPackage (feature_graph_of graph.now) (λ place. place ≡ place_of «package».now))) }
 {
     let packages = package.to_package_set(alloc)?;
     let features = features_of_packages(alloc, graph, &packages)?;
@@ -46,9 +48,12 @@ pub fn set_to_feature_set<'g, F: FeatureFilter>(
     set: &PackageSet<'_>,
     filter: &mut F,
 ) -> Result<FeatureSet<'g>, AllocError>
-    requires packages { ids_of set.now.graph.packages ≡ ids_of (feature_graph_of graph.now).rows.packages }
+    requires packages { ids_of set.now.graph.packages
+        ≡ ids_of (feature_graph_of graph.now).rows.packages }
     requires can { F.can_accept filter.old }
-    ensures ok { IfOk result (λ s. (judged : Judged) × AreJudged (IsOfSet (feature_graph_of graph.now) set.now.included) judged
+    ensures ok { IfOk result
+        (λ s. (judged : Judged)
+        × AreJudged (IsOfSet (feature_graph_of graph.now) set.now.included) judged
         × Chain (F.steps filter.old) (F.state filter.old)
         (shown_features (feature_graph_of graph.now) judged) (F.state filter.new)
         × IsSetOf (feature_graph_of graph.now) (λ v. Contains judged (v, true)) s) }
@@ -67,12 +72,17 @@ pub fn query_to_feature_query<'g, F: FeatureFilter>(
     query: &PackageQuery<'_>,
     filter: &mut F,
 ) -> Result<FeatureQuery<'g>, AllocError>
-    requires packages { ids_of query.now.graph.packages ≡ ids_of (feature_graph_of graph.now).rows.packages }
+    requires packages { ids_of query.now.graph.packages
+        ≡ ids_of (feature_graph_of graph.now).rows.packages }
     requires can { F.can_accept filter.old }
-    ensures ok { IfOk result (λ q. (judged : Judged) × AreJudged (IsOfPackage (feature_graph_of graph.now) (IsNamed query.now.graph (map (id_at query.now.graph) query.now.initials))) judged
+    ensures ok { IfOk result
+        (λ q. (judged : Judged)
+        × AreJudged (IsOfPackage (feature_graph_of graph.now)
+        (IsNamed query.now.graph (map (id_at query.now.graph) query.now.initials))) judged
         × Chain (F.steps filter.old) (F.state filter.old)
         (shown_features (feature_graph_of graph.now) judged) (F.state filter.new)
-        × IsQueryOf (feature_graph_of graph.now) query.now.direction (λ v. Contains judged (v, true)) q) }
+        × IsQueryOf (feature_graph_of graph.now) query.now.direction
+        (λ v. Contains judged (v, true)) q) }
     ensures same { SameSteps (F.steps filter.old) (F.steps filter.new) }
     ensures can { F.can_accept filter.new }
     ensures err { OnErr result (filter.new ≡ filter.old) }
@@ -83,7 +93,8 @@ pub fn query_to_feature_query<'g, F: FeatureFilter>(
 
 // The initials of a query, as a set.
 fn initials_of<'g>(alloc: Global, query: &PackageQuery<'g>) -> Result<PackageSet<'g>, AllocError>
-    ensures { IfOk result (IsSetOfPackages query.now.graph (IsNamed query.now.graph (map (id_at query.now.graph) query.now.initials))) }
+    ensures { IfOk result (IsSetOfPackages query.now.graph
+        (IsNamed query.now.graph (map (id_at query.now.graph) query.now.initials))) }
 {
     let ids = initial_ids(alloc, query)?;
     known_packages(alloc, query.graph(), &ids)
@@ -93,7 +104,8 @@ fn initial_ids<'a>(
     alloc: Global,
     query: &'a PackageQuery<'_>,
 ) -> Result<Vec<&'a PackageId>, AllocError>
-    ensures { IfOk result (λ ids. map (λ id. id.now) ids.items ≡ map (id_at query.entry.now.graph) query.entry.now.initials) }
+    ensures { IfOk result (λ ids. map (λ id. id.now) ids.items
+        ≡ map (id_at query.entry.now.graph) query.entry.now.initials) }
 {
     let mut ids: Vec<&'a PackageId> = Vec::new(alloc);
     let mut packages = query.initials();

@@ -28,7 +28,8 @@ pub(crate) fn packages_of<'g>(
 ) -> Result<PackageSet<'g>, AllocError>
     ensures packages { IfOk result (IsPackageSetOf set.now.graph (IsOfFeature set.now)) }
     ensures sized { length set.now.included ≡ length set.now.graph.nodes }
-    ensures features { IfOk result (λ _. set.now.graph.nodes ≡ nodes_of set.now.graph.rows.packages) }
+    ensures features { IfOk result (λ _. set.now.graph.nodes
+        ≡ nodes_of set.now.graph.rows.packages) }
     ensures listed { IfOk result (λ _. AreListed set.now.graph) }
 {
     let built = set.graph().built();
@@ -43,7 +44,8 @@ pub(crate) fn known_packages<'g>(
     graph: &'g PackageGraph,
     package_ids: &[&PackageId],
 ) -> Result<PackageSet<'g>, AllocError>
-    ensures named { IfOk result (IsSetOf graph.entry.now (IsNamed graph.entry.now (map (λ id. id.now) package_ids.now))) }
+    ensures named { IfOk result (IsSetOf graph.entry.now
+        (IsNamed graph.entry.now (map (λ id. id.now) package_ids.now))) }
 {
     match graph.resolve_ids(alloc, package_ids) {
         Ok(packages) => Ok(packages),
@@ -57,7 +59,8 @@ fn package_ids<'g>(
     nodes: &[usize],
 ) -> Result<Vec<&'g PackageId>, AllocError>
     requires { All (λ v. v < length built.now.nodes) nodes.now }
-    ensures { IfOk result (λ ids. map (λ id. id.now) ids.items ≡ map (λ v. (feature_at built.entry.now v).package_id) nodes.now) }
+    ensures { IfOk result (λ ids. map (λ id. id.now) ids.items
+        ≡ map (λ v. (feature_at built.entry.now v).package_id) nodes.now) }
 {
     let mut ids: Vec<&'g PackageId> = Vec::with_capacity(alloc, nodes.len())?;
     for node in nodes {

@@ -1,8 +1,8 @@
 //! Queries: where links are followed from.
 
 ghost use Rattle.std.specs.Prelude.{IfErr, IfOk, map};
-ghost use Rattle.guppy_row_parts.specs.declared.dependency_direction.DependencyDirection.TheVariants.{Forward, Reverse};
-ghost use Rattle.guppy_feature_ids.specs.IdViews.{id_view};
+ghost use Rattle.guppy_package_parts.specs.declared.dependency_direction.DependencyDirection.TheVariants.{Forward, Reverse};
+ghost use Rattle.guppy_feature_demands.specs.IdViews.{id_view};
 ghost use Rattle.guppy_feature_graph.specs.Finding.{AreKnown, IsMissing, IsNamed};
 ghost use Rattle.guppy_feature_graph.specs.Queries.{IsQueryOf};
 ghost use Rattle.guppy_feature_graph.specs.Views.{feature_graph_of};
@@ -23,9 +23,12 @@ impl<'g> FeatureGraph<'g> {
         feature_ids: &[FeatureId<'_>],
         direction: DependencyDirection,
     ) -> Result<FeatureQuery<'g>, Error>
-        ensures query { IfOk result (IsQueryOf (feature_graph_of self.now) direction (IsNamed (feature_graph_of self.now) (map id_view feature_ids.now))) }
-        ensures known { IfOk result (λ _. AreKnown (feature_graph_of self.now) (map id_view feature_ids.now)) }
-        ensures refused { IfErr result (IsMissing (feature_graph_of self.now) (map id_view feature_ids.now)) }
+        ensures query { IfOk result (IsQueryOf (feature_graph_of self.now) direction
+            (IsNamed (feature_graph_of self.now) (map id_view feature_ids.now))) }
+        ensures known { IfOk result (λ _. AreKnown (feature_graph_of self.now)
+            (map id_view feature_ids.now)) }
+        ensures refused { IfErr result (IsMissing (feature_graph_of self.now)
+            (map id_view feature_ids.now)) }
     {
         let set = set_of_features(alloc, self, feature_ids)?;
         let query = FeatureQuery::of(alloc, FeatureSet::of(*self, set), direction)?;
@@ -38,9 +41,12 @@ impl<'g> FeatureGraph<'g> {
         alloc: Global,
         feature_ids: &[FeatureId<'_>],
     ) -> Result<FeatureQuery<'g>, Error>
-        ensures query { IfOk result (IsQueryOf (feature_graph_of self.now) Forward (IsNamed (feature_graph_of self.now) (map id_view feature_ids.now))) }
-        ensures known { IfOk result (λ _. AreKnown (feature_graph_of self.now) (map id_view feature_ids.now)) }
-        ensures refused { IfErr result (IsMissing (feature_graph_of self.now) (map id_view feature_ids.now)) }
+        ensures query { IfOk result (IsQueryOf (feature_graph_of self.now) Forward
+            (IsNamed (feature_graph_of self.now) (map id_view feature_ids.now))) }
+        ensures known { IfOk result (λ _. AreKnown (feature_graph_of self.now)
+            (map id_view feature_ids.now)) }
+        ensures refused { IfErr result (IsMissing (feature_graph_of self.now)
+            (map id_view feature_ids.now)) }
     {
         self.query_directed(alloc, feature_ids, DependencyDirection::Forward)
     }
@@ -51,9 +57,12 @@ impl<'g> FeatureGraph<'g> {
         alloc: Global,
         feature_ids: &[FeatureId<'_>],
     ) -> Result<FeatureQuery<'g>, Error>
-        ensures query { IfOk result (IsQueryOf (feature_graph_of self.now) Reverse (IsNamed (feature_graph_of self.now) (map id_view feature_ids.now))) }
-        ensures known { IfOk result (λ _. AreKnown (feature_graph_of self.now) (map id_view feature_ids.now)) }
-        ensures refused { IfErr result (IsMissing (feature_graph_of self.now) (map id_view feature_ids.now)) }
+        ensures query { IfOk result (IsQueryOf (feature_graph_of self.now) Reverse
+            (IsNamed (feature_graph_of self.now) (map id_view feature_ids.now))) }
+        ensures known { IfOk result (λ _. AreKnown (feature_graph_of self.now)
+            (map id_view feature_ids.now)) }
+        ensures refused { IfErr result (IsMissing (feature_graph_of self.now)
+            (map id_view feature_ids.now)) }
     {
         self.query_directed(alloc, feature_ids, DependencyDirection::Reverse)
     }

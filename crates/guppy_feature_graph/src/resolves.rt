@@ -38,7 +38,9 @@ impl<'g> FeatureQuery<'g> {
         visitor: &mut dyn FeatureLinkVisitor,
     ) -> Result<FeatureSet<'g>, AllocError>
         ensures graph { IfOk result (λ s. s.graph ≡ self.entry.graph) }
-        ensures ok { IfOk result (λ s. (run : Run) × IsResolved self.entry run s.included × Chain (steps visitor.old) (state visitor.old) (shown_to self.entry run) (state visitor.new)) }
+        ensures ok { IfOk result (λ s. (run : Run) × IsResolved self.entry run s.included
+            × Chain (steps visitor.old) (state visitor.old) (shown_to self.entry run)
+            (state visitor.new)) }
         ensures same { SameSteps (steps visitor.old) (steps visitor.new) }
         ensures err { OnErr result (visitor.new ≡ visitor.old) }
     {
@@ -54,7 +56,9 @@ impl<'g> FeatureQuery<'g> {
         looks: &mut Looks<L>,
     ) -> Result<FeatureSet<'g>, AllocError>
         ensures graph { IfOk result (λ s. s.graph ≡ self.entry.graph) }
-        ensures ok { IfOk result (λ s. (run : Run) × IsResolved self.entry run s.included × Chain (steps visitor.old) (state visitor.old) (shown_to self.entry run) (state visitor.new)) }
+        ensures ok { IfOk result (λ s. (run : Run) × IsResolved self.entry run s.included
+            × Chain (steps visitor.old) (state visitor.old) (shown_to self.entry run)
+            (state visitor.new)) }
         ensures same { SameSteps (steps visitor.old) (steps visitor.new) }
         ensures err { OnErr result (visitor.new ≡ visitor.old) }
         ensures looks { looks.new ≤ looks.old + length self.entry.graph.nodes }
@@ -72,7 +76,9 @@ impl<'g> FeatureQuery<'g> {
         F: Drop,
         requires { F.IsAlwaysCallable visitor_fn }
         ensures graph { IfOk result (λ s. s.graph ≡ self.entry.graph) }
-        ensures ok { IfOk result (λ s. (run : Run) × (last : F) × IsResolved self.entry run s.included × Chain (AsksClosure F.FnMut self.entry) visitor_fn run last) }
+        ensures ok { IfOk result (λ s. (run : Run) × (last : F)
+            × IsResolved self.entry run s.included
+            × Chain (AsksClosure F.FnMut self.entry) visitor_fn run last) }
     {
         self.resolve_with_fn_lent(alloc, &mut visitor_fn)
     }
@@ -85,7 +91,8 @@ impl<'g> FeatureQuery<'g> {
     ) -> Result<FeatureSet<'g>, AllocError>
         requires { F.IsAlwaysCallable visitor_fn.old }
         ensures graph { IfOk result (λ s. s.graph ≡ self.entry.graph) }
-        ensures ok { IfOk result (λ s. (run : Run) × IsResolved self.entry run s.included × Chain (AsksClosure F.FnMut self.entry) visitor_fn.old run visitor_fn.new) }
+        ensures ok { IfOk result (λ s. (run : Run) × IsResolved self.entry run s.included
+            × Chain (AsksClosure F.FnMut self.entry) visitor_fn.old run visitor_fn.new) }
         ensures err { OnErr result (visitor_fn.new ≡ visitor_fn.old) }
     {
         set_by_closure(alloc, &self, visitor_fn)
@@ -103,7 +110,8 @@ impl<'g> FeatureQuery<'g> {
     ) -> Result<FeatureSet<'g>, AllocError>
         requires { F.IsAlwaysCallable visitor_fn.old }
         ensures graph { IfOk result (λ s. s.graph ≡ self.entry.graph) }
-        ensures ok { IfOk result (λ s. (run : Run) × IsResolved self.entry run s.included × Chain (AsksClosure F.FnMut self.entry) visitor_fn.old run visitor_fn.new) }
+        ensures ok { IfOk result (λ s. (run : Run) × IsResolved self.entry run s.included
+            × Chain (AsksClosure F.FnMut self.entry) visitor_fn.old run visitor_fn.new) }
         ensures err { OnErr result (visitor_fn.new ≡ visitor_fn.old) }
         ensures looks { looks.new ≤ looks.old + length self.entry.graph.nodes }
     {
@@ -129,7 +137,9 @@ fn set_by_visitor<'g, L: Ledger>(
     looks: &mut Looks<L>,
 ) -> Result<FeatureSet<'g>, AllocError>
     ensures graph { IfOk result (λ s. s.graph ≡ query.now.graph) }
-    ensures ok { IfOk result (λ s. (run : Run) × IsResolved query.now run s.included × Chain (steps visitor.old) (state visitor.old) (shown_to query.now run) (state visitor.new)) }
+    ensures ok { IfOk result (λ s. (run : Run) × IsResolved query.now run s.included
+        × Chain (steps visitor.old) (state visitor.old) (shown_to query.now run)
+        (state visitor.new)) }
     ensures same { SameSteps (steps visitor.old) (steps visitor.new) }
     ensures err { OnErr result (visitor.new ≡ visitor.old) }
     ensures looks { looks.new ≤ looks.old + length query.now.graph.nodes }
@@ -147,7 +157,8 @@ fn set_by_closure<'g, F: FnMut(&FeatureLinkContext<'_>, ConditionalLink<'g>) -> 
 ) -> Result<FeatureSet<'g>, AllocError>
     requires { F.IsAlwaysCallable accepts.old }
     ensures graph { IfOk result (λ s. s.graph ≡ query.now.graph) }
-    ensures ok { IfOk result (λ s. (run : Run) × IsResolved query.now run s.included × Chain (AsksClosure F.FnMut query.now) accepts.old run accepts.new) }
+    ensures ok { IfOk result (λ s. (run : Run) × IsResolved query.now run s.included
+        × Chain (AsksClosure F.FnMut query.now) accepts.old run accepts.new) }
     ensures err { OnErr result (accepts.new ≡ accepts.old) }
 {
     match resolve_by_closure(alloc, query, accepts) {
@@ -168,7 +179,8 @@ fn set_by_closure_counted<
 ) -> Result<FeatureSet<'g>, AllocError>
     requires callable { F.IsAlwaysCallable accepts.old }
     ensures graph { IfOk result (λ s. s.graph ≡ query.now.graph) }
-    ensures ok { IfOk result (λ s. (run : Run) × IsResolved query.now run s.included × Chain (AsksClosure F.FnMut query.now) accepts.old run accepts.new) }
+    ensures ok { IfOk result (λ s. (run : Run) × IsResolved query.now run s.included
+        × Chain (AsksClosure F.FnMut query.now) accepts.old run accepts.new) }
     ensures err { OnErr result (accepts.new ≡ accepts.old) }
     ensures looks { looks.new ≤ looks.old + length query.now.graph.nodes }
 {
@@ -188,7 +200,9 @@ fn resolve_with_blank<'g, L: Ledger>(
     requires parts { blank.parts ≡ L.parts }
     requires some { 0 < blank.parts }
     ensures graph { IfOk result (λ s. s.graph ≡ query.entry.graph) }
-    ensures ok { IfOk result (λ s. (run : Run) × IsResolved query.entry run s.included × Chain (steps visitor.old) (state visitor.old) (shown_to query.entry run) (state visitor.new)) }
+    ensures ok { IfOk result (λ s. (run : Run) × IsResolved query.entry run s.included
+        × Chain (steps visitor.old) (state visitor.old) (shown_to query.entry run)
+        (state visitor.new)) }
     ensures same { SameSteps (steps visitor.old) (steps visitor.new) }
     ensures err { OnErr result (visitor.new ≡ visitor.old) }
 {

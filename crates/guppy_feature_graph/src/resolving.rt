@@ -44,7 +44,8 @@ impl Offers<'_> {
 }
 
 fn offers_of<'a>(alloc: Global, query: &'a FeatureQuery<'_>) -> Result<Offers<'a>, AllocError>
-    ensures { IfOk result (λ o. offers_view o ≡ offered (direction_of query.entry.now.direction) query.entry.now.graph) }
+    ensures { IfOk result (λ o. offers_view o
+        ≡ offered (direction_of query.entry.now.direction) query.entry.now.graph) }
 {
     let graph = query.graph().built();
     match query.direction() {
@@ -60,7 +61,9 @@ pub(crate) fn resolve_by_visitor<L: Ledger>(
     visitor: &mut dyn FeatureLinkVisitor,
     looks: &mut Looks<L>,
 ) -> Result<NodeSet, AllocError>
-    ensures ok { IfOk result (λ set. (run : Run) × IsResolved query.now run set × Chain (steps visitor.old) (state visitor.old) (shown_to query.now run) (state visitor.new)) }
+    ensures ok { IfOk result (λ set. (run : Run) × IsResolved query.now run set
+        × Chain (steps visitor.old) (state visitor.old) (shown_to query.now run)
+        (state visitor.new)) }
     ensures same { SameSteps (steps visitor.old) (steps visitor.new) }
     ensures err { OnErr result (visitor.new ≡ visitor.old) }
     ensures looks { looks.new ≤ looks.old + length query.now.graph.nodes }
@@ -79,7 +82,9 @@ fn show_to_visitor<L: Ledger>(
     looks: &mut Looks<L>,
 ) -> Result<NodeSet, AllocError>
     requires offers { offers.now ≡ offered (direction_of query.now.direction) query.now.graph }
-    ensures ok { IfOk result (λ set. (run : Run) × IsResolved query.now run set × Chain (steps visitor.old) (state visitor.old) (shown_to query.now run) (state visitor.new)) }
+    ensures ok { IfOk result (λ set. (run : Run) × IsResolved query.now run set
+        × Chain (steps visitor.old) (state visitor.old) (shown_to query.now run)
+        (state visitor.new)) }
     ensures same { SameSteps (steps visitor.old) (steps visitor.new) }
     ensures err { OnErr result (visitor.new ≡ visitor.old) }
     ensures looks { looks.new ≤ looks.old + length query.now.graph.nodes }
@@ -96,7 +101,8 @@ fn show_to_visitor<L: Ledger>(
 // Asks about what is offered at once; of two halves about the required one first.
 fn ask_due(visitor: &mut dyn FeatureLinkVisitor, query: &FeatureQuery<'_>, due: Due) -> (bool, bool)
     requires { (o : Offer) → asks (Some due) o ≡ true → o.edge < length query.now.graph.edges }
-    ensures step { Chain (steps visitor.old) (state visitor.old) (shown_to query.now (asked_of (Some due) result.0 result.1)) (state visitor.new) }
+    ensures step { Chain (steps visitor.old) (state visitor.old)
+        (shown_to query.now (asked_of (Some due) result.0 result.1)) (state visitor.new) }
     ensures same { SameSteps (steps visitor.old) (steps visitor.new) }
 {
     match due {
@@ -113,7 +119,8 @@ fn ask_due(visitor: &mut dyn FeatureLinkVisitor, query: &FeatureQuery<'_>, due: 
 
 fn ask(visitor: &mut dyn FeatureLinkVisitor, query: &FeatureQuery<'_>, offer: Offer) -> bool
     requires { offer.edge < length query.now.graph.edges }
-    ensures step { steps visitor.old (state visitor.old) (query.now, link_of query.now.graph offer) result (state visitor.new) }
+    ensures step { steps visitor.old (state visitor.old) (query.now, link_of query.now.graph offer)
+        result (state visitor.new) }
     ensures same { SameSteps (steps visitor.old) (steps visitor.new) }
 {
     let cx = FeatureLinkContext::of(query);
@@ -147,7 +154,8 @@ pub(crate) fn resolve_by_closure<
     F: FnMut(&FeatureLinkContext<'_>, ConditionalLink<'g>) -> bool,
 >(alloc: Global, query: &FeatureQuery<'g>, accepts: &mut F) -> Result<NodeSet, AllocError>
     requires { F.IsAlwaysCallable accepts.old }
-    ensures ok { IfOk result (λ set. (run : Run) × IsResolved query.now run set × Chain (AsksClosure F.FnMut query.now) accepts.old run accepts.new) }
+    ensures ok { IfOk result (λ set. (run : Run) × IsResolved query.now run set
+        × Chain (AsksClosure F.FnMut query.now) accepts.old run accepts.new) }
     ensures err { OnErr result (accepts.new ≡ accepts.old) }
 {
     match offers_of(alloc, query) {
@@ -164,7 +172,8 @@ fn show_to_closure<'g, F: FnMut(&FeatureLinkContext<'_>, ConditionalLink<'g>) ->
 ) -> Result<NodeSet, AllocError>
     requires callable { F.IsAlwaysCallable accepts.old }
     requires offers { offers.now ≡ offered (direction_of query.now.direction) query.now.graph }
-    ensures ok { IfOk result (λ set. (run : Run) × IsResolved query.now run set × Chain (AsksClosure F.FnMut query.now) accepts.old run accepts.new) }
+    ensures ok { IfOk result (λ set. (run : Run) × IsResolved query.now run set
+        × Chain (AsksClosure F.FnMut query.now) accepts.old run accepts.new) }
     ensures err { OnErr result (accepts.new ≡ accepts.old) }
 {
     let direction = direction_of(query.direction());
@@ -188,7 +197,8 @@ pub(crate) fn resolve_by_closure_counted<
     looks: &mut Looks<L>,
 ) -> Result<NodeSet, AllocError>
     requires callable { F.IsAlwaysCallable accepts.old }
-    ensures ok { IfOk result (λ set. (run : Run) × IsResolved query.now run set × Chain (AsksClosure F.FnMut query.now) accepts.old run accepts.new) }
+    ensures ok { IfOk result (λ set. (run : Run) × IsResolved query.now run set
+        × Chain (AsksClosure F.FnMut query.now) accepts.old run accepts.new) }
     ensures err { OnErr result (accepts.new ≡ accepts.old) }
     ensures looks { looks.new ≤ looks.old + length query.now.graph.nodes }
 {
@@ -211,7 +221,8 @@ fn show_to_closure_counted<
 ) -> Result<NodeSet, AllocError>
     requires callable { F.IsAlwaysCallable accepts.old }
     requires offers { offers.now ≡ offered (direction_of query.now.direction) query.now.graph }
-    ensures ok { IfOk result (λ set. (run : Run) × IsResolved query.now run set × Chain (AsksClosure F.FnMut query.now) accepts.old run accepts.new) }
+    ensures ok { IfOk result (λ set. (run : Run) × IsResolved query.now run set
+        × Chain (AsksClosure F.FnMut query.now) accepts.old run accepts.new) }
     ensures err { OnErr result (accepts.new ≡ accepts.old) }
     ensures looks { looks.new ≤ looks.old + length query.now.graph.nodes }
 {
@@ -230,8 +241,10 @@ fn ask_closure_due<'g, F: FnMut(&FeatureLinkContext<'_>, ConditionalLink<'g>) ->
     due: Due,
 ) -> (bool, bool)
     requires callable { F.IsAlwaysCallable accepts.old }
-    requires within { (o : Offer) → asks (Some due) o ≡ true → o.edge < length query.now.graph.edges }
-    ensures asks { Chain (AsksClosure F.FnMut query.now) accepts.old (asked_of (Some due) result.0 result.1) accepts.new }
+    requires within { (o : Offer) → asks (Some due) o ≡ true
+        → o.edge < length query.now.graph.edges }
+    ensures asks { Chain (AsksClosure F.FnMut query.now) accepts.old
+        (asked_of (Some due) result.0 result.1) accepts.new }
     ensures callable { F.IsAlwaysCallable accepts.new }
 {
     match due {

@@ -3,7 +3,7 @@
 ghost use Rattle.std.specs.Prelude.{◌≡◌, ◌&&◌, nat_lt};
 ghost use Rattle.std.specs.List.{list_all};
 ghost use Rattle.numbered_graph.specs.Sets.{has};
-ghost use Rattle.guppy_feature_ids.specs.IdViews.{id_view};
+ghost use Rattle.guppy_feature_demands.specs.IdViews.{id_view};
 ghost use Rattle.guppy_feature_graph.specs.SetEquality.{agree_on, has_feature};
 
 use crate::feature_graph::name_of;

@@ -2,11 +2,11 @@
 
 ghost use Rattle.std.specs.Prelude.{◌≡◌, ◌↔◌, ◌<◌, ℕ, List, All, IfOk, IsTrue, filter, length, map};
 ghost use Rattle.numbered_graph.specs.Sets.{has};
-ghost use Rattle.guppy_feature_ids.specs.IdViews.{id_view};
+ghost use Rattle.guppy_feature_demands.specs.IdViews.{id_view};
 ghost use Rattle.guppy_feature_nodes.specs.Graphs.{feature_at};
 ghost use Rattle.guppy_feature_views.specs.Views.{link_view, seen};
 ghost use Rattle.guppy_feature_graph.specs.Queries.{IsQueryOf};
-ghost use Rattle.guppy_feature_parts.specs.Told.{is_conditional, told_at, told_view, whole_link};
+ghost use Rattle.guppy_feature_views.specs.Told.{is_conditional, told_at, told_view, whole_link};
 ghost use Rattle.guppy_feature_graph.specs.SetParts.{AreRoots, edges_inside};
 ghost use Rattle.guppy_feature_graph.specs.Views.{feature_graph_of};
 
@@ -14,8 +14,9 @@ use crate::direction::direction_of;
 use crate::feature_query::FeatureQuery;
 use crate::feature_set::FeatureSet;
 use guppy_feature_nodes::{FeatureEdge, FeatureId};
-use guppy_feature_parts::{edges_told, features_at, ids_at, in_root_order, links_at};
-use guppy_feature_views::{ConditionalLink, FeatureMetadata};
+use guppy_feature_views::{
+    ConditionalLink, FeatureMetadata, edges_told, features_at, ids_at, in_root_order, links_at,
+};
 use guppy_package_graph::DependencyDirection;
 use numbered_graph::{links_inside, root_nodes};
 use std::alloc::{AllocError, Global};
@@ -27,7 +28,8 @@ impl<'g> FeatureSet<'g> {
         alloc: Global,
         direction: DependencyDirection,
     ) -> Result<FeatureQuery<'g>, AllocError>
-        ensures query { IfOk result (IsQueryOf self.now.graph direction (λ v. IsTrue (has self.now.included v))) }
+        ensures query { IfOk result (IsQueryOf self.now.graph direction
+            (λ v. IsTrue (has self.now.included v))) }
     {
         let initials = self.copy(alloc)?;
         FeatureQuery::of(alloc, initials, direction)
@@ -66,7 +68,8 @@ impl<'g> FeatureSet<'g> {
         &self,
         alloc: Global,
     ) -> Result<Vec<(FeatureId<'g>, FeatureId<'g>, &'g FeatureEdge)>, AllocError>
-        ensures inside { IfOk result (λ ls. map told_view ls.items ≡ map (told_at self.now.graph) (edges_inside self.now)) }
+        ensures inside { IfOk result (λ ls. map told_view ls.items
+            ≡ map (told_at self.now.graph) (edges_inside self.now)) }
     {
         let numbers = inside(alloc, self)?;
         edges_told(alloc, self.graph().built(), &numbers)
@@ -74,7 +77,9 @@ impl<'g> FeatureSet<'g> {
 
     /// The links whose ends are both in the set and that stand on lines, each once as a whole.
     pub fn conditional_links(&self, alloc: Global) -> Result<Vec<ConditionalLink<'g>>, AllocError>
-        ensures inside { IfOk result (λ ls. map link_view ls.items ≡ map (whole_link self.now.graph) (filter (is_conditional self.now.graph) (edges_inside self.now))) }
+        ensures inside { IfOk result (λ ls. map link_view ls.items
+            ≡ map (whole_link self.now.graph)
+            (filter (is_conditional self.now.graph) (edges_inside self.now))) }
     {
         let numbers = inside(alloc, self)?;
         links_at(alloc, self.graph().built(), &numbers)
@@ -100,7 +105,8 @@ fn roots(
 // The numbers of the edges inside a set.
 fn inside(alloc: Global, set: &FeatureSet<'_>) -> Result<Vec<usize>, AllocError>
     ensures inside { IfOk result (λ numbers. numbers.items ≡ edges_inside set.now) }
-    ensures within { IfOk result (λ numbers. All (λ j. j < length set.now.graph.edges) numbers.items) }
+    ensures within { IfOk result (λ numbers.
+        All (λ j. j < length set.now.graph.edges) numbers.items) }
 {
     let graph = set.graph().built().edge_graph();
     let numbers = links_inside(alloc, graph, set.included())?;

@@ -1,5 +1,5 @@
 ghost use Rattle.std.specs.Prelude.{◌↔◌, IsTrue};
-ghost use Rattle.guppy_feature_ids.specs.IdViews.{id_view};
+ghost use Rattle.guppy_feature_demands.specs.IdViews.{id_view};
 ghost use Rattle.guppy_feature_graph.specs.StandardFilters.{Accepts, IsDefaultFeature};
 ghost use Rattle.guppy_feature_graph.specs.Views.{feature_graph_of};
 
@@ -53,7 +53,8 @@ impl FeatureFilter for StandardFeatures {
 }
 
 fn is_default(graph: &FeatureGraph<'_>, feature_id: FeatureId<'_>) -> bool
-    ensures { IsTrue result ↔ IsDefaultFeature (feature_graph_of graph.now) (id_view feature_id.entry) }
+    ensures { IsTrue result ↔ IsDefaultFeature (feature_graph_of graph.now)
+        (id_view feature_id.entry) }
 {
     match graph.is_default_feature(feature_id) {
         Ok(answer) => answer,

@@ -30,9 +30,12 @@ pub(crate) fn take_by_filter<F: FeatureFilter>(
 ) -> Result<Taken, AllocError>
     requires sized { length wanted.now ≡ length (feature_graph_of graph.now).nodes }
     requires can { F.can_accept filter.old }
-    ensures sized { IfOk result (λ t. length t.included ≡ length (feature_graph_of graph.now).nodes) }
-    ensures starts { IfOk result (λ t. AreStarts (length (feature_graph_of graph.now).nodes) t.included t.starts.items) }
-    ensures ok { IfOk result (λ t. (judged : Judged) × AreJudged (λ v. IsTrue (has wanted.now v)) judged
+    ensures sized { IfOk result (λ t. length t.included
+        ≡ length (feature_graph_of graph.now).nodes) }
+    ensures starts { IfOk result (λ t. AreStarts (length (feature_graph_of graph.now).nodes)
+        t.included t.starts.items) }
+    ensures ok { IfOk result
+        (λ t. (judged : Judged) × AreJudged (λ v. IsTrue (has wanted.now v)) judged
         × Chain (F.steps filter.old) (F.state filter.old)
         (shown_features (feature_graph_of graph.now) judged) (F.state filter.new)
         × ((v : ℕ) → IsTrue (has t.included v) ↔ Contains judged (v, true))) }
@@ -54,7 +57,9 @@ pub(crate) fn take_by_filter<F: FeatureFilter>(
 fn ask_filter<F: FeatureFilter>(filter: &mut F, graph: &FeatureGraph<'_>, node: usize) -> bool
     requires within { node < length (feature_graph_of graph.now).nodes }
     requires can { F.can_accept filter.old }
-    ensures step { F.steps filter.old (F.state filter.old) (feature_graph_of graph.now, feature_at (feature_graph_of graph.now) node) result (F.state filter.new) }
+    ensures step { F.steps filter.old (F.state filter.old)
+        (feature_graph_of graph.now, feature_at (feature_graph_of graph.now) node) result
+        (F.state filter.new) }
     ensures same { SameSteps (F.steps filter.old) (F.steps filter.new) }
     ensures can { F.can_accept filter.new }
 {
@@ -64,7 +69,8 @@ fn ask_filter<F: FeatureFilter>(filter: &mut F, graph: &FeatureGraph<'_>, node: 
 // Puts the number at the end of a list that has room for it, where it is wanted.
 fn push_within(numbers: &mut Vec<usize>, number: usize, wanted: bool)
     requires { vec_len numbers.old < vec_capacity numbers.old }
-    ensures items { numbers.new.items ≡ (if wanted then numbers.old.items ++ number ∷ [] else numbers.old.items) }
+    ensures items { numbers.new.items ≡ (if wanted then numbers.old.items ++ number ∷ []
+        else numbers.old.items) }
     ensures capacity { vec_capacity numbers.old ≤ vec_capacity numbers.new }
 {
     if wanted {

@@ -20,6 +20,7 @@ pub trait FeatureLinkVisitor {
 
     /// Whether the link is followed.
     fn visit_link(&mut self, cx: &FeatureLinkContext<'_>, link: ConditionalLink<'_>) -> bool
-        ensures step { steps self.old (state self.old) (query_of cx.now, link_view link.entry) result (state self.new) }
+        ensures step { steps self.old (state self.old) (query_of cx.now, link_view link.entry)
+            result (state self.new) }
         ensures same { SameSteps (steps self.old) (steps self.new) };
 }

@@ -13,8 +13,8 @@ use Rattle.workspace_record.specs.Features.{FeatureValue}
 use Rattle.guppy_package_parts.specs.Lines.{IsLineAt}
 use Rattle.guppy_feature_demands.specs.Demands.{FormValue, FeatureToBase, NamedFeature, NamedFeatureDepColon, StrongSlash, WeakSlash, DependenciesSection, NumberedValue, demands_of, is_between_nodes, kept_demands, with_numbers}
 use Rattle.guppy_feature_demands.specs.Nodes.{first_of_each, nodes_of}
-use Rattle.guppy_feature_edges.specs.Joining.{AreJoined, HasLines, JoinedValue, is_dropped, join_key, key_eq, place_eq, same_edge}
-use Rattle.guppy_feature_edges.specs.KeyViews.{keys_decide}
+use Rattle.guppy_feature_nodes.specs.Joining.{AreJoined, HasLines, JoinedValue, is_dropped, join_key, key_eq, place_eq, same_edge}
+use Rattle.guppy_feature_nodes.specs.KeyViews.{keys_decide}
 use Rattle.guppy_feature_nodes.specs.GraphEdges.{AreEdges, AreEdgesWithin, EdgeValue, IsEdgeWithin, edge_form, edge_lines, edge_value, is_always}
 use Rattle.guppy_feature_nodes.proofs.LineFacts.{by_lines, demands_lined}
 

@@ -4,7 +4,7 @@ use Rattle.std.proofs.Math.Dec.{eqb-suc-zero}
 use Rattle.std.specs.Option.{option_map_or}
 use Rattle.workspace_record.specs.Records.{Line, Link}
 use Rattle.guppy_package_parts.specs.Lines.{line_at}
-use Rattle.guppy_feature_ids.specs.declared.link_declarations.LinkDeclarations.TheVariants.{Unsplit, Required, Optional}
+use Rattle.guppy_feature_demands.specs.declared.link_declarations.LinkDeclarations.TheVariants.{Unsplit, Required, Optional}
 use Rattle.guppy_feature_demands.specs.Nodes.{first_of_each}
 use Rattle.guppy_feature_nodes.specs.EdgeLinkViews.{joined}
 use Rattle.guppy_feature_nodes.specs.Lines.{declares, declares_at, links_shown}

@@ -14,7 +14,7 @@ use Rattle.workspace_record.specs.Records.{Link, Package, Text}
 use Rattle.workspace_record.specs.Features.{FeatureValue}
 use Rattle.guppy_package_parts.specs.Lines.{IsLineAt}
 use Rattle.guppy_package_table.specs.Tables.{TableValue, ids_of, place_among}
-use Rattle.guppy_feature_ids.specs.declared.link_declarations.LinkDeclarations.{LinkDeclarations}
+use Rattle.guppy_feature_demands.specs.declared.link_declarations.LinkDeclarations.{LinkDeclarations}
 use Rattle.guppy_feature_demands.specs.Nodes.{base_of, nodes_of}
 use Rattle.guppy_feature_demands.proofs.EntryFacts.{list_any_from_position_or_len}
 use Rattle.guppy_feature_demands.proofs.NumberFacts.{at_end, at_place}

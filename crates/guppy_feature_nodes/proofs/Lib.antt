@@ -1,3 +1,7 @@
+pub mod EntryFacts
+pub mod GroupFacts
+pub mod JoinFacts
+pub mod WeightFacts
 pub mod RowFacts
 pub mod LineFacts
 pub mod LinkOrder

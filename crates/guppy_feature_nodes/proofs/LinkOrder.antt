@@ -11,7 +11,7 @@ use Rattle.indexmap.specs.IndexSet.{insert_key}
 use Rattle.std.proofs.lemmas.List.{map-append, take_more}
 use Rattle.guppy_feature_demands.specs.Nodes.{first_of_each}
 use Rattle.guppy_feature_demands.proofs.FirstFacts.{any-without, first_of_each-push}
-use Rattle.guppy_feature_edges.specs.Joining.{place_cmp}
+use Rattle.guppy_feature_nodes.specs.Joining.{place_cmp}
 
 -- the list ends in n
 abbrev pub EndsIn : ℕ → List ℕ → Type 0

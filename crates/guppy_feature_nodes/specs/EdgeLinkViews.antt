@@ -1,7 +1,7 @@
 use Rattle.std.specs.Prelude.{◌≡◌, ◌==◌, ℕ, List, length, if◌then◌else◌}
 use Rattle.workspace_record.specs.Records.{Link}
-use Rattle.guppy_feature_ids.specs.declared.link_declarations.LinkDeclarations.{LinkDeclarations}
-use Rattle.guppy_feature_ids.specs.declared.link_declarations.LinkDeclarations.TheVariants.{Unsplit, Required, Optional}
+use Rattle.guppy_feature_demands.specs.declared.link_declarations.LinkDeclarations.{LinkDeclarations}
+use Rattle.guppy_feature_demands.specs.declared.link_declarations.LinkDeclarations.TheVariants.{Unsplit, Required, Optional}
 use Rattle.guppy_feature_nodes.specs.Lines.{links_shown}
 use Rattle.guppy_feature_nodes.specs.declared.edge_links.EdgeLinks.{EdgeLinks}
 

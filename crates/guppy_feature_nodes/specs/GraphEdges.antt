@@ -7,7 +7,7 @@ use Rattle.guppy_package_parts.specs.Lines.{IsLineAt}
 use Rattle.workspace_record.specs.Features.{FeatureValue}
 use Rattle.guppy_feature_demands.specs.Demands.{FormValue, FeatureToBase, NamedFeature, NamedFeatureDepColon, StrongSlash, WeakSlash, DependenciesSection, demands_of, kept_demands}
 use Rattle.guppy_feature_demands.specs.Nodes.{dep_of, nodes_of, number_of}
-use Rattle.guppy_feature_edges.specs.Joining.{AreJoined, JoinedValue}
+use Rattle.guppy_feature_nodes.specs.Joining.{AreJoined, JoinedValue}
 
 -- why an edge is there; the optional half of a weak one waits for a node, which is told by its number
 pub data EdgeForm : Type 0 where

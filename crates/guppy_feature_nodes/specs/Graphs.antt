@@ -5,7 +5,7 @@ use Rattle.numbered_graph.specs.Paths.{Reaches}
 use Rattle.numbered_graph.specs.Sets.{has}
 use Rattle.workspace_record.specs.Records.{Link, Package}
 use Rattle.workspace_record.specs.Features.{FeatureValue}
-use Rattle.guppy_row_parts.specs.Warnings.{Warning}
+use Rattle.guppy_package_parts.specs.Warnings.{Warning}
 use Rattle.guppy_feature_demands.specs.Nodes.{base_of, features_of, nodes_of}
 use Rattle.guppy_feature_demands.specs.Warnings.{warnings_of}
 use Rattle.guppy_package_graph.specs.Finding.{IsAt}

@@ -1,7 +1,7 @@
 -- What the data of a feature graph keeps beside its nodes and edges.
 use Rattle.std.specs.Prelude.{◌≡◌, ◌≢◌, All, AllPairs, map}
 use Rattle.numbered_graph.specs.declared.direction.Direction.TheVariants.{Forward}
-use Rattle.guppy_row_parts.specs.WarningViews.{warning_view}
+use Rattle.guppy_package_parts.specs.WarningViews.{warning_view}
 use Rattle.guppy_feature_demands.specs.Nodes.{nodes_of}
 use Rattle.guppy_package_table.specs.Tables.{ids_of}
 use Rattle.guppy_feature_nodes.specs.EdgeViews.{edge_view}

@@ -5,8 +5,8 @@ use Rattle.std.specs.Option.{option_map_or}
 use Rattle.workspace_record.specs.Records.{Line, Link}
 use Rattle.workspace_record.specs.declared.kinds.LineKind.{LineKind}
 use Rattle.guppy_package_parts.specs.Lines.{IsLineAt, is_kind, line_at}
-use Rattle.guppy_feature_ids.specs.Kinds.{has_optional, has_required}
-use Rattle.guppy_feature_ids.specs.declared.link_declarations.LinkDeclarations.{LinkDeclarations}
+use Rattle.guppy_feature_demands.specs.Kinds.{has_optional, has_required}
+use Rattle.guppy_feature_demands.specs.declared.link_declarations.LinkDeclarations.{LinkDeclarations}
 use Rattle.guppy_feature_demands.specs.Nodes.{first_of_each}
 
 -- the line is among those that declare what is shown of an edge

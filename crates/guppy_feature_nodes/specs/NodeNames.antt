@@ -7,7 +7,7 @@ use Rattle.std.proofs.Common.{ap, refl}
 use Rattle.workspace_record.specs.Equality.{DecidesEquality, decide_by, equivalence, pair_eq, pairs_decide}
 use Rattle.workspace_record.specs.Features.{FeatureValue, LabelValue, label_eq, label_writes, labels_decide}
 use Rattle.workspace_record.specs.Records.{Text}
-use Rattle.guppy_feature_ids.specs.LabelViews.{label_view}
+use Rattle.guppy_feature_demands.specs.LabelViews.{label_view}
 use Rattle.guppy_package_table.specs.Tables.{place_among}
 use Rattle.guppy_feature_nodes.specs.declared.node_names.LentNode.{LentNode}
 

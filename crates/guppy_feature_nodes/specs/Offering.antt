@@ -7,7 +7,7 @@ use Rattle.numbered_offers.specs.declared.edge.EdgeSort.{EdgeSort}
 use Rattle.numbered_offers.specs.declared.edge.EdgeSort.TheVariants.{Unconditional, Conditional, Weak}
 use Rattle.numbered_offers.specs.Graphs.{OfferGraphValue}
 use Rattle.workspace_record.specs.Records.{Link}
-use Rattle.guppy_feature_ids.specs.declared.link_declarations.LinkDeclarations.TheVariants.{Required, Optional}
+use Rattle.guppy_feature_demands.specs.declared.link_declarations.LinkDeclarations.TheVariants.{Required, Optional}
 use Rattle.guppy_feature_nodes.specs.GraphEdges.{EdgeForm, ToBase, ToFeature, ToDependency, ByStrongEntries, ByWeakEntries, ByLines, EdgeValue}
 use Rattle.guppy_feature_nodes.specs.Graphs.{FeatureGraphValue}
 use Rattle.guppy_feature_nodes.specs.Lines.{is_declared}

@@ -6,8 +6,8 @@ ghost use Rattle.std.specs.Option.{option_copied};
 ghost use Rattle.guppy_package_parts.specs.Lines.{line_at};
 ghost use Rattle.guppy_feature_nodes.specs.Lines.{declares, declares_at, declares_kind_at};
 
-use guppy_feature_ids::LinkDeclarations;
-use guppy_row_parts::{LineRow, LinkRow};
+use guppy_feature_demands::LinkDeclarations;
+use guppy_package_parts::{LineRow, LinkRow};
 use workspace_record::LineKind;
 
 /// Whether one of the lines is of a kind and declares what is shown.

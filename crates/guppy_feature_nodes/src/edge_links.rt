@@ -4,14 +4,14 @@ ghost use Rattle.std.specs.Prelude.{◌≡◌, ◌-◌, ◌++◌, ◌∷◌, [],
 ghost use Rattle.std.specs.List.{list_any};
 ghost use Rattle.std.specs.List.Sorted.{IsStrictlySortedBy};
 ghost use Rattle.indexmap.specs.IndexSet.{insert_key};
-ghost use Rattle.guppy_feature_edges.specs.Joining.{place_cmp};
-ghost use Rattle.guppy_feature_ids.specs.declared.link_declarations.LinkDeclarations.TheVariants.{Optional, Required, Unsplit};
+ghost use Rattle.guppy_feature_nodes.specs.Joining.{place_cmp};
+ghost use Rattle.guppy_feature_demands.specs.declared.link_declarations.LinkDeclarations.TheVariants.{Optional, Required, Unsplit};
 ghost use Rattle.guppy_feature_nodes.specs.EdgeLinkViews.{AreEdgeLinks, joined, shown_of};
 ghost use Rattle.guppy_feature_nodes.specs.Lines.{declares_at, links_shown};
 
 use crate::edge_lines::declares_at;
-use guppy_feature_ids::LinkDeclarations;
-use guppy_row_parts::LinkRow;
+use guppy_feature_demands::LinkDeclarations;
+use guppy_package_parts::LinkRow;
 use std::alloc::{AllocError, Global};
 
 /// The links of the required lines behind an edge, and of the optional ones, each once, in the order of
@@ -67,7 +67,8 @@ impl EdgeLinks {
 
     /// Those of all lines.
     fn all(&self) -> &[usize]
-        ensures { result.now ≡ joined self.now.required.items self.now.optional.items self.now.unsplit.items }
+        ensures { result.now ≡ joined self.now.required.items self.now.optional.items
+            self.now.unsplit.items }
     {
         if self.optional.is_empty() {
             return &self.required;
@@ -92,7 +93,8 @@ fn links_of_both(
     requires ascend { IsStrictlySortedBy place_cmp places.now }
     requires required { required.now ≡ links_shown links.now Required places.now }
     requires optional { optional.now ≡ links_shown links.now Optional places.now }
-    ensures { IfOk result (λ v. joined required.now optional.now v.items ≡ links_shown links.now Unsplit places.now) }
+    ensures { IfOk result (λ v. joined required.now optional.now v.items
+        ≡ links_shown links.now Unsplit places.now) }
 {
     if required.is_empty() {
         return Ok(Vec::new(alloc));
@@ -126,8 +128,11 @@ fn push_link(
     place: (usize, usize),
     numbers: &mut Vec<usize>,
 ) -> Result<(), AllocError>
-    requires { list_any (nat_eq place.0) numbers.old.items ≡ true → slice_get numbers.old.items (length numbers.old.items - 1) ≡ Some place.0 }
-    ensures { OnOk result (numbers.new.items ≡ (if declares_at links.now shown place then insert_key nat_eq numbers.old.items place.0 else numbers.old.items)) }
+    requires { list_any (nat_eq place.0) numbers.old.items ≡ true
+        → slice_get numbers.old.items (length numbers.old.items - 1) ≡ Some place.0 }
+    ensures { OnOk result (numbers.new.items
+        ≡ (if declares_at links.now shown place then insert_key nat_eq numbers.old.items place.0
+        else numbers.old.items)) }
 {
     if declares_at(links, shown, place) {
         push_new(place.0, numbers)?;
@@ -136,7 +141,8 @@ fn push_link(
 }
 
 fn push_new(number: usize, numbers: &mut Vec<usize>) -> Result<(), AllocError>
-    requires { list_any (nat_eq number) numbers.old.items ≡ true → slice_get numbers.old.items (length numbers.old.items - 1) ≡ Some number }
+    requires { list_any (nat_eq number) numbers.old.items ≡ true
+        → slice_get numbers.old.items (length numbers.old.items - 1) ≡ Some number }
     ensures { OnOk result (numbers.new.items ≡ insert_key nat_eq numbers.old.items number) }
 {
     match numbers.last() {

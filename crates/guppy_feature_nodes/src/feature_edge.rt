@@ -2,11 +2,11 @@
 
 ghost use Rattle.std.specs.Prelude.{◌≡◌};
 ghost use Rattle.std.specs.List.Sorted.{IsStrictlySortedBy};
-ghost use Rattle.guppy_feature_edges.specs.Joining.{place_cmp};
+ghost use Rattle.guppy_feature_nodes.specs.Joining.{place_cmp};
 ghost use Rattle.guppy_feature_nodes.specs.GraphEdges.{ByLines, ByStrongEntries, ByWeakEntries, is_always};
 ghost use Rattle.guppy_feature_nodes.specs.EdgeViews.{form_view, lines_view, link_lines};
 
-use guppy_row_parts::SortedSet;
+use guppy_package_parts::SortedSet;
 
 /// Why one feature leads to another.
 #[derive(Debug, Drop)]

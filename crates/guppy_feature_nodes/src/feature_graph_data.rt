@@ -1,7 +1,7 @@
 ghost use Rattle.std.specs.Prelude.{◌≡◌, ◌≢◌, ◌↔◌, ◌<◌, All, AllPairs, IfOk, IsTrue, length, map};
 ghost use Rattle.std.specs.List.{list_any};
-ghost use Rattle.guppy_row_parts.specs.WarningViews.{warning_view};
-ghost use Rattle.guppy_feature_ids.specs.IdViews.{id_view};
+ghost use Rattle.guppy_package_parts.specs.WarningViews.{warning_view};
+ghost use Rattle.guppy_feature_demands.specs.IdViews.{id_view};
 ghost use Rattle.guppy_feature_demands.specs.NameViews.{name_view};
 ghost use Rattle.guppy_feature_demands.specs.Nodes.{is_node, nodes_of, number_of};
 ghost use Rattle.guppy_feature_demands.specs.Warnings.{warnings_of};
@@ -18,14 +18,15 @@ ghost use Rattle.guppy_package_graph.specs.Views.{graph_of, place_of};
 ghost use Rattle.guppy_package_table.specs.Tables.{ids_of};
 
 use crate::edge_lines::has_line;
+use crate::joining::joined_edges;
 use crate::node_edge::{NodeEdge, node_edges};
 use crate::node_names::{LentNode, NodeName, lent_label, node_names};
 use crate::offers::offer_graph;
 use crate::orders::{Orders, orders_of};
 use crate::package_rows::package_rows;
-use guppy_feature_demands::{FeatureName, FeatureParts, NodeTable, feature_parts};
-use guppy_feature_edges::joined_edges;
-use guppy_feature_ids::{FeatureId, LinkDeclarations};
+use guppy_feature_demands::{
+    FeatureId, FeatureName, FeatureParts, LinkDeclarations, NodeTable, feature_parts,
+};
 use guppy_package_graph::{FeatureGraphWarning, PackageGraph, PackageMetadata};
 use indexmap::IndexSet;
 use numbered_graph::{Direction, Graph};
@@ -70,9 +71,12 @@ struct GraphParts<'g> {
 fn graph_parts<'g>(alloc: Global, graph: &'g PackageGraph) -> Result<GraphParts<'g>, AllocError>
     ensures apart { AllPairs (λ a b. a.id ≢ b.id) graph.entry.now.packages }
     ensures nodes { IfOk result (λ p. p.nodes ≡ nodes_of graph.entry.now.packages) }
-    ensures edges { IfOk result (λ p. AreEdges graph.entry.now.packages graph.entry.now.links (map edge_view p.edges.items)) }
-    ensures lines { IfOk result (λ p. All (λ e. AreEdgeLinks graph.entry.now.links (edge_view e).lines e.links) p.edges.items) }
-    ensures warnings { IfOk result (λ p. map warning_view p.warnings.items ≡ warnings_of graph.entry.now.packages graph.entry.now.links) }
+    ensures edges { IfOk result (λ p. AreEdges graph.entry.now.packages graph.entry.now.links
+        (map edge_view p.edges.items)) }
+    ensures lines { IfOk result (λ p. All (λ e.
+        AreEdgeLinks graph.entry.now.links (edge_view e).lines e.links) p.edges.items) }
+    ensures warnings { IfOk result (λ p. map warning_view p.warnings.items
+        ≡ warnings_of graph.entry.now.packages graph.entry.now.links) }
 {
     let packages = package_rows(alloc, graph)?;
     let FeatureParts {
@@ -162,7 +166,8 @@ impl<'g> FeatureGraphData<'g> {
 
     // The feature as it is kept, whether there is one or not.
     fn lent_node<'a>(&self, feature: FeatureName<'a>) -> LentNode<'a>
-        ensures { lent_view result ≡ node_of (ids_of self.now.rows.packages) (name_view feature.entry) }
+        ensures { lent_view result ≡ node_of (ids_of self.now.rows.packages)
+            (name_view feature.entry) }
     {
         let place = self.graph.number_of(feature.package_id);
         let label = feature.label;
@@ -182,7 +187,8 @@ impl<'g> FeatureGraphData<'g> {
     pub fn edge(&self, number: usize) -> &NodeEdge
         requires { number < length self.now.edges }
         ensures edge { edge_view result.now ≡ edge_at self.now.edges number }
-        ensures within { IsEdgeWithin (length self.now.nodes) self.now.rows.links (edge_at self.now.edges number) }
+        ensures within { IsEdgeWithin (length self.now.nodes) self.now.rows.links
+            (edge_at self.now.edges number) }
     {
         &self.edges[number]
     }
@@ -190,7 +196,8 @@ impl<'g> FeatureGraphData<'g> {
     /// Whether a line of a kind behind an edge declares what is shown of it.
     pub fn has_line(&self, number: usize, shown: LinkDeclarations, kind: LineKind) -> bool
         requires { number < length self.now.edges }
-        ensures answer { result ≡ list_any (declares_kind_at self.now.rows.links shown kind) (edge_at self.now.edges number).lines }
+        ensures answer { result ≡ list_any (declares_kind_at self.now.rows.links shown kind)
+            (edge_at self.now.edges number).lines }
     {
         let lines = self.edges[number].edge.lines();
         has_line(self.graph.link_rows(), lines, shown, kind)
@@ -199,8 +206,10 @@ impl<'g> FeatureGraphData<'g> {
     /// The links of the lines behind an edge that declare what is shown of it, each once.
     pub fn links_shown(&self, number: usize, shown: LinkDeclarations) -> &[usize]
         requires { number < length self.now.edges }
-        ensures links { result.now ≡ links_shown self.now.rows.links shown (edge_at self.now.edges number).lines }
-        ensures within { All (λ link. link < length self.now.rows.links) (links_shown self.now.rows.links shown (edge_at self.now.edges number).lines) }
+        ensures links { result.now ≡ links_shown self.now.rows.links shown
+            (edge_at self.now.edges number).lines }
+        ensures within { All (λ link. link < length self.now.rows.links)
+            (links_shown self.now.rows.links shown (edge_at self.now.edges number).lines) }
     {
         self.edges[number].links.shown(shown)
     }
@@ -222,7 +231,10 @@ impl<'g> FeatureGraphData<'g> {
 
     /// The edges as links between nodes, each with its number.
     pub fn edge_graph(&self) -> &Graph
-        ensures graph { result.now ≡ record { nodes = length self.now.nodes; links = edge_ends self.now.edges } }
+        ensures graph { result.now ≡ record {
+          nodes = length self.now.nodes;
+          links = edge_ends self.now.edges;
+        } }
     {
         &self.orders.graph
     }
@@ -231,7 +243,8 @@ impl<'g> FeatureGraphData<'g> {
     /// stand on more than dev lines, unless they lie on a cycle of such edges.
     pub fn listing(&self) -> &[usize]
         ensures value { result.now ≡ self.now.listing }
-        ensures listing { IsEdgeListing self.now.rows.links self.now.nodes self.now.edges result.now }
+        ensures listing { IsEdgeListing self.now.rows.links self.now.nodes self.now.edges
+            result.now }
     {
         &self.orders.listing
     }
@@ -269,7 +282,8 @@ impl<'g> FeatureGraphData<'g> {
     pub fn package_of(&self, node: usize) -> PackageMetadata<'g>
         requires { node < length self.now.nodes }
         ensures graph { graph_of result ≡ self.now.rows }
-        ensures package { IsAt self.now.rows (feature_at self.now node).package_id (place_of result) }
+        ensures package { IsAt self.now.rows (feature_at self.now node).package_id
+            (place_of result) }
     {
         self.graph.metadata_at(self.place_at(node))
     }
@@ -284,7 +298,8 @@ impl<'g> FeatureGraphData<'g> {
     /// What is odd about the rows.
     pub fn build_warnings(&self) -> &[FeatureGraphWarning]
         ensures value { map warning_view result.now ≡ self.now.warnings }
-        ensures warnings { self.now.warnings ≡ warnings_of self.now.rows.packages self.now.rows.links }
+        ensures warnings { self.now.warnings ≡ warnings_of self.now.rows.packages
+            self.now.rows.links }
     {
         &self.warnings
     }

@@ -2,16 +2,16 @@
 
 ghost use Rattle.std.specs.Prelude.{◌≡◌, All, IfOk, map};
 ghost use Rattle.guppy_feature_demands.specs.DemandViews as demands;
-ghost use Rattle.guppy_feature_edges.specs.JoinedViews.{joined_view};
+ghost use Rattle.guppy_feature_nodes.specs.JoinedViews.{joined_view};
 ghost use Rattle.guppy_feature_nodes.specs.EdgeViews.{edge_view, form_view, lines_view};
 ghost use Rattle.guppy_feature_nodes.specs.GraphEdges.{edge_form, edge_lines, edge_value, waits_for};
 ghost use Rattle.guppy_feature_nodes.specs.EdgeLinkViews.{AreEdgeLinks};
 
 use crate::edge_links::EdgeLinks;
 use crate::feature_edge::FeatureEdge;
-use guppy_feature_demands::{FeatureName, Form, NodeTable, NumberedDemand};
-use guppy_feature_edges::JoinedEdge;
-use guppy_row_parts::{LinkRow, SortedSet};
+use crate::joining::JoinedEdge;
+use guppy_feature_demands::{EdgeKind, FeatureName, NodeTable, NumberedDemand};
+use guppy_package_parts::{LinkRow, SortedSet};
 use std::alloc::{AllocError, Global};
 
 /// An edge from one node to another, which are told by their numbers.
@@ -29,8 +29,10 @@ pub(crate) fn node_edges<'g>(
     links: &[LinkRow],
     joined: Vec<JoinedEdge<'g>>,
 ) -> Result<Vec<NodeEdge>, AllocError>
-    ensures values { IfOk result (λ v. map edge_view v.items ≡ map (edge_value nodes.now) (map joined_view joined.entry.items)) }
-    ensures lines { IfOk result (λ v. All (λ e. AreEdgeLinks links.now (edge_view e).lines e.links) v.items) }
+    ensures values { IfOk result (λ v. map edge_view v.items
+        ≡ map (edge_value nodes.now) (map joined_view joined.entry.items)) }
+    ensures lines { IfOk result (λ v. All (λ e. AreEdgeLinks links.now (edge_view e).lines e.links)
+        v.items) }
 {
     let mut edges = Vec::with_capacity(alloc, joined.len())?;
     for edge in joined {
@@ -45,7 +47,8 @@ fn node_edge<'g>(
     links: &[LinkRow],
     joined: JoinedEdge<'g>,
 ) -> Result<NodeEdge, AllocError>
-    ensures value { IfOk result (λ e. edge_view e ≡ edge_value nodes.now (joined_view joined.entry)) }
+    ensures value { IfOk result (λ e. edge_view e
+        ≡ edge_value nodes.now (joined_view joined.entry)) }
     ensures lines { IfOk result (λ e. AreEdgeLinks links.now (edge_view e).lines e.links) }
 {
     let JoinedEdge { head, lines } = joined;
@@ -65,16 +68,17 @@ fn feature_edge<'g>(
     head: NumberedDemand<'g>,
     lines: SortedSet<(usize, usize)>,
 ) -> FeatureEdge
-    ensures form { form_view result ≡ edge_form nodes.now head.entry.from (demands.form_view head.entry.form) }
+    ensures form { form_view result ≡ edge_form nodes.now head.entry.from
+        (demands.form_view head.entry.form) }
     ensures lines { lines_view result ≡ edge_lines (demands.form_view head.entry.form) lines }
 {
     match head.form {
-        Form::FeatureToBase => FeatureEdge::FeatureToBase,
-        Form::NamedFeature => FeatureEdge::NamedFeature,
-        Form::NamedFeatureDepColon => FeatureEdge::NamedFeatureDepColon,
-        Form::StrongSlash(_) => FeatureEdge::strong(lines),
-        Form::WeakSlash(name) => FeatureEdge::weak(lines, waits_for(nodes, head.from, name)),
-        Form::DependenciesSection => FeatureEdge::by_lines(lines),
+        EdgeKind::FeatureToBase => FeatureEdge::FeatureToBase,
+        EdgeKind::NamedFeature => FeatureEdge::NamedFeature,
+        EdgeKind::NamedFeatureDepColon => FeatureEdge::NamedFeatureDepColon,
+        EdgeKind::StrongSlash(_) => FeatureEdge::strong(lines),
+        EdgeKind::WeakSlash(name) => FeatureEdge::weak(lines, waits_for(nodes, head.from, name)),
+        EdgeKind::DependenciesSection => FeatureEdge::by_lines(lines),
     }
 }
 

@@ -5,12 +5,12 @@ ghost use Rattle.std.specs.Prelude.{◌≡◌, ◌≢◌, AllPairs, Contains, If
 ghost use Rattle.workspace_record.specs.Features.{FeatureValue};
 ghost use Rattle.workspace_record.specs.LabelView as kept;
 ghost use Rattle.indexmap.specs.IndexSet.{insert_key};
-ghost use Rattle.guppy_feature_ids.specs.IdViews.{id_view};
-ghost use Rattle.guppy_feature_ids.specs.LabelViews.{label_view};
+ghost use Rattle.guppy_feature_demands.specs.IdViews.{id_view};
+ghost use Rattle.guppy_feature_demands.specs.LabelViews.{label_view};
 ghost use Rattle.guppy_package_table.specs.Tables.{ids_of};
 ghost use Rattle.guppy_feature_nodes.specs.NodeNames.{node_eq, node_of};
 
-use guppy_feature_ids::{FeatureId, FeatureLabel};
+use guppy_feature_demands::{FeatureId, FeatureLabel};
 use guppy_package_graph::PackageGraph;
 use indexmap::{Equivalent, IndexSet};
 use std::alloc::{AllocError, Global};
@@ -151,9 +151,11 @@ pub(crate) fn node_names(
     graph: &PackageGraph,
     features: &[FeatureId<'_>],
 ) -> Result<IndexSet<NodeName>, AllocError>
-    requires known { (f : FeatureValue) → Contains (map id_view features.now) f → Contains (ids_of graph.now.packages) f.package_id }
+    requires known { (f : FeatureValue) → Contains (map id_view features.now) f
+        → Contains (ids_of graph.now.packages) f.package_id }
     requires differ { AllPairs (λ x y. x ≢ y) (map id_view features.now) }
-    ensures { IfOk result (λ names. names.keys ≡ map (node_of (ids_of graph.now.packages)) (map id_view features.now)) }
+    ensures { IfOk result (λ names. names.keys
+        ≡ map (node_of (ids_of graph.now.packages)) (map id_view features.now)) }
 {
     let mut names: IndexSet<NodeName> = IndexSet::with_capacity(alloc, features.len())?;
     for feature in features {
@@ -168,7 +170,9 @@ fn insert_name(
     feature: FeatureId<'_>,
     names: &mut IndexSet<NodeName>,
 ) -> Result<(), AllocError>
-    ensures { OnOk result (names.new.keys ≡ insert_key node_eq names.old.keys (node_of (ids_of graph.now.packages) (id_view feature.entry))) }
+    ensures { OnOk result (names.new.keys
+        ≡ insert_key node_eq names.old.keys
+        (node_of (ids_of graph.now.packages) (id_view feature.entry))) }
 {
     let place = graph.number_of(feature.package_id().repr());
     let label = owned_label(alloc, feature.label())?;

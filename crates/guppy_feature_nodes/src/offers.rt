@@ -9,8 +9,8 @@ ghost use Rattle.guppy_feature_nodes.specs.Offering.{may_come, offer_edge, offer
 use crate::edge_lines::declares_at;
 use crate::feature_edge::{FeatureEdge, SlashForm};
 use crate::node_edge::NodeEdge;
-use guppy_feature_ids::LinkDeclarations;
-use guppy_row_parts::LinkRow;
+use guppy_feature_demands::LinkDeclarations;
+use guppy_package_parts::LinkRow;
 use numbered_graph::Direction;
 use numbered_offers::{Edge, EdgeSort, OfferGraph};
 use std::alloc::{AllocError, Global};
@@ -24,7 +24,10 @@ pub(crate) fn offer_graph(
     direction: Direction,
 ) -> Result<OfferGraph, AllocError>
     requires { AreEdgesWithin nodes links.now (map edge_view edges.now) }
-    ensures { IfOk result (λ g. g ≡ record { nodes = nodes; edges = offer_edges direction nodes links.now (map edge_view edges.now) }) }
+    ensures { IfOk result (λ g. g ≡ record {
+      nodes = nodes;
+      edges = offer_edges direction nodes links.now (map edge_view edges.now);
+    }) }
 {
     let offers = offer_edges(alloc, nodes, links, edges, direction)?;
     OfferGraph::new(alloc, nodes, offers)
@@ -37,7 +40,8 @@ fn offer_edges(
     edges: &[NodeEdge],
     direction: Direction,
 ) -> Result<Vec<Edge>, AllocError>
-    ensures { IfOk result (λ v. v.items ≡ offer_edges direction nodes links.now (map edge_view edges.now)) }
+    ensures { IfOk result (λ v. v.items
+        ≡ offer_edges direction nodes links.now (map edge_view edges.now)) }
 {
     let mut offers = Vec::with_capacity(alloc, edges.len())?;
     for edge in edges {
@@ -57,7 +61,8 @@ fn offer_edge(direction: Direction, nodes: usize, links: &[LinkRow], edge: &Node
 }
 
 fn sort_of(direction: Direction, nodes: usize, links: &[LinkRow], edge: &NodeEdge) -> EdgeSort
-    ensures { result ≡ sort_of direction nodes links.now (edge_view edge.now) (edge_view edge.now).form }
+    ensures { result ≡ sort_of direction nodes links.now (edge_view edge.now)
+        (edge_view edge.now).form }
 {
     match &edge.edge {
         FeatureEdge::FeatureToBase

@@ -13,9 +13,8 @@ ghost use Rattle.guppy_feature_nodes.specs.OrderViews.{AreOrders};
 use crate::edge_lines::line_at;
 use crate::feature_edge::FeatureEdge;
 use crate::node_edge::NodeEdge;
-use guppy_feature_demands::{FeatureName, NodeTable};
-use guppy_feature_ids::FeatureLabel;
-use guppy_row_parts::LinkRow;
+use guppy_feature_demands::{FeatureLabel, FeatureName, NodeTable};
+use guppy_package_parts::LinkRow;
 use numbered_graph::{Direction, Graph, Link, NodeSet, listing, reach_over};
 use std::alloc::{AllocError, Global};
 use workspace_record::LineKind;
@@ -68,7 +67,10 @@ fn graph_of(
     edges: &[NodeEdge],
 ) -> Result<Graph, AllocError>
     requires { AreEdgesWithin nodes links.now (map edge_view edges.now) }
-    ensures { IfOk result (λ g. g ≡ record { nodes = nodes; links = edge_ends (map edge_view edges.now) }) }
+    ensures { IfOk result (λ g. g ≡ record {
+      nodes = nodes;
+      links = edge_ends (map edge_view edges.now);
+    }) }
 {
     let ends = ends_of(alloc, edges)?;
     let graph = Graph::new(alloc, nodes, ends)?;
@@ -95,7 +97,9 @@ fn listing_of(
     edges: &[NodeEdge],
 ) -> Result<Vec<usize>, AllocError>
     requires { length graph.now.links ≡ length edges.now }
-    ensures { IfOk result (λ xs. IsListing graph.now.links (has (firm_edges links.now (map edge_view edges.now))) (λ v. nat_lt v graph.now.nodes) xs.items) }
+    ensures { IfOk result (λ xs. IsListing graph.now.links
+        (has (firm_edges links.now (map edge_view edges.now))) (λ v. nat_lt v graph.now.nodes)
+        xs.items) }
 {
     let firm = firm_edges(alloc, links, edges)?;
     let order = listing(alloc, graph, &firm)?;
@@ -141,7 +145,8 @@ fn defaults_of(
 ) -> Result<NodeSet, AllocError>
     requires nodes { graph.now.nodes ≡ length nodes.now }
     requires links { graph.now.links ≡ edge_ends (map edge_view edges.now) }
-    ensures { IfOk result (λ set. (v : ℕ) → IsTrue (has set v) ↔ IsDefaultAmong nodes.now (map edge_view edges.now) v) }
+    ensures { IfOk result (λ set. (v : ℕ) → IsTrue (has set v)
+        ↔ IsDefaultAmong nodes.now (map edge_view edges.now) v) }
 {
     let starts = default_starts(alloc, nodes)?;
     let naming = naming_edges(alloc, edges)?;

@@ -25,7 +25,8 @@ pub(crate) fn package_rows<'g>(
 }
 
 fn package_at<'g>(metadata: PackageMetadata<'g>) -> PackageAt<'g>
-    ensures { slice_get (graph_of metadata.entry).packages (place_of metadata.entry) ≡ Some result.row.now }
+    ensures { slice_get (graph_of metadata.entry).packages (place_of metadata.entry)
+        ≡ Some result.row.now }
 {
     PackageAt::new(metadata.id(), metadata.row())
 }

@@ -7,8 +7,8 @@ use Rattle.workspace_record.specs.Records.{Link}
 use Rattle.workspace_record.specs.declared.kinds.LineKind.{LineKind}
 use Rattle.guppy_package_parts.specs.LineChoices.{takes}
 use Rattle.guppy_package_parts.specs.Lines.{line_at, lines_at}
-use Rattle.guppy_feature_ids.specs.Kinds.{has_optional, has_required}
-use Rattle.guppy_feature_ids.specs.declared.link_declarations.LinkDeclarations.{LinkDeclarations}
+use Rattle.guppy_feature_demands.specs.Kinds.{has_optional, has_required}
+use Rattle.guppy_feature_demands.specs.declared.link_declarations.LinkDeclarations.{LinkDeclarations}
 use Rattle.guppy_feature_nodes.specs.Lines.{lines_shown}
 
 module _ {X Y : Type 0} (f : X → Option Y) (test : Y → Bool) where

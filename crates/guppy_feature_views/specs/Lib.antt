@@ -1,5 +1,12 @@
+pub mod Labels
+pub mod ListValues
+pub mod Listing
+pub mod ListViews
 pub mod Links
 pub mod Views
 pub mod PackageLinkViews
 pub mod FeatureViews
 pub mod CycleViews
+pub mod RootOrder
+pub mod RootPlaces
+pub mod Told

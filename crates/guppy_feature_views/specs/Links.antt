@@ -3,7 +3,7 @@ use Rattle.std.specs.Prelude.{ℕ, List}
 use Rattle.workspace_record.specs.Records.{Line}
 use Rattle.workspace_record.specs.declared.kinds.LineKind.{LineKind}
 use Rattle.guppy_package_parts.specs.Lines.{lines_at}
-use Rattle.guppy_feature_ids.specs.declared.link_declarations.LinkDeclarations.{LinkDeclarations}
+use Rattle.guppy_feature_demands.specs.declared.link_declarations.LinkDeclarations.{LinkDeclarations}
 use Rattle.guppy_feature_nodes.specs.GraphEdges.{EdgeValue, edge_at}
 use Rattle.guppy_feature_nodes.specs.Graphs.{FeatureGraphValue}
 use Rattle.guppy_feature_nodes.specs.Lines.{lines_shown, links_shown}

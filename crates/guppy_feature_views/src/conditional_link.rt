@@ -1,6 +1,6 @@
 ghost use Rattle.std.specs.Prelude.{◌≡◌, ◌<◌, ◌↔◌, [], IsTrue, length};
 ghost use Rattle.workspace_record.specs.declared.kinds.LineKind.TheVariants.{Normal, Build, Dev};
-ghost use Rattle.guppy_row_parts.specs.DependencyKinds.{line_kind_of};
+ghost use Rattle.guppy_package_parts.specs.DependencyKinds.{line_kind_of};
 ghost use Rattle.guppy_package_parts.specs.Statuses.{IsStatusOf, specs_of};
 ghost use Rattle.guppy_package_parts.specs.StatusViews.{status_view};
 
@@ -34,7 +34,11 @@ impl<'g> ConditionalLink<'g> {
         declarations: LinkDeclarations,
     ) -> ConditionalLink<'g>
         requires { number < length built.now.edges }
-        ensures link { link_view result ≡ record { graph = built.entry.now; number = number; declarations = declarations } }
+        ensures link { link_view result ≡ record {
+          graph = built.entry.now;
+          number = number;
+          declarations = declarations;
+        } }
     {
         ConditionalLink {
             built,
@@ -63,43 +67,50 @@ impl<'g> ConditionalLink<'g> {
 
     /// Both features: the one that leads on, and the other.
     pub fn endpoints(&self) -> (FeatureMetadata<'g>, FeatureMetadata<'g>)
-        ensures graphs { (metadata_graph_of result.0 ≡ (link_view self.now).graph) × (metadata_graph_of result.1 ≡ (link_view self.now).graph) }
-        ensures nodes { (node_of result.0 ≡ (edge_of (link_view self.now)).from) × (node_of result.1 ≡ (edge_of (link_view self.now)).to) }
+        ensures graphs { (metadata_graph_of result.0 ≡ (link_view self.now).graph)
+            × (metadata_graph_of result.1 ≡ (link_view self.now).graph) }
+        ensures nodes { (node_of result.0 ≡ (edge_of (link_view self.now)).from)
+            × (node_of result.1 ≡ (edge_of (link_view self.now)).to) }
     {
         (self.from(), self.to())
     }
 
     /// Where it is on by normal lines.
     pub fn normal(&self) -> PlatformStatus<'g>
-        ensures status { IsStatusOf (specs_of (lines_behind (link_view self.now) Normal)) (status_view result) }
+        ensures status { IsStatusOf (specs_of (lines_behind (link_view self.now) Normal))
+            (status_view result) }
     {
         self.status_of(LineKind::Normal)
     }
 
     /// Where it is on by build lines.
     pub fn build(&self) -> PlatformStatus<'g>
-        ensures status { IsStatusOf (specs_of (lines_behind (link_view self.now) Build)) (status_view result) }
+        ensures status { IsStatusOf (specs_of (lines_behind (link_view self.now) Build))
+            (status_view result) }
     {
         self.status_of(LineKind::Build)
     }
 
     /// Where it is on by dev lines.
     pub fn dev(&self) -> PlatformStatus<'g>
-        ensures status { IsStatusOf (specs_of (lines_behind (link_view self.now) Dev)) (status_view result) }
+        ensures status { IsStatusOf (specs_of (lines_behind (link_view self.now) Dev))
+            (status_view result) }
     {
         self.status_of(LineKind::Dev)
     }
 
     /// Where it is on by lines of a kind.
     pub fn status_for_kind(&self, kind: DependencyKind) -> PlatformStatus<'g>
-        ensures status { IsStatusOf (specs_of (lines_behind (link_view self.now) (line_kind_of kind))) (status_view result) }
+        ensures status { IsStatusOf (specs_of (lines_behind (link_view self.now)
+            (line_kind_of kind))) (status_view result) }
     {
         self.status_of(kind.line_kind())
     }
 
     #[tactic(auto, using(crate::proofs::LineFacts::lines_chosen))]
     fn status_of(&self, kind: LineKind) -> PlatformStatus<'g>
-        ensures { IsStatusOf (specs_of (lines_behind (link_view self.now) kind)) (status_view result) }
+        ensures { IsStatusOf (specs_of (lines_behind (link_view self.now) kind))
+            (status_view result) }
     {
         let built = self.built;
         let choice = LineChoice {
@@ -113,7 +124,8 @@ impl<'g> ConditionalLink<'g> {
 
     /// Whether it stands on no normal and no build line.
     pub fn dev_only(&self) -> bool
-        ensures answer { IsTrue result ↔ ((line_places (link_view self.now) Normal ≡ []) × (line_places (link_view self.now) Build ≡ [])) }
+        ensures answer { IsTrue result ↔ ((line_places (link_view self.now) Normal ≡ [])
+            × (line_places (link_view self.now) Build ≡ [])) }
     {
         self.has_none(LineKind::Normal) && self.has_none(LineKind::Build)
     }

@@ -32,7 +32,7 @@ impl<'g> Iterator for FeatureIds<'g, '_> {
     type Item = FeatureId<'g>;
 
     ghost use Rattle.std.specs.Iterator.{YieldsFirstBy, item_count};
-    ghost use Rattle.guppy_feature_ids.specs.IdViews.{id_view};
+    ghost use Rattle.guppy_feature_demands.specs.IdViews.{id_view};
     ghost use Rattle.guppy_feature_views.specs.FeatureViews.{all_ids_left};
 
     ghost next_gives = { YieldsFirstBy id_view all_ids_left };
@@ -51,7 +51,7 @@ impl<'g> Iterator for FeatureIds<'g, '_> {
 
 impl<'g> DoubleEndedIterator for FeatureIds<'g, '_> {
     ghost use Rattle.std.specs.Iterator.{YieldsLastBy};
-    ghost use Rattle.guppy_feature_ids.specs.IdViews.{id_view};
+    ghost use Rattle.guppy_feature_demands.specs.IdViews.{id_view};
     ghost use Rattle.guppy_feature_views.specs.FeatureViews.{all_ids_left};
 
     ghost next_back_gives = { YieldsLastBy id_view all_ids_left };

@@ -30,7 +30,7 @@ impl<'g> Iterator for FeatureIdsAt<'g, '_> {
     type Item = FeatureId<'g>;
 
     ghost use Rattle.std.specs.Iterator.{YieldsFirstBy, item_count};
-    ghost use Rattle.guppy_feature_ids.specs.IdViews.{id_view};
+    ghost use Rattle.guppy_feature_demands.specs.IdViews.{id_view};
     ghost use Rattle.guppy_feature_views.specs.CycleViews.{all_nodes_left};
 
     ghost next_gives = { YieldsFirstBy id_view all_nodes_left };
@@ -50,7 +50,7 @@ impl<'g> Iterator for FeatureIdsAt<'g, '_> {
 
 impl<'g> DoubleEndedIterator for FeatureIdsAt<'g, '_> {
     ghost use Rattle.std.specs.Iterator.{YieldsLastBy};
-    ghost use Rattle.guppy_feature_ids.specs.IdViews.{id_view};
+    ghost use Rattle.guppy_feature_demands.specs.IdViews.{id_view};
     ghost use Rattle.guppy_feature_views.specs.CycleViews.{all_nodes_left};
 
     ghost next_back_gives = { YieldsLastBy id_view all_nodes_left };

@@ -1,6 +1,6 @@
 ghost use Rattle.std.specs.Prelude.{◌≡◌, ◌<◌, length};
-ghost use Rattle.guppy_feature_ids.specs.IdViews.{id_view};
-ghost use Rattle.guppy_feature_ids.specs.LabelViews.{label_view};
+ghost use Rattle.guppy_feature_demands.specs.IdViews.{id_view};
+ghost use Rattle.guppy_feature_demands.specs.LabelViews.{label_view};
 ghost use Rattle.guppy_package_graph.specs.Finding.{IsAt};
 ghost use Rattle.guppy_package_graph.specs.Views.{graph_of, place_of};
 ghost use Rattle.guppy_feature_nodes.specs.Graphs.{feature_at};
@@ -46,7 +46,8 @@ impl<'g> FeatureMetadata<'g> {
 
     /// The id of the feature's package.
     pub fn package_id(&self) -> &'g PackageId
-        ensures id { result.now ≡ (feature_at (metadata_graph_of self.now) (node_of self.now)).package_id }
+        ensures id { result.now ≡ (feature_at (metadata_graph_of self.now)
+            (node_of self.now)).package_id }
     {
         self.feature_id().package_id()
     }
@@ -54,14 +55,17 @@ impl<'g> FeatureMetadata<'g> {
     /// The feature's package.
     pub fn package(&self) -> PackageMetadata<'g>
         ensures graph { graph_of result ≡ (metadata_graph_of self.now).rows }
-        ensures package { IsAt (metadata_graph_of self.now).rows (feature_at (metadata_graph_of self.now) (node_of self.now)).package_id (place_of result) }
+        ensures package { IsAt (metadata_graph_of self.now).rows
+            (feature_at (metadata_graph_of self.now) (node_of self.now)).package_id
+            (place_of result) }
     {
         self.built.package_of(self.node)
     }
 
     /// The feature's label.
     pub fn label(&self) -> FeatureLabel<'g>
-        ensures label { label_view result ≡ (feature_at (metadata_graph_of self.now) (node_of self.now)).label }
+        ensures label { label_view result ≡ (feature_at (metadata_graph_of self.now)
+            (node_of self.now)).label }
     {
         self.feature_id().label()
     }

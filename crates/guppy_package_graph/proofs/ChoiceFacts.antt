@@ -6,7 +6,7 @@ use Rattle.std.proofs.lemmas.List.Elements.{All-head, All-tail, Contains-append_
 use Rattle.list_facts.proofs.Membership.{Contains-none}
 use Rattle.numbered_graph.specs.ListedViews.{in_direction}
 use Rattle.numbered_graph.specs.Sets.{has}
-use Rattle.guppy_row_parts.specs.declared.dependency_direction.DependencyDirection.{DependencyDirection}
+use Rattle.guppy_package_parts.specs.declared.dependency_direction.DependencyDirection.{DependencyDirection}
 use Rattle.guppy_package_graph.specs.Directions.{direction_of}
 use Rattle.guppy_package_graph.specs.Filters.{AsksPackage}
 use Rattle.guppy_package_graph.specs.SetValues.{SetValue, listed}

@@ -1,26 +1,13 @@
--- Reach from one place, and links between two.
-use Rattle.std.proofs.Common.{◌≡◌, ◌∙◌, ◌↔◌, ◌<◌, ℕ, zero, suc, Bool, true, false, not, List, [], ◌∷◌, Option, Some, None, IfSome, IfNone, IsTrue, Contains, length, ap, subst, sym, refl, arith, true≢false}
+-- Links between two places, and what a cache remembers.
+use Rattle.std.proofs.Common.{◌≡◌, ◌∙◌, ◌↔◌, ◌<◌, ℕ, Bool, true, false, not, Option, Some, None, IfSome, IfNone, IsTrue, length, ap, subst, sym, refl, true≢false}
 use Rattle.std.proofs.Math.Dec.{eqb}
 use Rattle.std.proofs.lemmas.Bool.{eqb-true}
 use Rattle.std.specs.Option.{is_some, option_eq}
-use Rattle.numbered_graph.specs.declared.direction.Direction.TheVariants.{Forward}
-use Rattle.numbered_graph.specs.declared.link.Link.{Link}
-use Rattle.numbered_graph.specs.Paths.{IsReached, Reaches, any_link}
+use Rattle.numbered_graph.specs.Paths.{Reaches, any_link}
 use Rattle.numbered_graph.specs.Sets.{has}
 use Rattle.guppy_package_table.specs.Tables.{IsClear, IsFirstBetween, TableValue, numbered_links}
 use Rattle.guppy_package_graph.specs.Depending.{HasLink}
 use Rattle.guppy_package_graph.specs.declared.depends_cache.DependsCache.TheInside.{Inside}
-
--- what is reached from one place alone
-pub reached_from_one : (links : List Link) (from to : ℕ) → IsReached Forward links any_link (from ∷ []) to ↔ Reaches links any_link from to
-reached_from_one links from to = (
-  λ h. of_one h.start h.among h.leads,
-  λ leads. record { start = from; among = (0, omega arith, refl); leads = leads },
-)
-  where
-    of_one : (start : ℕ) → Contains (from ∷ []) start → Reaches links any_link start to → Reaches links any_link from to
-    of_one start (zero, lt, is) leads = subst (λ v. Reaches links any_link v to) (sym is) leads
-    of_one start (suc k, lt, is) leads = absurd (omega (arith, lt))
 
 -- what a look for the first link between two places answers
 pub record SaysBetween (g : TableValue) (from to : ℕ) (found : Option ℕ) : Type 0 where

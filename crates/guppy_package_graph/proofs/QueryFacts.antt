@@ -1,6 +1,6 @@
 -- Queries from the places that pass one test or another.
 use Rattle.std.proofs.Common.{◌↔◌, ℕ}
-use Rattle.guppy_row_parts.specs.declared.dependency_direction.DependencyDirection.{DependencyDirection}
+use Rattle.guppy_package_parts.specs.declared.dependency_direction.DependencyDirection.{DependencyDirection}
 use Rattle.guppy_package_table.specs.Tables.{TableValue}
 use Rattle.guppy_package_graph.specs.Queries.{IsQueryOf, QueryValue}
 

@@ -7,8 +7,8 @@ use Rattle.numbered_graph.specs.declared.link.Link.{Link}
 use Rattle.numbered_graph.specs.Cycles.{AreCycles, AreInListingOrder}
 use Rattle.numbered_graph.specs.Links.{link_at}
 use Rattle.numbered_graph.specs.Paths.{Reaches, any_link}
-use Rattle.guppy_row_parts.specs.declared.error.Error.{Error}
-use Rattle.guppy_row_parts.specs.declared.error.Error.TheVariants.{UnknownPackageId}
+use Rattle.guppy_package_parts.specs.declared.error.Error.{Error}
+use Rattle.guppy_package_parts.specs.declared.error.Error.TheVariants.{UnknownPackageId}
 use Rattle.workspace_record.specs.Records.{Text}
 use Rattle.guppy_package_table.specs.Tables.{TableValue, numbered_links}
 use Rattle.guppy_package_graph.specs.Finding.{IsAt, IsUnknown}

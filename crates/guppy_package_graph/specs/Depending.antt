@@ -1,8 +1,8 @@
 -- Whether one package depends on another.
 use Rattle.std.specs.Prelude.{◌≡◌, ◌↔◌, ◌⊎◌, ℕ, ◌<◌, Bool, Result, Ok, Err, IsTrue, length}
 use Rattle.numbered_graph.specs.Paths.{Reaches, any_link}
-use Rattle.guppy_row_parts.specs.declared.error.Error.{Error}
-use Rattle.guppy_row_parts.specs.declared.error.Error.TheVariants.{Memory, UnknownPackageId}
+use Rattle.guppy_package_parts.specs.declared.error.Error.{Error}
+use Rattle.guppy_package_parts.specs.declared.error.Error.TheVariants.{Memory, UnknownPackageId}
 use Rattle.workspace_record.specs.Records.{Text}
 use Rattle.guppy_package_table.specs.Tables.{IsBetween, TableValue, numbered_links}
 use Rattle.guppy_package_graph.specs.Finding.{IsAt, IsUnknown}

@@ -2,7 +2,7 @@
 use Rattle.std.specs.Prelude.{◌≡◌, ℕ, List, map}
 use Rattle.std.specs.Fn.{Mut, Called}
 use Rattle.numbered_graph.specs.ListedViews.{in_direction}
-use Rattle.guppy_row_parts.specs.declared.dependency_direction.DependencyDirection.{DependencyDirection}
+use Rattle.guppy_package_parts.specs.declared.dependency_direction.DependencyDirection.{DependencyDirection}
 use Rattle.guppy_package_table.specs.Tables.{TableValue}
 use Rattle.guppy_package_graph.specs.Directions.{direction_of}
 use Rattle.guppy_package_graph.specs.SetValues.{SetValue, listed}

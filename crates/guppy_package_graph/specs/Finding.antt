@@ -3,10 +3,10 @@ use Rattle.std.specs.Prelude.{◌≡◌, ◌⊎◌, ℕ, ◌<◌, Bool, List, Al
 use Rattle.numbered_graph.specs.Sets.{has}
 use Rattle.std.specs.Str.{bytes_eq}
 use Rattle.workspace_record.specs.Records.{Text}
-use Rattle.guppy_row_parts.specs.declared.error.Error.{Error}
-use Rattle.guppy_row_parts.specs.declared.error.Error.TheVariants.{Memory, UnknownPackageId}
+use Rattle.guppy_package_parts.specs.declared.error.Error.{Error}
+use Rattle.guppy_package_parts.specs.declared.error.Error.TheVariants.{Memory, UnknownPackageId}
 use Rattle.guppy_package_table.specs.Tables.{TableValue, ids_of}
-use Rattle.guppy_workspace_members.specs.Members.{name_at}
+use Rattle.guppy_package_table.specs.Members.{name_at}
 use Rattle.guppy_package_graph.specs.Views.{graph_of, place_of}
 use Rattle.guppy_package_graph.specs.declared.package_metadata.PackageMetadata.{PackageMetadata}
 

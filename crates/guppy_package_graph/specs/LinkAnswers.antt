@@ -1,9 +1,9 @@
 -- The first link between two packages.
 use Rattle.std.specs.Prelude.{◌≡◌, ℕ, Option, Some, None, Result, Ok, Err, length}
-use Rattle.guppy_row_parts.specs.declared.dependency_direction.DependencyDirection.{DependencyDirection}
-use Rattle.guppy_row_parts.specs.declared.dependency_direction.DependencyDirection.TheVariants.{Forward, Reverse}
-use Rattle.guppy_row_parts.specs.declared.error.Error.{Error}
-use Rattle.guppy_row_parts.specs.declared.error.Error.TheVariants.{UnknownPackageId}
+use Rattle.guppy_package_parts.specs.declared.dependency_direction.DependencyDirection.{DependencyDirection}
+use Rattle.guppy_package_parts.specs.declared.dependency_direction.DependencyDirection.TheVariants.{Forward, Reverse}
+use Rattle.guppy_package_parts.specs.declared.error.Error.{Error}
+use Rattle.guppy_package_parts.specs.declared.error.Error.TheVariants.{UnknownPackageId}
 use Rattle.workspace_record.specs.Records.{Text}
 use Rattle.guppy_package_table.specs.Tables.{IsClear, IsFirstBetween, TableValue, numbered_links}
 use Rattle.guppy_package_graph.specs.Finding.{IsAt, IsUnknown}

@@ -3,7 +3,7 @@ use Rattle.std.specs.Prelude.{ℕ, List, map}
 use Rattle.std.specs.Borrow.{Bor}
 use Rattle.workspace_record.specs.Records.{Text}
 use Rattle.guppy_package_table.specs.Tables.{TableValue}
-use Rattle.guppy_workspace_members.specs.Members.{name_at, path_at}
+use Rattle.guppy_package_table.specs.Members.{name_at, path_at}
 use Rattle.guppy_package_graph.specs.PlaceViews.{graph_of_places, left_of_places}
 use Rattle.guppy_package_graph.specs.Views.{graph_of, place_of}
 use Rattle.guppy_package_graph.specs.declared.package_metadata.PackageMetadata.{PackageMetadata}

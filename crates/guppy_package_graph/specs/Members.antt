@@ -1,10 +1,10 @@
 -- Members found by path and by name.
 use Rattle.std.specs.Prelude.{◌≡◌, ◌⊎◌, ℕ, ◌<◌, List, All, Any, Option, Result, Ok, Err, Some, None, length}
 use Rattle.workspace_record.specs.Records.{Text}
-use Rattle.guppy_row_parts.specs.declared.error.Error.{Error}
-use Rattle.guppy_row_parts.specs.declared.error.Error.TheVariants.{Memory, UnknownWorkspaceName, UnknownWorkspacePath}
+use Rattle.guppy_package_parts.specs.declared.error.Error.{Error}
+use Rattle.guppy_package_parts.specs.declared.error.Error.TheVariants.{Memory, UnknownWorkspaceName, UnknownWorkspacePath}
 use Rattle.guppy_package_table.specs.Tables.{TableValue}
-use Rattle.guppy_workspace_members.specs.Members.{member_at_path, member_called}
+use Rattle.guppy_package_table.specs.Members.{member_at_path, member_called}
 use Rattle.guppy_package_graph.specs.Views.{graph_of, place_of}
 use Rattle.guppy_package_graph.specs.declared.package_metadata.PackageMetadata.{PackageMetadata}
 

@@ -1,7 +1,7 @@
 -- Queries: where a walk begins, and which way it goes.
 use Rattle.std.specs.Prelude.{◌≡◌, ◌↔◌, ℕ, ◌<◌, List, AllPairs, Contains, length}
 use Rattle.numbered_graph.specs.Graphs.{GraphValue}
-use Rattle.guppy_row_parts.specs.declared.dependency_direction.DependencyDirection.{DependencyDirection}
+use Rattle.guppy_package_parts.specs.declared.dependency_direction.DependencyDirection.{DependencyDirection}
 use Rattle.guppy_package_table.specs.Tables.{TableValue, numbered_links}
 
 -- what is seen of a query: the places of its initials ascend

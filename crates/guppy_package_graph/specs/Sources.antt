@@ -1,7 +1,7 @@
 -- Where packages come from.
 use Rattle.std.specs.Prelude.{◌≡◌, ℕ, Some, slice_get}
 use Rattle.workspace_record.specs.Records.{Package}
-use Rattle.guppy_row_parts.specs.Sources.{Source, source_of}
+use Rattle.guppy_package_parts.specs.Sources.{Source, source_of}
 use Rattle.guppy_package_table.specs.Tables.{TableValue, member_path_at}
 
 -- the package at the place comes from there: a member from the workspace, another from what its row says

@@ -1,6 +1,6 @@
 use Rattle.std.specs.Prelude.{ℕ, List, map}
 use Rattle.numbered_graph.specs.Links.{near_at}
-use Rattle.guppy_row_parts.specs.declared.dependency_direction.DependencyDirection.{DependencyDirection}
+use Rattle.guppy_package_parts.specs.declared.dependency_direction.DependencyDirection.{DependencyDirection}
 use Rattle.guppy_package_table.specs.Tables.{TableValue, numbered_links}
 use Rattle.guppy_package_graph.specs.Directions.{direction_of}
 use Rattle.guppy_package_graph.specs.PlaceViews.{graph_of_places, left_of_places}

@@ -20,10 +20,13 @@ pub(crate) fn choose<'g, F: FnMut(PackageMetadata<'g>) -> bool>(
     callback: &mut F,
 ) -> Result<(NodeSet, NodeSet), AllocError>
     requires { F.IsAlwaysCallable callback.old }
-    ensures ok { IfOk result (λ parts. (asked : List (ℕ × Bool)) × AreAsked F.FnMut set.now direction callback.old asked callback.new
+    ensures ok { IfOk result
+        (λ parts. (asked : List (ℕ × Bool))
+        × AreAsked F.FnMut set.now direction callback.old asked callback.new
         × ((v : ℕ) → IsTrue (has parts.0 v) ↔ Contains asked (v, true))
         × ((v : ℕ) → IsTrue (has parts.1 v) ↔ Contains asked (v, false))) }
-    ensures sized { IfOk result (λ parts. (length parts.0 ≡ length set.now.graph.packages) × (length parts.1 ≡ length set.now.graph.packages)) }
+    ensures sized { IfOk result (λ parts. (length parts.0 ≡ length set.now.graph.packages)
+        × (length parts.1 ≡ length set.now.graph.packages)) }
     ensures err { OnErr result (callback.new ≡ callback.old) }
 {
     let graph = set.graph();
@@ -46,7 +49,9 @@ pub(crate) fn choose_accepted<'g, F: FnMut(PackageMetadata<'g>) -> bool>(
     callback: &mut F,
 ) -> Result<NodeSet, AllocError>
     requires { F.IsAlwaysCallable callback.old }
-    ensures ok { IfOk result (λ kept. (asked : List (ℕ × Bool)) × AreAsked F.FnMut set.now direction callback.old asked callback.new
+    ensures ok { IfOk result
+        (λ kept. (asked : List (ℕ × Bool))
+        × AreAsked F.FnMut set.now direction callback.old asked callback.new
         × ((v : ℕ) → IsTrue (has kept v) ↔ Contains asked (v, true))) }
     ensures sized { IfOk result (λ kept. length kept ≡ length set.now.graph.packages) }
     ensures err { OnErr result (callback.new ≡ callback.old) }
@@ -70,10 +75,13 @@ pub(crate) fn choose_some<'g, F: FnMut(PackageMetadata<'g>) -> Option<bool>>(
     callback: &mut F,
 ) -> Result<(NodeSet, NodeSet), AllocError>
     requires { F.IsAlwaysCallable callback.old }
-    ensures ok { IfOk result (λ parts. (asked : List (ℕ × Option Bool)) × AreAsked F.FnMut set.now direction callback.old asked callback.new
+    ensures ok { IfOk result
+        (λ parts. (asked : List (ℕ × Option Bool))
+        × AreAsked F.FnMut set.now direction callback.old asked callback.new
         × ((v : ℕ) → IsTrue (has parts.0 v) ↔ Contains asked (v, Some true))
         × ((v : ℕ) → IsTrue (has parts.1 v) ↔ Contains asked (v, Some false))) }
-    ensures sized { IfOk result (λ parts. (length parts.0 ≡ length set.now.graph.packages) × (length parts.1 ≡ length set.now.graph.packages)) }
+    ensures sized { IfOk result (λ parts. (length parts.0 ≡ length set.now.graph.packages)
+        × (length parts.1 ≡ length set.now.graph.packages)) }
     ensures err { OnErr result (callback.new ≡ callback.old) }
 {
     let graph = set.graph();
@@ -110,7 +118,8 @@ fn says(answer: Option<bool>, wanted: bool) -> bool
 fn put_if(set: &mut NodeSet, place: usize, wanted: bool)
     requires { place < length set.old }
     ensures sized { length set.new ≡ length set.old }
-    ensures members { (v : ℕ) → IsTrue (has set.new v) ↔ (IsTrue (has set.old v) ⊎ (IsTrue wanted × (v ≡ place))) }
+    ensures members { (v : ℕ) → IsTrue (has set.new v)
+        ↔ (IsTrue (has set.old v) ⊎ (IsTrue wanted × (v ≡ place))) }
 {
     if wanted {
         set.insert(place);

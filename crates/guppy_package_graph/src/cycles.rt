@@ -85,14 +85,16 @@ impl fmt::Debug for Cycles<'_> {
 
 fn is_cyclic(numbers: &[usize], cycles: usize, a: usize, b: usize) -> bool
     requires { (a < length numbers.now) × (b < length numbers.now) }
-    ensures { IsTrue result ↔ ((slice_index_or numbers.now a 0 < cycles) × (slice_index_or numbers.now a 0 ≡ slice_index_or numbers.now b 0)) }
+    ensures { IsTrue result ↔ ((slice_index_or numbers.now a 0 < cycles)
+        × (slice_index_or numbers.now a 0 ≡ slice_index_or numbers.now b 0)) }
 {
     numbers[a] < cycles && numbers[a] == numbers[b]
 }
 
 // For each place the number of the first cycle that it is in, or how many cycles there are.
 fn numbers_of(alloc: Global, nodes: usize, cycles: &[Vec<usize>]) -> Result<Vec<usize>, AllocError>
-    ensures { IfOk result (λ numbers. AreNumbers nodes (map (λ c. c.items) cycles.now) 0 numbers.items) }
+    ensures { IfOk result (λ numbers.
+        AreNumbers nodes (map (λ c. c.items) cycles.now) 0 numbers.items) }
 {
     let mut numbers = vec![in alloc; cycles.len(); nodes]?;
     let mut number = cycles.len();
@@ -105,7 +107,9 @@ fn numbers_of(alloc: Global, nodes: usize, cycles: &[Vec<usize>]) -> Result<Vec<
 
 fn number_cycle(numbers: &mut Vec<usize>, cycle: &[usize], number: usize)
     ensures sized { length numbers.new.items ≡ length numbers.old.items }
-    ensures each { (v : ℕ) → v < length numbers.old.items → slice_index_or numbers.new.items v 0 ≡ (if has_node v cycle.now then number else slice_index_or numbers.old.items v 0) }
+    ensures each { (v : ℕ) → v < length numbers.old.items
+        → slice_index_or numbers.new.items v 0
+        ≡ (if has_node v cycle.now then number else slice_index_or numbers.old.items v 0) }
 {
     for node in cycle {
         if *node < numbers.len() {

@@ -7,11 +7,12 @@ ghost use Rattle.guppy_package_graph.specs.Depending.{AnswersDepending, AnswersD
 
 use crate::package_graph::PackageGraph;
 use guppy_package_parts::{Error, PackageId};
-use numbered_graph::{Direction, reach};
+use numbered_graph::leads_to;
 use std::alloc::Global;
 
 impl PackageGraph {
-    /// Whether a path of links, maybe an empty one, leads from the first package to the second.
+    /// Whether a path of links, maybe an empty one, leads from the first package to the second. The walk
+    /// ends once the second is reached.
     pub fn depends_on(
         &self,
         alloc: Global,
@@ -22,8 +23,8 @@ impl PackageGraph {
     {
         match self.places_of_both(package_a, package_b) {
             Ok((from, to)) => {
-                let reached = reach(alloc, self.table().graph(), &[from], Direction::Forward)?;
-                Ok(reached.contains(to))
+                let leads = leads_to(alloc, self.table().graph(), from, to)?;
+                Ok(leads)
             }
             Err(error) => Err(error),
         }

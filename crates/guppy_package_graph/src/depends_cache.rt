@@ -92,7 +92,8 @@ pub(crate) fn places_from(
     from: usize,
 ) -> Result<NodeSet, AllocError>
     requires { from < length graph.now.packages }
-    ensures { IfOk result (λ set. (v : ℕ) → IsTrue (has set v) ↔ Reaches (numbered_links graph.now) any_link from v) }
+    ensures { IfOk result (λ set. (v : ℕ) → IsTrue (has set v)
+        ↔ Reaches (numbered_links graph.now) any_link from v) }
 {
     reach(alloc, graph.table().graph(), &[from], Direction::Forward)
 }

@@ -26,7 +26,8 @@ impl<'g> DirectLinks<'g> {
     pub(crate) fn of(graph: &'g PackageGraph, place: usize, direction: Direction) -> DirectLinks<'g>
         requires { place < length graph.now.packages }
         ensures graph { direct_graph_of result ≡ graph.entry.now }
-        ensures links { links_left result ≡ links_of_place (numbered_links graph.entry.now) direction place }
+        ensures links { links_left result ≡ links_of_place (numbered_links graph.entry.now)
+            direction place }
     {
         let next = graph.table().graph().first_link(direction, place);
         DirectLinks {

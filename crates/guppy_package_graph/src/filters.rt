@@ -23,7 +23,9 @@ impl<'g> PackageSet<'g> {
     where
         F: Drop,
         requires { F.IsAlwaysCallable callback }
-        ensures kept { IfOk result (λ s. (asked : List (ℕ × Bool)) × (last : F) × AreAsked F.FnMut self.now direction callback asked last
+        ensures kept { IfOk result
+            (λ s. (asked : List (ℕ × Bool)) × (last : F)
+            × AreAsked F.FnMut self.now direction callback asked last
             × IsSetOf self.now.graph (λ v. Contains asked (v, true)) s) }
     {
         self.filter_lent(alloc, direction, &mut callback)
@@ -37,7 +39,9 @@ impl<'g> PackageSet<'g> {
         callback: &mut F,
     ) -> Result<PackageSet<'g>, AllocError>
         requires { F.IsAlwaysCallable callback.old }
-        ensures kept { IfOk result (λ s. (asked : List (ℕ × Bool)) × AreAsked F.FnMut self.now direction callback.old asked callback.new
+        ensures kept { IfOk result
+            (λ s. (asked : List (ℕ × Bool))
+            × AreAsked F.FnMut self.now direction callback.old asked callback.new
             × IsSetOf self.now.graph (λ v. Contains asked (v, true)) s) }
         ensures err { OnErr result (callback.new ≡ callback.old) }
     {
@@ -56,7 +60,9 @@ impl<'g> PackageSet<'g> {
     where
         F: Drop,
         requires { F.IsAlwaysCallable callback }
-        ensures parts { IfOk result (λ parts. (asked : List (ℕ × Bool)) × (last : F) × AreAsked F.FnMut self.now direction callback asked last
+        ensures parts { IfOk result
+            (λ parts. (asked : List (ℕ × Bool)) × (last : F)
+            × AreAsked F.FnMut self.now direction callback asked last
             × IsSetOf self.now.graph (λ v. Contains asked (v, true)) parts.0
             × IsSetOf self.now.graph (λ v. Contains asked (v, false)) parts.1) }
     {
@@ -71,7 +77,9 @@ impl<'g> PackageSet<'g> {
         callback: &mut F,
     ) -> Result<(PackageSet<'g>, PackageSet<'g>), AllocError>
         requires { F.IsAlwaysCallable callback.old }
-        ensures parts { IfOk result (λ parts. (asked : List (ℕ × Bool)) × AreAsked F.FnMut self.now direction callback.old asked callback.new
+        ensures parts { IfOk result
+            (λ parts. (asked : List (ℕ × Bool))
+            × AreAsked F.FnMut self.now direction callback.old asked callback.new
             × IsSetOf self.now.graph (λ v. Contains asked (v, true)) parts.0
             × IsSetOf self.now.graph (λ v. Contains asked (v, false)) parts.1) }
         ensures err { OnErr result (callback.new ≡ callback.old) }
@@ -95,7 +103,9 @@ impl<'g> PackageSet<'g> {
     where
         F: Drop,
         requires { F.IsAlwaysCallable callback }
-        ensures parts { IfOk result (λ parts. (asked : List (ℕ × Option Bool)) × (last : F) × AreAsked F.FnMut self.now direction callback asked last
+        ensures parts { IfOk result
+            (λ parts. (asked : List (ℕ × Option Bool)) × (last : F)
+            × AreAsked F.FnMut self.now direction callback asked last
             × IsSetOf self.now.graph (λ v. Contains asked (v, Some true)) parts.0
             × IsSetOf self.now.graph (λ v. Contains asked (v, Some false)) parts.1) }
     {
@@ -110,7 +120,9 @@ impl<'g> PackageSet<'g> {
         callback: &mut F,
     ) -> Result<(PackageSet<'g>, PackageSet<'g>), AllocError>
         requires { F.IsAlwaysCallable callback.old }
-        ensures parts { IfOk result (λ parts. (asked : List (ℕ × Option Bool)) × AreAsked F.FnMut self.now direction callback.old asked callback.new
+        ensures parts { IfOk result
+            (λ parts. (asked : List (ℕ × Option Bool))
+            × AreAsked F.FnMut self.now direction callback.old asked callback.new
             × IsSetOf self.now.graph (λ v. Contains asked (v, Some true)) parts.0
             × IsSetOf self.now.graph (λ v. Contains asked (v, Some false)) parts.1) }
         ensures err { OnErr result (callback.new ≡ callback.old) }

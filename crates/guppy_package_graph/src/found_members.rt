@@ -2,12 +2,12 @@
 
 ghost use Rattle.std.specs.Prelude.{◌≡◌, ◌↔◌, ℕ, ◌<◌, All, IfErr, IfOk, IsTrue, Some, length, map};
 ghost use Rattle.numbered_graph.specs.Sets.{has};
-ghost use Rattle.guppy_workspace_members.specs.Members.{member_at_path, member_called};
+ghost use Rattle.guppy_package_table.specs.Members.{member_at_path, member_called};
 ghost use Rattle.guppy_package_graph.specs.Members.{AreNamesKnown, ArePathsKnown, FindsNamePlace, FindsPathPlace, IsAtOneOf, IsCalledOneOf, IsMissingName, IsMissingPath};
 
 use crate::package_graph::PackageGraph;
 use guppy_package_parts::Error;
-use guppy_workspace_members::{find_by_name, find_by_path};
+use guppy_package_table::{find_by_name, find_by_path};
 use numbered_graph::NodeSet;
 use std::alloc::Global;
 
@@ -37,7 +37,8 @@ pub(crate) fn places_at_paths(
     graph: &PackageGraph,
     paths: &[&str],
 ) -> Result<Vec<usize>, Error>
-    ensures found { IfOk result (λ places. map (λ path. member_at_path graph.now path.now) paths.now ≡ map Some places.items) }
+    ensures found { IfOk result (λ places. map (λ path. member_at_path graph.now path.now) paths.now
+        ≡ map Some places.items) }
     ensures within { IfOk result (λ places. All (λ v. v < length graph.now.packages) places.items) }
     ensures refused { IfErr result (IsMissingPath graph.now (map (λ path. path.now) paths.now)) }
 {
@@ -57,7 +58,8 @@ pub(crate) fn places_called(
     graph: &PackageGraph,
     names: &[&str],
 ) -> Result<Vec<usize>, Error>
-    ensures found { IfOk result (λ places. map (λ name. member_called graph.now name.now) names.now ≡ map Some places.items) }
+    ensures found { IfOk result (λ places. map (λ name. member_called graph.now name.now) names.now
+        ≡ map Some places.items) }
     ensures within { IfOk result (λ places. All (λ v. v < length graph.now.packages) places.items) }
     ensures refused { IfErr result (IsMissingName graph.now (map (λ name. name.now) names.now)) }
 {
@@ -78,7 +80,8 @@ pub(crate) fn set_at_paths(
     paths: &[&str],
 ) -> Result<NodeSet, Error>
     ensures sized { IfOk result (λ set. length set ≡ length graph.now.packages) }
-    ensures named { IfOk result (λ set. (v : ℕ) → IsTrue (has set v) ↔ IsAtOneOf graph.now (map (λ path. path.now) paths.now) v) }
+    ensures named { IfOk result (λ set. (v : ℕ) → IsTrue (has set v)
+        ↔ IsAtOneOf graph.now (map (λ path. path.now) paths.now) v) }
     ensures known { IfOk result (λ _. ArePathsKnown graph.now (map (λ path. path.now) paths.now)) }
     ensures refused { IfErr result (IsMissingPath graph.now (map (λ path. path.now) paths.now)) }
 {
@@ -94,7 +97,8 @@ pub(crate) fn set_called(
     names: &[&str],
 ) -> Result<NodeSet, Error>
     ensures sized { IfOk result (λ set. length set ≡ length graph.now.packages) }
-    ensures named { IfOk result (λ set. (v : ℕ) → IsTrue (has set v) ↔ IsCalledOneOf graph.now (map (λ name. name.now) names.now) v) }
+    ensures named { IfOk result (λ set. (v : ℕ) → IsTrue (has set v)
+        ↔ IsCalledOneOf graph.now (map (λ name. name.now) names.now) v) }
     ensures known { IfOk result (λ _. AreNamesKnown graph.now (map (λ name. name.now) names.now)) }
     ensures refused { IfErr result (IsMissingName graph.now (map (λ name. name.now) names.now)) }
 {

@@ -9,7 +9,7 @@ ghost use Rattle.guppy_package_graph.specs.Workspaces.{IsMemberPlace};
 
 use crate::package_graph::PackageGraph;
 use guppy_package_parts::{Error, PackageId};
-use guppy_workspace_members::name_at;
+use guppy_package_table::name_at;
 use numbered_graph::NodeSet;
 use std::alloc::{AllocError, Global};
 
@@ -20,7 +20,8 @@ pub(crate) fn set_of_ids(
     package_ids: &[&PackageId],
 ) -> Result<NodeSet, Error>
     ensures sized { IfOk result (λ set. length set ≡ length graph.now.packages) }
-    ensures named { IfOk result (λ set. (v : ℕ) → IsTrue (has set v) ↔ IsNamed graph.now (map (λ id. id.now) package_ids.now) v) }
+    ensures named { IfOk result (λ set. (v : ℕ) → IsTrue (has set v)
+        ↔ IsNamed graph.now (map (λ id. id.now) package_ids.now) v) }
     ensures known { IfOk result (λ _. AreKnown graph.now (map (λ id. id.now) package_ids.now)) }
     ensures refused { IfErr result (IsMissing graph.now (map (λ id. id.now) package_ids.now)) }
 {
@@ -32,7 +33,8 @@ pub(crate) fn set_of_ids(
 /// The places of the members of the workspace.
 pub(crate) fn set_of_members(alloc: Global, graph: &PackageGraph) -> Result<NodeSet, AllocError>
     ensures sized { IfOk result (λ set. length set ≡ length graph.now.packages) }
-    ensures members { IfOk result (λ set. (v : ℕ) → IsTrue (has set v) ↔ IsMemberPlace graph.now v) }
+    ensures members { IfOk result (λ set. (v : ℕ) → IsTrue (has set v)
+        ↔ IsMemberPlace graph.now v) }
 {
     NodeSet::of(alloc, graph.package_count(), graph.table().members())
 }
@@ -44,7 +46,8 @@ pub(crate) fn set_of_name(
     name: &str,
 ) -> Result<NodeSet, AllocError>
     ensures sized { IfOk result (λ set. length set ≡ length graph.now.packages) }
-    ensures named { IfOk result (λ set. (v : ℕ) → IsTrue (has set v) ↔ HasName graph.now name.now v) }
+    ensures named { IfOk result (λ set. (v : ℕ) → IsTrue (has set v)
+        ↔ HasName graph.now name.now v) }
 {
     let mut set = NodeSet::none(alloc, graph.package_count())?;
     for place in 0..graph.package_count() {
@@ -60,7 +63,9 @@ fn places_of(
     graph: &PackageGraph,
     package_ids: &[&PackageId],
 ) -> Result<Vec<usize>, Error>
-    ensures found { IfOk result (λ places. map (λ id. position (bytes_eq id.now) (ids_of graph.now.packages)) package_ids.now ≡ map Some places.items) }
+    ensures found { IfOk result (λ places. map
+        (λ id. position (bytes_eq id.now) (ids_of graph.now.packages)) package_ids.now
+        ≡ map Some places.items) }
     ensures within { IfOk result (λ places. All (λ v. v < length graph.now.packages) places.items) }
     ensures refused { IfErr result (IsMissing graph.now (map (λ id. id.now) package_ids.now)) }
 {

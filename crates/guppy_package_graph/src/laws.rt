@@ -19,7 +19,8 @@ pub fn sets_are_told_by_ids()
 /// The links of a package end too, which tell no length: they are exactly those that are left.
 pub fn direct_links_end(links: &DirectLinks<'_>)
     ensures ends { IsFinite (⟦<DirectLinks<'static> as Iterator>⟧.remaining links.now) }
-    ensures left { size (⟦<DirectLinks<'static> as Iterator>⟧.remaining links.now) ≡ length (links_left links.now) }
+    ensures left { size (⟦<DirectLinks<'static> as Iterator>⟧.remaining links.now)
+        ≡ length (links_left links.now) }
 {
     let _ = links;
 }

@@ -1,5 +1,8 @@
 //! guppy's package graph: packages and the links between them, walks over them that a visitor steers,
 //! sets of packages and the order in which they are listed. It gives out all of the parts.
+//!
+//! Begin with `package_graph.rt`, then `package_query.rt` and `package_set.rt`; `specs/Resolves.antt`
+//! says what a resolve answers. Each public item is a name of guppy's.
 
 #![tactic(auto)]
 
@@ -66,9 +69,9 @@ pub use guppy_package_parts::{
     PlatformSpec, PlatformStatus, RequirementFeatures, SortedSet, TargetKind, TargetRow,
     TargetRowInfo, TargetSpecs, WorkspaceRow,
 };
+pub use guppy_package_rules::RecordRule;
 pub use guppy_package_table::{
     BuildTargets, LinkDetails, NamedFeatures, PackageDetails, PackageGraphError,
 };
 pub use numbered_graph::{Direction, Looks};
-pub use package_rules::RecordRule;
 pub use workspace_record::WorkspaceRecord;

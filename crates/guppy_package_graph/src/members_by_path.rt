@@ -3,7 +3,7 @@ ghost use Rattle.std.specs.Prelude.{◌<◌, All, length};
 use crate::package_graph::PackageGraph;
 use crate::package_metadata::PackageMetadata;
 use crate::places::Places;
-use guppy_workspace_members::path_at;
+use guppy_package_table::path_at;
 use list_facts::write_entries;
 use std::fmt;
 

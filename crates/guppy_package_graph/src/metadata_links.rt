@@ -3,7 +3,7 @@
 ghost use Rattle.std.specs.Prelude.{◌≡◌, ◌<◌, length};
 ghost use Rattle.numbered_graph.specs.declared.direction.Direction.TheVariants as numbered;
 ghost use Rattle.guppy_package_table.specs.Tables.{numbered_links};
-ghost use Rattle.guppy_row_parts.specs.declared.dependency_direction.DependencyDirection.TheVariants.{Forward, Reverse};
+ghost use Rattle.guppy_package_parts.specs.declared.dependency_direction.DependencyDirection.TheVariants.{Forward, Reverse};
 ghost use Rattle.guppy_package_graph.specs.DirectViews.{direct_graph_of, links_left, links_of_place};
 ghost use Rattle.guppy_package_graph.specs.Directions.{direction_of};
 ghost use Rattle.guppy_package_graph.specs.LinkAnswers.{AnswersLink, SaysFirst, SaysLink};
@@ -24,7 +24,8 @@ impl<'g> PackageMetadata<'g> {
         package_id: &PackageId,
         direction: DependencyDirection,
     ) -> Result<Option<PackageLink<'g>>, Error>
-        ensures answer { AnswersLink (graph_of self.now) (place_of self.now) direction package_id.now result }
+        ensures answer { AnswersLink (graph_of self.now) (place_of self.now) direction
+            package_id.now result }
     {
         let graph = self.graph();
         match graph.place_of(package_id) {
@@ -35,14 +36,16 @@ impl<'g> PackageMetadata<'g> {
 
     /// The first link from this package to another.
     pub fn link_to(&self, package_id: &PackageId) -> Result<Option<PackageLink<'g>>, Error>
-        ensures answer { AnswersLink (graph_of self.now) (place_of self.now) Forward package_id.now result }
+        ensures answer { AnswersLink (graph_of self.now) (place_of self.now) Forward package_id.now
+            result }
     {
         self.link_between(package_id, DependencyDirection::Forward)
     }
 
     /// The first link from another package to this.
     pub fn link_from(&self, package_id: &PackageId) -> Result<Option<PackageLink<'g>>, Error>
-        ensures answer { AnswersLink (graph_of self.now) (place_of self.now) Reverse package_id.now result }
+        ensures answer { AnswersLink (graph_of self.now) (place_of self.now) Reverse package_id.now
+            result }
     {
         self.link_between(package_id, DependencyDirection::Reverse)
     }
@@ -51,7 +54,8 @@ impl<'g> PackageMetadata<'g> {
     /// that depend on it, in the order of the record.
     pub fn direct_links_directed(&self, direction: DependencyDirection) -> DirectLinks<'g>
         ensures graph { direct_graph_of result ≡ graph_of self.now }
-        ensures links { links_left result ≡ links_of_place (numbered_links (graph_of self.now)) (direction_of direction) (place_of self.now) }
+        ensures links { links_left result ≡ links_of_place (numbered_links (graph_of self.now))
+            (direction_of direction) (place_of self.now) }
     {
         DirectLinks::of(self.graph(), self.place(), direction_of(direction))
     }
@@ -59,7 +63,8 @@ impl<'g> PackageMetadata<'g> {
     /// The links from this package to those that it depends on.
     pub fn direct_links(&self) -> DirectLinks<'g>
         ensures graph { direct_graph_of result ≡ graph_of self.now }
-        ensures links { links_left result ≡ links_of_place (numbered_links (graph_of self.now)) numbered.Forward (place_of self.now) }
+        ensures links { links_left result ≡ links_of_place (numbered_links (graph_of self.now))
+            numbered.Forward (place_of self.now) }
     {
         self.direct_links_directed(DependencyDirection::Forward)
     }
@@ -67,7 +72,8 @@ impl<'g> PackageMetadata<'g> {
     /// The links from the packages that depend on this one.
     pub fn reverse_direct_links(&self) -> DirectLinks<'g>
         ensures graph { direct_graph_of result ≡ graph_of self.now }
-        ensures links { links_left result ≡ links_of_place (numbered_links (graph_of self.now)) numbered.Reverse (place_of self.now) }
+        ensures links { links_left result ≡ links_of_place (numbered_links (graph_of self.now))
+            numbered.Reverse (place_of self.now) }
     {
         self.direct_links_directed(DependencyDirection::Reverse)
     }

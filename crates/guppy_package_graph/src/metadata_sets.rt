@@ -20,7 +20,8 @@ impl<'g> PackageMetadata<'g> {
         alloc: Global,
         direction: DependencyDirection,
     ) -> Result<PackageQuery<'g>, AllocError>
-        ensures query { IfOk result (IsQueryOf (graph_of self.now) direction (λ v. v ≡ place_of self.now)) }
+        ensures query { IfOk result (IsQueryOf (graph_of self.now) direction
+            (λ v. v ≡ place_of self.now)) }
     {
         let graph = self.graph();
         let set = NodeSet::of(alloc, graph.package_count(), &[self.place()])?;

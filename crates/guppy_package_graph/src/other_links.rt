@@ -1,7 +1,7 @@
 //! The graph of the same packages and workspace with other links.
 
 ghost use Rattle.std.specs.Prelude.{IfOk};
-ghost use Rattle.package_rules.specs.Kept.{AreKept};
+ghost use Rattle.guppy_package_rules.specs.Kept.{AreKept};
 ghost use Rattle.guppy_package_table.specs.Tables.{IsTableOf};
 
 use crate::package_graph::PackageGraph;
@@ -17,7 +17,8 @@ impl PackageGraph {
     /// some of its lines. Of links that come from elsewhere it is found out by `from_records`.
     pub fn with_links(&self, alloc: Global, links: Vec<LinkRow>) -> Result<PackageGraph, AllocError>
         requires kept { AreKept self.now.packages links.items self.now.workspace }
-        ensures built { IfOk result (λ g. AreKept self.now.packages links.items self.now.workspace × IsTableOf self.now.packages links.items self.now.workspace g) }
+        ensures built { IfOk result (λ g. AreKept self.now.packages links.items self.now.workspace
+            × IsTableOf self.now.packages links.items self.now.workspace g) }
     {
         let table = self.table().with_links(alloc, links)?;
         PackageGraph::of_table(alloc, table)

@@ -1,11 +1,11 @@
 //! The graph of packages, and what it says of each.
 
 ghost use Rattle.std.specs.Prelude.{◌≡◌, ◌≢◌, ◌↔◌, ◌<◌, AllPairs, IfErr, IfOk, IsTrue, Ok, length};
-ghost use Rattle.package_rules.specs.Kept.{AreKept};
-ghost use Rattle.package_rules.specs.Refusals.{IsRefusal};
+ghost use Rattle.guppy_package_rules.specs.Kept.{AreKept};
+ghost use Rattle.guppy_package_rules.specs.Refusals.{IsRefusal};
 ghost use Rattle.guppy_package_table.specs.Tables.{IsTableOf, id_at, ids_of, numbered_links, place_among};
 ghost use Rattle.numbered_graph.specs.Links.{near_at};
-ghost use Rattle.guppy_workspace_members.specs.Members.{AreByName, AreByPath};
+ghost use Rattle.guppy_package_table.specs.Members.{AreByName, AreByPath};
 ghost use Rattle.guppy_package_graph.specs.AllViews.{all_graph_of, first_left};
 ghost use Rattle.guppy_package_graph.specs.Finding.{FindsPlace, FindsPackage};
 ghost use Rattle.guppy_package_graph.specs.WorkspaceViews.{workspace_of};
@@ -16,8 +16,7 @@ use crate::package_link::PackageLink;
 use crate::package_metadata::PackageMetadata;
 use crate::workspace::Workspace;
 use guppy_package_parts::{Error, LinkRow, PackageId, PackageRow, WorkspaceRow};
-use guppy_package_table::{PackageGraphError, PackageTable};
-use guppy_workspace_members::{MemberOrders, member_orders};
+use guppy_package_table::{MemberOrders, PackageGraphError, PackageTable, member_orders};
 use numbered_graph::Direction;
 use std::alloc::{AllocError, Global};
 use std::fmt;
@@ -44,8 +43,8 @@ impl Drop for PackageGraph {
 
 impl Model for PackageGraph {
     ghost use Rattle.guppy_package_table.specs.Tables.{TableValue};
-    ghost use Rattle.guppy_workspace_members.specs.Members.{AreByName, AreByPath};
-    ghost use Rattle.package_rules.specs.Kept.{AreKept};
+    ghost use Rattle.guppy_package_table.specs.Members.{AreByName, AreByPath};
+    ghost use Rattle.guppy_package_rules.specs.Kept.{AreKept};
 
     ghost Value = { TableValue };
 
@@ -63,7 +62,8 @@ impl PackageGraph {
         links: Vec<LinkRow>,
         workspace: WorkspaceRow,
     ) -> Result<PackageGraph, PackageGraphError>
-        ensures built { IfOk result (λ g. AreKept packages.items links.items workspace × IsTableOf packages.items links.items workspace g) }
+        ensures built { IfOk result (λ g. AreKept packages.items links.items workspace
+            × IsTableOf packages.items links.items workspace g) }
         ensures refused { IfErr result (IsRefusal packages.items links.items workspace) }
     {
         let table = PackageTable::from_records(alloc, packages, links, workspace)?;
@@ -77,8 +77,11 @@ impl PackageGraph {
         alloc: Global,
         rows: Rc<WorkspaceRecord>,
     ) -> Result<PackageGraph, PackageGraphError>
-        ensures built { IfOk result (λ g. AreKept rows.value.packages rows.value.links rows.value.workspace × IsTableOf rows.value.packages rows.value.links rows.value.workspace g) }
-        ensures refused { IfErr result (IsRefusal rows.value.packages rows.value.links rows.value.workspace) }
+        ensures built { IfOk result (λ g. AreKept rows.value.packages rows.value.links
+            rows.value.workspace × IsTableOf rows.value.packages rows.value.links
+            rows.value.workspace g) }
+        ensures refused { IfErr result (IsRefusal rows.value.packages rows.value.links
+            rows.value.workspace) }
     {
         let table = PackageTable::from_shared(alloc, rows)?;
         let graph = PackageGraph::of_table(alloc, table)?;

@@ -47,7 +47,8 @@ impl<'g> PackageLink<'g> {
     /// The package that depends on the other.
     pub fn from(&self) -> PackageMetadata<'g>
         ensures graph { graph_of result ≡ link_graph_of self.now }
-        ensures place { place_of result ≡ (link_at (numbered_links (link_graph_of self.now)) (number_of self.now)).from }
+        ensures place { place_of result ≡ (link_at (numbered_links (link_graph_of self.now))
+            (number_of self.now)).from }
     {
         let graph = self.graph;
         graph.metadata_at(graph.end_of(Direction::Forward, self.number))
@@ -56,7 +57,8 @@ impl<'g> PackageLink<'g> {
     /// The package that is depended on.
     pub fn to(&self) -> PackageMetadata<'g>
         ensures graph { graph_of result ≡ link_graph_of self.now }
-        ensures place { place_of result ≡ (link_at (numbered_links (link_graph_of self.now)) (number_of self.now)).to }
+        ensures place { place_of result ≡ (link_at (numbered_links (link_graph_of self.now))
+            (number_of self.now)).to }
     {
         let graph = self.graph;
         graph.metadata_at(graph.end_of(Direction::Reverse, self.number))
@@ -64,8 +66,10 @@ impl<'g> PackageLink<'g> {
 
     /// Both packages: the one that depends on the other, and the other.
     pub fn endpoints(&self) -> (PackageMetadata<'g>, PackageMetadata<'g>)
-        ensures graphs { (graph_of result.0 ≡ link_graph_of self.now) × (graph_of result.1 ≡ link_graph_of self.now) }
-        ensures places { record { from = place_of result.0; to = place_of result.1 } ≡ link_at (numbered_links (link_graph_of self.now)) (number_of self.now) }
+        ensures graphs { (graph_of result.0 ≡ link_graph_of self.now)
+            × (graph_of result.1 ≡ link_graph_of self.now) }
+        ensures places { record { from = place_of result.0; to = place_of result.1 }
+            ≡ link_at (numbered_links (link_graph_of self.now)) (number_of self.now) }
     {
         (self.from(), self.to())
     }

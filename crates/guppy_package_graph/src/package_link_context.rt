@@ -36,7 +36,8 @@ impl<'a> PackageLinkContext<'a> {
 
     /// Whether the link's near end, `from` in direction Forward, is an initial.
     pub fn starts_from_initial(&self, link: PackageLink<'_>) -> bool
-        ensures initial { result ≡ list_any (λ v. v == near_place (query_of self.now).direction link.entry) (query_of self.now).initials }
+        ensures initial { result ≡ list_any (λ v.
+            v == near_place (query_of self.now).direction link.entry) (query_of self.now).initials }
     {
         let near = match self.direction() {
             DependencyDirection::Forward => link.from(),

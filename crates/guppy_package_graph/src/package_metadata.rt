@@ -21,7 +21,7 @@ pub struct PackageMetadata<'g> {
 
 impl<'g> PackageMetadata<'g> {
     ghost use Rattle.std.specs.Prelude.{is_some};
-    ghost use Rattle.guppy_row_parts.specs.SourceViews.{source_view};
+    ghost use Rattle.guppy_package_parts.specs.SourceViews.{source_view};
     ghost use Rattle.guppy_package_graph.specs.Sources.{IsSourceAt};
     ghost use Rattle.guppy_package_graph.specs.Views.{graph_of, place_of};
 
@@ -40,7 +40,8 @@ impl<'g> PackageMetadata<'g> {
 
     /// The package's id.
     pub fn id(&self) -> &'g PackageId
-        ensures id { slice_get (ids_of (graph_of self.now).packages) (place_of self.now) ≡ Some result.now }
+        ensures id { slice_get (ids_of (graph_of self.now).packages) (place_of self.now)
+            ≡ Some result.now }
     {
         let graph = self.graph;
         graph.table().id_at(self.place)

@@ -37,7 +37,11 @@ impl<'g> PackageQuery<'g> {
     ) -> PackageQuery<'g>
         requires within { All (λ v. v < length graph.now.packages) initials.items }
         requires ascending { AllPairs (λ u v. u < v) initials.items }
-        ensures { result ≡ record { graph = graph.entry.now; direction = direction; initials = initials.items } }
+        ensures { result ≡ record {
+          graph = graph.entry.now;
+          direction = direction;
+          initials = initials.items;
+        } }
     {
         PackageQuery {
             graph,

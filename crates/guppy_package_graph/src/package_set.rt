@@ -94,7 +94,8 @@ impl<'g> PackageSet<'g> {
 
     /// Whether the graphs of both sets have the same list of package ids.
     pub fn same_packages(&self, other: &PackageSet<'_>) -> bool
-        ensures same { IsTrue result ↔ (ids_of self.now.graph.packages ≡ ids_of other.now.graph.packages) }
+        ensures same { IsTrue result ↔ (ids_of self.now.graph.packages
+            ≡ ids_of other.now.graph.packages) }
     {
         self.graph.same_packages(other.graph)
     }
@@ -103,7 +104,8 @@ impl<'g> PackageSet<'g> {
     pub fn union(&self, alloc: Global, other: &PackageSet<'_>) -> Result<PackageSet<'g>, AllocError>
         requires { ids_of self.now.graph.packages ≡ ids_of other.now.graph.packages }
         ensures graph { IfOk result (λ s. s.graph ≡ self.now.graph) }
-        ensures members { IfOk result (λ s. (v : ℕ) → has s.included v ≡ (has self.now.included v || has other.now.included v)) }
+        ensures members { IfOk result (λ s. (v : ℕ)
+            → has s.included v ≡ (has self.now.included v || has other.now.included v)) }
     {
         let included = self.included.union(alloc, &other.included)?;
         Ok(PackageSet::of(self.graph, included))
@@ -117,7 +119,8 @@ impl<'g> PackageSet<'g> {
     ) -> Result<PackageSet<'g>, AllocError>
         requires { ids_of self.now.graph.packages ≡ ids_of other.now.graph.packages }
         ensures graph { IfOk result (λ s. s.graph ≡ self.now.graph) }
-        ensures members { IfOk result (λ s. (v : ℕ) → has s.included v ≡ (has self.now.included v && has other.now.included v)) }
+        ensures members { IfOk result (λ s. (v : ℕ)
+            → has s.included v ≡ (has self.now.included v && has other.now.included v)) }
     {
         let included = self.included.intersection(alloc, &other.included)?;
         Ok(PackageSet::of(self.graph, included))
@@ -131,7 +134,8 @@ impl<'g> PackageSet<'g> {
     ) -> Result<PackageSet<'g>, AllocError>
         requires { ids_of self.now.graph.packages ≡ ids_of other.now.graph.packages }
         ensures graph { IfOk result (λ s. s.graph ≡ self.now.graph) }
-        ensures members { IfOk result (λ s. (v : ℕ) → has s.included v ≡ (has self.now.included v && not (has other.now.included v))) }
+        ensures members { IfOk result (λ s. (v : ℕ)
+            → has s.included v ≡ (has self.now.included v && not (has other.now.included v))) }
     {
         let included = self.included.difference(alloc, &other.included)?;
         Ok(PackageSet::of(self.graph, included))
@@ -145,7 +149,8 @@ impl<'g> PackageSet<'g> {
     ) -> Result<PackageSet<'g>, AllocError>
         requires { ids_of self.now.graph.packages ≡ ids_of other.now.graph.packages }
         ensures graph { IfOk result (λ s. s.graph ≡ self.now.graph) }
-        ensures members { IfOk result (λ s. (v : ℕ) → has s.included v ≡ differs (has self.now.included v) (has other.now.included v)) }
+        ensures members { IfOk result (λ s. (v : ℕ)
+            → has s.included v ≡ differs (has self.now.included v) (has other.now.included v)) }
     {
         let included = self.included.symmetric_difference(alloc, &other.included)?;
         Ok(PackageSet::of(self.graph, included))
@@ -156,8 +161,10 @@ impl<'g> PackageSet<'g> {
     /// Reverse that list reversed.
     pub fn packages(&self, direction: DependencyDirection) -> Packages<'g, '_>
         ensures graph { packages_graph_of result ≡ self.now.graph }
-        ensures listed { packages_left result ≡ in_direction (direction_of direction) (listed self.now) }
-        ensures listing { IsListing (numbered_links self.now.graph) (has (firm_flags self.now.graph.links)) (has self.now.included) (listed self.now) }
+        ensures listed { packages_left result ≡ in_direction (direction_of direction)
+            (listed self.now) }
+        ensures listing { IsListing (numbered_links self.now.graph)
+            (has (firm_flags self.now.graph.links)) (has self.now.included) (listed self.now) }
     {
         Packages::of(self.graph, self.listed(direction))
     }
@@ -165,17 +172,21 @@ impl<'g> PackageSet<'g> {
     /// The ids of the packages of the set, in the order of `packages`.
     pub fn package_ids(&self, direction: DependencyDirection) -> PackageIds<'g, '_>
         ensures graph { listed_graph_of result ≡ self.now.graph }
-        ensures listed { listed_places_left result ≡ in_direction (direction_of direction) (listed self.now) }
-        ensures listing { IsListing (numbered_links self.now.graph) (has (firm_flags self.now.graph.links)) (has self.now.included) (listed self.now) }
+        ensures listed { listed_places_left result
+            ≡ in_direction (direction_of direction) (listed self.now) }
+        ensures listing { IsListing (numbered_links self.now.graph)
+            (has (firm_flags self.now.graph.links)) (has self.now.included) (listed self.now) }
     {
         PackageIds::of(self.graph, self.listed(direction))
     }
 
     /// The places of the packages of the set, in that order.
     pub(crate) fn listed(&self, direction: DependencyDirection) -> Listed<'_>
-        ensures listed { listed_left result ≡ in_direction (direction_of direction) (listed self.now) }
+        ensures listed { listed_left result ≡ in_direction (direction_of direction)
+            (listed self.now) }
         ensures within { All (λ v. v < length self.now.graph.packages) (listed_left result) }
-        ensures listing { IsListing (numbered_links self.now.graph) (has (firm_flags self.now.graph.links)) (has self.now.included) (listed self.now) }
+        ensures listing { IsListing (numbered_links self.now.graph)
+            (has (firm_flags self.now.graph.links)) (has self.now.included) (listed self.now) }
     {
         let table = self.graph.table();
         Listed::new(table.listing(), &self.included, direction_of(direction))

@@ -17,7 +17,10 @@ use std::alloc::{AllocError, Global};
 impl PackageGraph {
     /// The set of all packages.
     pub fn resolve_all(&self, alloc: Global) -> Result<PackageSet<'_>, AllocError>
-        ensures all { IfOk result (λ s. s ≡ record { graph = self.now; included = replicate (length self.now.packages) true }) }
+        ensures all { IfOk result (λ s. s ≡ record {
+          graph = self.now;
+          included = replicate (length self.now.packages) true;
+        }) }
     {
         let all = NodeSet::all(alloc, self.package_count())?;
         Ok(PackageSet::of(self, all))
@@ -25,7 +28,10 @@ impl PackageGraph {
 
     /// The set of no package.
     pub fn resolve_none(&self, alloc: Global) -> Result<PackageSet<'_>, AllocError>
-        ensures none { IfOk result (λ s. s ≡ record { graph = self.now; included = replicate (length self.now.packages) false }) }
+        ensures none { IfOk result (λ s. s ≡ record {
+          graph = self.now;
+          included = replicate (length self.now.packages) false;
+        }) }
     {
         let none = NodeSet::none(alloc, self.package_count())?;
         Ok(PackageSet::of(self, none))
@@ -37,7 +43,8 @@ impl PackageGraph {
         alloc: Global,
         package_ids: &[&PackageId],
     ) -> Result<PackageSet<'_>, Error>
-        ensures named { IfOk result (IsSetOf self.now (IsNamed self.now (map (λ id. id.now) package_ids.now))) }
+        ensures named { IfOk result (IsSetOf self.now
+            (IsNamed self.now (map (λ id. id.now) package_ids.now))) }
         ensures known { IfOk result (λ _. AreKnown self.now (map (λ id. id.now) package_ids.now)) }
         ensures refused { IfErr result (IsMissing self.now (map (λ id. id.now) package_ids.now)) }
     {
@@ -59,8 +66,10 @@ impl PackageGraph {
         alloc: Global,
         paths: &[&str],
     ) -> Result<PackageSet<'_>, Error>
-        ensures named { IfOk result (IsSetOf self.now (IsAtOneOf self.now (map (λ path. path.now) paths.now))) }
-        ensures known { IfOk result (λ _. ArePathsKnown self.now (map (λ path. path.now) paths.now)) }
+        ensures named { IfOk result (IsSetOf self.now
+            (IsAtOneOf self.now (map (λ path. path.now) paths.now))) }
+        ensures known { IfOk result (λ _. ArePathsKnown self.now
+            (map (λ path. path.now) paths.now)) }
         ensures refused { IfErr result (IsMissingPath self.now (map (λ path. path.now) paths.now)) }
     {
         let members = set_at_paths(alloc, self, paths)?;
@@ -73,8 +82,10 @@ impl PackageGraph {
         alloc: Global,
         names: &[&str],
     ) -> Result<PackageSet<'_>, Error>
-        ensures named { IfOk result (IsSetOf self.now (IsCalledOneOf self.now (map (λ name. name.now) names.now))) }
-        ensures known { IfOk result (λ _. AreNamesKnown self.now (map (λ name. name.now) names.now)) }
+        ensures named { IfOk result (IsSetOf self.now
+            (IsCalledOneOf self.now (map (λ name. name.now) names.now))) }
+        ensures known { IfOk result (λ _. AreNamesKnown self.now
+            (map (λ name. name.now) names.now)) }
         ensures refused { IfErr result (IsMissingName self.now (map (λ name. name.now) names.now)) }
     {
         let members = set_called(alloc, self, names)?;

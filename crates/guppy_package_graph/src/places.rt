@@ -38,7 +38,9 @@ impl<'g, 'a> Places<'g, 'a> {
 
     /// The first of those that are still to come.
     pub fn first(&mut self) -> Option<usize>
-        ensures steps { MatchOption result ((left_of_places self.old ≡ []) × (left_of_places self.new ≡ [])) (λ v. left_of_places self.old ≡ v ∷ left_of_places self.new) }
+        ensures steps { MatchOption result ((left_of_places self.old ≡ [])
+            × (left_of_places self.new ≡ []))
+            (λ v. left_of_places self.old ≡ v ∷ left_of_places self.new) }
         ensures within { IfSome result (λ v. v < length (graph_of_places self.old).packages) }
         ensures graph { graph_of_places self.new ≡ graph_of_places self.old }
     {
@@ -49,7 +51,9 @@ impl<'g, 'a> Places<'g, 'a> {
 
     /// The last of them.
     pub fn last(&mut self) -> Option<usize>
-        ensures steps { MatchOption result ((left_of_places self.old ≡ []) × (left_of_places self.new ≡ [])) (λ v. left_of_places self.old ≡ left_of_places self.new ++ v ∷ []) }
+        ensures steps { MatchOption result ((left_of_places self.old ≡ [])
+            × (left_of_places self.new ≡ []))
+            (λ v. left_of_places self.old ≡ left_of_places self.new ++ v ∷ []) }
         ensures within { IfSome result (λ v. v < length (graph_of_places self.old).packages) }
         ensures graph { graph_of_places self.new ≡ graph_of_places self.old }
     {

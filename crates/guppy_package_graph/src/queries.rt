@@ -2,7 +2,7 @@
 
 ghost use Rattle.std.specs.Prelude.{◌≡◌, ◌∷◌, [], IfErr, IfOk, IsTrue, length, map};
 ghost use Rattle.numbered_graph.specs.Sets.{has};
-ghost use Rattle.guppy_row_parts.specs.declared.dependency_direction.DependencyDirection.TheVariants.{Forward, Reverse};
+ghost use Rattle.guppy_package_parts.specs.declared.dependency_direction.DependencyDirection.TheVariants.{Forward, Reverse};
 ghost use Rattle.guppy_package_graph.specs.Finding.{AreKnown, IsMissing, IsNamed};
 ghost use Rattle.guppy_package_graph.specs.Members.{AreNamesKnown, ArePathsKnown, IsAtOneOf, IsCalledOneOf, IsMissingName, IsMissingPath};
 ghost use Rattle.guppy_package_graph.specs.Queries.{IsQueryOf};
@@ -24,7 +24,8 @@ impl PackageGraph {
         package_ids: &[&PackageId],
         direction: DependencyDirection,
     ) -> Result<PackageQuery<'_>, Error>
-        ensures query { IfOk result (IsQueryOf self.now direction (IsNamed self.now (map (λ id. id.now) package_ids.now))) }
+        ensures query { IfOk result (IsQueryOf self.now direction
+            (IsNamed self.now (map (λ id. id.now) package_ids.now))) }
         ensures known { IfOk result (λ _. AreKnown self.now (map (λ id. id.now) package_ids.now)) }
         ensures refused { IfErr result (IsMissing self.now (map (λ id. id.now) package_ids.now)) }
     {
@@ -39,7 +40,8 @@ impl PackageGraph {
         alloc: Global,
         package_ids: &[&PackageId],
     ) -> Result<PackageQuery<'_>, Error>
-        ensures query { IfOk result (IsQueryOf self.now Forward (IsNamed self.now (map (λ id. id.now) package_ids.now))) }
+        ensures query { IfOk result (IsQueryOf self.now Forward
+            (IsNamed self.now (map (λ id. id.now) package_ids.now))) }
         ensures known { IfOk result (λ _. AreKnown self.now (map (λ id. id.now) package_ids.now)) }
         ensures refused { IfErr result (IsMissing self.now (map (λ id. id.now) package_ids.now)) }
     {
@@ -52,7 +54,8 @@ impl PackageGraph {
         alloc: Global,
         package_ids: &[&PackageId],
     ) -> Result<PackageQuery<'_>, Error>
-        ensures query { IfOk result (IsQueryOf self.now Reverse (IsNamed self.now (map (λ id. id.now) package_ids.now))) }
+        ensures query { IfOk result (IsQueryOf self.now Reverse
+            (IsNamed self.now (map (λ id. id.now) package_ids.now))) }
         ensures known { IfOk result (λ _. AreKnown self.now (map (λ id. id.now) package_ids.now)) }
         ensures refused { IfErr result (IsMissing self.now (map (λ id. id.now) package_ids.now)) }
     {
@@ -74,8 +77,10 @@ impl PackageGraph {
         alloc: Global,
         paths: &[&str],
     ) -> Result<PackageQuery<'_>, Error>
-        ensures query { IfOk result (IsQueryOf self.now Forward (IsAtOneOf self.now (map (λ path. path.now) paths.now))) }
-        ensures known { IfOk result (λ _. ArePathsKnown self.now (map (λ path. path.now) paths.now)) }
+        ensures query { IfOk result (IsQueryOf self.now Forward
+            (IsAtOneOf self.now (map (λ path. path.now) paths.now))) }
+        ensures known { IfOk result (λ _. ArePathsKnown self.now
+            (map (λ path. path.now) paths.now)) }
         ensures refused { IfErr result (IsMissingPath self.now (map (λ path. path.now) paths.now)) }
     {
         let members = set_at_paths(alloc, self, paths)?;
@@ -89,8 +94,10 @@ impl PackageGraph {
         alloc: Global,
         names: &[&str],
     ) -> Result<PackageQuery<'_>, Error>
-        ensures query { IfOk result (IsQueryOf self.now Forward (IsCalledOneOf self.now (map (λ name. name.now) names.now))) }
-        ensures known { IfOk result (λ _. AreNamesKnown self.now (map (λ name. name.now) names.now)) }
+        ensures query { IfOk result (IsQueryOf self.now Forward
+            (IsCalledOneOf self.now (map (λ name. name.now) names.now))) }
+        ensures known { IfOk result (λ _. AreNamesKnown self.now
+            (map (λ name. name.now) names.now)) }
         ensures refused { IfErr result (IsMissingName self.now (map (λ name. name.now) names.now)) }
     {
         let members = set_called(alloc, self, names)?;

@@ -38,7 +38,8 @@ impl<'g> PackageQuery<'g> {
         looks: &mut Looks<L>,
     ) -> Result<PackageSet<'g>, AllocError>
         ensures reached { IfOk result (IsReachOf self.entry) }
-        ensures looks { looks.new ≤ looks.old + (length self.entry.graph.packages + length self.entry.graph.links) }
+        ensures looks { looks.new ≤ looks.old +
+            (length self.entry.graph.packages + length self.entry.graph.links) }
     {
         let graph = self.graph();
         let direction = direction_of(self.direction());
@@ -60,7 +61,9 @@ impl<'g> PackageQuery<'g> {
         visitor: &mut dyn PackageLinkVisitor,
     ) -> Result<PackageSet<'g>, AllocError>
         ensures graph { IfOk result (λ s. s.graph ≡ self.entry.graph) }
-        ensures ok { IfOk result (λ s. (shown : Shown) × IsResolved self.entry shown s.included × Chain (steps visitor.old) (state visitor.old) (shown_to self.entry shown) (state visitor.new)) }
+        ensures ok { IfOk result (λ s. (shown : Shown) × IsResolved self.entry shown s.included
+            × Chain (steps visitor.old) (state visitor.old) (shown_to self.entry shown)
+            (state visitor.new)) }
         ensures same { SameSteps (steps visitor.old) (steps visitor.new) }
         ensures err { OnErr result (visitor.new ≡ visitor.old) }
     {
@@ -81,7 +84,9 @@ impl<'g> PackageQuery<'g> {
         F: Drop,
         requires { F.IsAlwaysCallable visitor_fn }
         ensures graph { IfOk result (λ s. s.graph ≡ self.entry.graph) }
-        ensures ok { IfOk result (λ s. (shown : Shown) × (last : F) × IsResolved self.entry shown s.included × Chain (AsksClosure F.FnMut self.entry) visitor_fn shown last) }
+        ensures ok { IfOk result (λ s. (shown : Shown) × (last : F)
+            × IsResolved self.entry shown s.included
+            × Chain (AsksClosure F.FnMut self.entry) visitor_fn shown last) }
     {
         self.resolve_with_fn_lent(alloc, &mut visitor_fn)
     }
@@ -94,7 +99,8 @@ impl<'g> PackageQuery<'g> {
     ) -> Result<PackageSet<'g>, AllocError>
         requires { F.IsAlwaysCallable visitor_fn.old }
         ensures graph { IfOk result (λ s. s.graph ≡ self.entry.graph) }
-        ensures ok { IfOk result (λ s. (shown : Shown) × IsResolved self.entry shown s.included × Chain (AsksClosure F.FnMut self.entry) visitor_fn.old shown visitor_fn.new) }
+        ensures ok { IfOk result (λ s. (shown : Shown) × IsResolved self.entry shown s.included
+            × Chain (AsksClosure F.FnMut self.entry) visitor_fn.old shown visitor_fn.new) }
         ensures err { OnErr result (visitor_fn.new ≡ visitor_fn.old) }
     {
         match resolve_by_closure(alloc, &self, visitor_fn) {

@@ -27,7 +27,9 @@ pub(crate) fn resolve_by_visitor<L: Ledger>(
     requires name { blank.name ≡ L.name }
     requires parts { blank.parts ≡ L.parts }
     requires some { 0 < blank.parts }
-    ensures ok { IfOk result (λ set. (shown : Shown) × IsResolved query.now shown set × Chain (steps visitor.old) (state visitor.old) (shown_to query.now shown) (state visitor.new)) }
+    ensures ok { IfOk result (λ set. (shown : Shown) × IsResolved query.now shown set
+        × Chain (steps visitor.old) (state visitor.old) (shown_to query.now shown)
+        (state visitor.new)) }
     ensures same { SameSteps (steps visitor.old) (steps visitor.new) }
     ensures err { OnErr result (visitor.new ≡ visitor.old) }
 {
@@ -44,7 +46,8 @@ pub(crate) fn resolve_by_visitor<L: Ledger>(
 
 fn ask(visitor: &mut dyn PackageLinkVisitor, query: &PackageQuery<'_>, number: usize) -> bool
     requires { number < length query.now.graph.links }
-    ensures step { steps visitor.old (state visitor.old) (query.now, number) result (state visitor.new) }
+    ensures step { steps visitor.old (state visitor.old) (query.now, number) result
+        (state visitor.new) }
     ensures same { SameSteps (steps visitor.old) (steps visitor.new) }
 {
     let cx = PackageLinkContext::of(query);
@@ -59,7 +62,8 @@ pub(crate) fn resolve_by_closure<'g, F: FnMut(&PackageLinkContext<'_>, PackageLi
     accepts: &mut F,
 ) -> Result<NodeSet, AllocError>
     requires { F.IsAlwaysCallable accepts.old }
-    ensures ok { IfOk result (λ set. (shown : Shown) × IsResolved query.now shown set × Chain (AsksClosure F.FnMut query.now) accepts.old shown accepts.new) }
+    ensures ok { IfOk result (λ set. (shown : Shown) × IsResolved query.now shown set
+        × Chain (AsksClosure F.FnMut query.now) accepts.old shown accepts.new) }
     ensures err { OnErr result (accepts.new ≡ accepts.old) }
 {
     let graph = query.graph();

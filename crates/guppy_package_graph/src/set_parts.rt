@@ -28,7 +28,8 @@ impl<'g> PackageSet<'g> {
         alloc: Global,
         direction: DependencyDirection,
     ) -> Result<PackageQuery<'g>, AllocError>
-        ensures query { IfOk result (IsQueryOf self.now.graph direction (λ v. IsTrue (has self.now.included v))) }
+        ensures query { IfOk result (IsQueryOf self.now.graph direction
+            (λ v. IsTrue (has self.now.included v))) }
     {
         query_of_set(alloc, self.graph(), direction, self.included())
     }
@@ -42,7 +43,10 @@ impl<'g> PackageSet<'g> {
     ) -> Result<Vec<PackageMetadata<'g>>, AllocError>
         ensures graphs { IfOk result (λ ps. All (λ m. graph_of m ≡ self.now.graph) ps.items) }
         ensures ascending { IfOk result (λ ps. AllPairs (λ u v. u < v) (map place_of ps.items)) }
-        ensures each { IfOk result (λ ps. (v : ℕ) → Contains (map place_of ps.items) v ↔ (IsTrue (has self.now.included v) × IsRoot (direction_of direction) (numbered_links self.now.graph) self.now.included v)) }
+        ensures each { IfOk result (λ ps. (v : ℕ) → Contains (map place_of ps.items) v
+            ↔ (IsTrue (has self.now.included v)
+            × IsRoot (direction_of direction) (numbered_links self.now.graph) self.now.included
+            v)) }
     {
         let places = root_places(alloc, self, direction)?;
         packages_of(alloc, self.graph(), &places)
@@ -64,7 +68,9 @@ impl<'g> PackageSet<'g> {
     /// The links whose ends are both in the set, each once in the order of the record.
     pub fn links(&self, alloc: Global) -> Result<Vec<PackageLink<'g>>, AllocError>
         ensures graphs { IfOk result (λ ls. All (λ l. link_graph_of l ≡ self.now.graph) ls.items) }
-        ensures inside { IfOk result (λ ls. map number_of ls.items ≡ filter (is_inside (numbered_links self.now.graph) self.now.included) (numbers_below (length self.now.graph.links))) }
+        ensures inside { IfOk result (λ ls. map number_of ls.items
+            ≡ filter (is_inside (numbered_links self.now.graph) self.now.included)
+            (numbers_below (length self.now.graph.links))) }
     {
         let graph = self.graph();
         let numbers = links_inside(alloc, graph.table().graph(), self.included())?;
@@ -79,8 +85,11 @@ fn root_places(
     direction: DependencyDirection,
 ) -> Result<Vec<usize>, AllocError>
     ensures ascending { IfOk result (λ places. AllPairs (λ u v. u < v) places.items) }
-    ensures each { IfOk result (λ places. (v : ℕ) → Contains places.items v ↔ (IsTrue (has set.now.included v) × IsRoot (direction_of direction) (numbered_links set.now.graph) set.now.included v)) }
-    ensures within { IfOk result (λ places. All (λ v. v < length set.now.graph.packages) places.items) }
+    ensures each { IfOk result (λ places. (v : ℕ) → Contains places.items v
+        ↔ (IsTrue (has set.now.included v)
+        × IsRoot (direction_of direction) (numbered_links set.now.graph) set.now.included v)) }
+    ensures within { IfOk result (λ places. All (λ v. v < length set.now.graph.packages)
+        places.items) }
 {
     root_nodes(
         alloc,
@@ -96,7 +105,8 @@ fn ids_at<'g>(
     places: &[usize],
 ) -> Result<Vec<&'g PackageId>, AllocError>
     requires { All (λ v. v < length graph.now.packages) places.now }
-    ensures { IfOk result (λ ids. map (λ id. id.now) ids.items ≡ map (id_at graph.entry.now) places.now) }
+    ensures { IfOk result (λ ids. map (λ id. id.now) ids.items
+        ≡ map (id_at graph.entry.now) places.now) }
 {
     let mut ids: Vec<&'g PackageId> = Vec::with_capacity(alloc, places.len())?;
     for place in places {

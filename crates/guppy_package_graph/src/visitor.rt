@@ -20,6 +20,7 @@ pub trait PackageLinkVisitor {
     /// Whether the link, which is one of the query's graph, is followed.
     fn visit_link(&mut self, cx: &PackageLinkContext<'_>, link: PackageLink<'_>) -> bool
         requires of_graph { link_graph_of link ≡ (query_of cx.now).graph }
-        ensures step { steps self.old (state self.old) (query_of cx.now, number_of link.entry) result (state self.new) }
+        ensures step { steps self.old (state self.old) (query_of cx.now, number_of link.entry)
+            result (state self.new) }
         ensures same { SameSteps (steps self.old) (steps self.new) };
 }

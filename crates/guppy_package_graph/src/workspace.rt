@@ -40,7 +40,8 @@ impl<'g> Workspace<'g> {
     }
 
     pub fn build_directory(&self) -> Option<&'g str>
-        ensures directory { option_map (λ t. t.now) result ≡ (workspace_of self.now).workspace.build_directory }
+        ensures directory { option_map (λ t. t.now) result
+            ≡ (workspace_of self.now).workspace.build_directory }
     {
         let graph = self.graph;
         graph.table().workspace().build_directory.as_deref()
@@ -48,7 +49,8 @@ impl<'g> Workspace<'g> {
 
     /// The JSON text of the workspace's own metadata.
     pub fn metadata_table(&self) -> Option<&'g str>
-        ensures metadata { option_map (λ t. t.now) result ≡ (workspace_of self.now).workspace.metadata }
+        ensures metadata { option_map (λ t. t.now) result
+            ≡ (workspace_of self.now).workspace.metadata }
     {
         let graph = self.graph;
         graph.table().workspace().metadata.as_deref()
@@ -65,7 +67,9 @@ impl<'g> Workspace<'g> {
     /// The default members, in the order of the record.
     pub fn default_members(&self) -> PackagesAt<'g, 'g>
         ensures graph { packages_graph_of result ≡ workspace_of self.now }
-        ensures members { places_left result ≡ map (place_among (ids_of (workspace_of self.now).packages)) (workspace_of self.now).workspace.default_members }
+        ensures members { places_left result ≡ map
+            (place_among (ids_of (workspace_of self.now).packages))
+            (workspace_of self.now).workspace.default_members }
     {
         let graph = self.graph;
         PackagesAt::of(graph, graph.table().default_members())

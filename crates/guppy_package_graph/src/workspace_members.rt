@@ -2,7 +2,7 @@
 
 ghost use Rattle.std.specs.Prelude.{◌≡◌, ◌↔◌, IfErr, IfOk, IsTrue, All, Some, length, map};
 ghost use Rattle.guppy_package_table.specs.Tables.{ids_of, place_among};
-ghost use Rattle.guppy_workspace_members.specs.Members.{AreByName, AreByPath, member_at_path, member_called};
+ghost use Rattle.guppy_package_table.specs.Members.{AreByName, AreByPath, member_at_path, member_called};
 ghost use Rattle.guppy_package_graph.specs.IdViews.{id_places_left, ids_graph_of};
 ghost use Rattle.guppy_package_graph.specs.MemberViews.{called_places_left, called_graph_of, path_places_left, path_graph_of};
 ghost use Rattle.guppy_package_graph.specs.Members.{FindsAtPath, FindsCalled, IsMissingName, IsMissingPath, IsMember};
@@ -60,7 +60,9 @@ impl<'g> Workspace<'g> {
     /// The ids of the default members, in the order of the record.
     pub fn default_member_ids(&self) -> PackageIdsAt<'g, 'g>
         ensures graph { ids_graph_of result ≡ workspace_of self.now }
-        ensures members { id_places_left result ≡ map (place_among (ids_of (workspace_of self.now).packages)) (workspace_of self.now).workspace.default_members }
+        ensures members { id_places_left result ≡ map
+            (place_among (ids_of (workspace_of self.now).packages))
+            (workspace_of self.now).workspace.default_members }
     {
         let graph = self.graph();
         PackageIdsAt::of(graph, graph.table().default_members())
@@ -95,9 +97,13 @@ impl<'g> Workspace<'g> {
         alloc: Global,
         paths: &[&str],
     ) -> Result<Vec<PackageMetadata<'g>>, Error>
-        ensures found { IfOk result (λ ms. map (λ path. member_at_path (workspace_of self.now) path.now) paths.now ≡ map Some (map place_of ms.items)) }
-        ensures graphs { IfOk result (λ ms. All (λ m. graph_of m ≡ workspace_of self.now) ms.items) }
-        ensures refused { IfErr result (IsMissingPath (workspace_of self.now) (map (λ path. path.now) paths.now)) }
+        ensures found { IfOk result (λ ms. map (λ path.
+            member_at_path (workspace_of self.now) path.now) paths.now
+            ≡ map Some (map place_of ms.items)) }
+        ensures graphs { IfOk result (λ ms. All (λ m. graph_of m ≡ workspace_of self.now)
+            ms.items) }
+        ensures refused { IfErr result (IsMissingPath (workspace_of self.now)
+            (map (λ path. path.now) paths.now)) }
     {
         let graph = self.graph();
         let places = places_at_paths(alloc, graph, paths)?;
@@ -120,9 +126,13 @@ impl<'g> Workspace<'g> {
         alloc: Global,
         names: &[&str],
     ) -> Result<Vec<PackageMetadata<'g>>, Error>
-        ensures found { IfOk result (λ ms. map (λ name. member_called (workspace_of self.now) name.now) names.now ≡ map Some (map place_of ms.items)) }
-        ensures graphs { IfOk result (λ ms. All (λ m. graph_of m ≡ workspace_of self.now) ms.items) }
-        ensures refused { IfErr result (IsMissingName (workspace_of self.now) (map (λ name. name.now) names.now)) }
+        ensures found { IfOk result (λ ms. map (λ name.
+            member_called (workspace_of self.now) name.now) names.now
+            ≡ map Some (map place_of ms.items)) }
+        ensures graphs { IfOk result (λ ms. All (λ m. graph_of m ≡ workspace_of self.now)
+            ms.items) }
+        ensures refused { IfErr result (IsMissingName (workspace_of self.now)
+            (map (λ name. name.now) names.now)) }
     {
         let graph = self.graph();
         let places = places_called(alloc, graph, names)?;

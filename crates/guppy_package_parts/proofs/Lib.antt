@@ -1,3 +1,6 @@
+pub mod SetFacts
+pub mod TextParts
+pub mod RequestFacts
 pub mod TernaryFacts
 pub mod StatusFacts
 pub mod LineFacts

@@ -1,3 +1,15 @@
+pub mod PackageIds
+pub mod DependencyKinds
+pub mod Directions
+pub mod Warnings
+pub mod WarningViews
+pub mod SortedSets
+pub mod Sources
+pub mod SourceViews
+pub mod Publishing
+pub mod PublishView
+pub mod BuildTargets
+pub mod BuildTargetViews
 pub mod Ternaries
 pub mod Statuses
 pub mod PlatformViews

@@ -2,7 +2,7 @@ ghost use Rattle.std.specs.Prelude.{◌≡◌, ◌&&◌, MatchOption, [], false,
 ghost use Rattle.std.specs.List.{list_any};
 ghost use Rattle.std.specs.Str.{bytes_eq};
 ghost use Rattle.list_facts.specs.Texts.{texts};
-ghost use Rattle.guppy_row_parts.specs.DependencyKinds.{line_kind_of};
+ghost use Rattle.guppy_package_parts.specs.DependencyKinds.{line_kind_of};
 ghost use Rattle.guppy_package_parts.specs.Lines.{asks_defaults, asks_no_defaults, is_kind, lists};
 ghost use Rattle.guppy_package_parts.specs.LineViews.{is_in_part};
 ghost use Rattle.guppy_package_parts.specs.NameViews.{features_left};
@@ -13,12 +13,12 @@ ghost use Rattle.guppy_package_parts.specs.Statuses.{is_never, kept_specs, statu
 ghost use Rattle.guppy_package_parts.specs.StatusViews.{status_view};
 ghost use Rattle.guppy_package_parts.specs.Ternaries.{greater};
 
+use crate::dependency_kind::DependencyKind;
 use crate::enabled_ternary::EnabledTernary;
 use crate::lines::{LineTest, Lines, Part};
 use crate::platform::{Platform, PlatformSpec};
 use crate::platform_status::PlatformStatus;
 use crate::requirement_features::RequirementFeatures;
-use guppy_row_parts::DependencyKind;
 use workspace_record::{LineKind, LineRecord, LinkRecord};
 
 /// What a package requires of a dependency, in one section of its manifest.
@@ -38,21 +38,25 @@ pub struct EnabledStatus<'g> {
 impl<'g> EnabledStatus<'g> {
     /// Whether it is neither required nor optional on any platform.
     pub fn is_never(&self) -> bool
-        ensures { result ≡ is_never (required_value self.now) && is_never (optional_value self.now) }
+        ensures { result ≡ is_never (required_value self.now)
+            && is_never (optional_value self.now) }
     {
         self.required.is_never() && self.optional.is_never()
     }
 
     /// Whether it is required, on the platforms that are asked about.
     pub fn required_on<P: Platform>(&self, platform_spec: &PlatformSpec<P>) -> EnabledTernary
-        ensures { result ≡ status_of (spec_view P.answers platform_spec.now) (kept_specs (required_value self.now)) }
+        ensures { result ≡ status_of (spec_view P.answers platform_spec.now)
+            (kept_specs (required_value self.now)) }
     {
         self.required.enabled_on(platform_spec)
     }
 
     /// Whether it is required or optional, on the platforms that are asked about.
     pub fn enabled_on<P: Platform>(&self, platform_spec: &PlatformSpec<P>) -> EnabledTernary
-        ensures { let asked = spec_view P.answers platform_spec.now in result ≡ greater (status_of asked (kept_specs (required_value self.now))) (status_of asked (kept_specs (optional_value self.now))) }
+        ensures { let asked = spec_view P.answers platform_spec.now in result
+            ≡ greater (status_of asked (kept_specs (required_value self.now)))
+            (status_of asked (kept_specs (optional_value self.now))) }
     {
         self.required.enabled_on(platform_spec) | self.optional.enabled_on(platform_spec)
     }
@@ -75,7 +79,8 @@ impl<'g> EnabledStatus<'g> {
 impl<'g> DependencyReq<'g> {
     /// What the lines of this kind say in a link's row.
     pub fn of(link: &'g LinkRecord, kind: DependencyKind) -> DependencyReq<'g>
-        ensures { requirement_lines result ≡ filter (is_kind (line_kind_of kind)) link.entry.now.lines }
+        ensures { requirement_lines result
+            ≡ filter (is_kind (line_kind_of kind)) link.entry.now.lines }
     {
         DependencyReq {
             lines: link.lines.as_slice(),
@@ -165,7 +170,8 @@ fn has_line_of_kind(lines: &[LineRecord], kind: LineKind) -> bool
 
 // A feature's name as a line lists it: a status keeps this text, and not the caller's.
 fn own_text<'g>(lines: &'g [LineRecord], feature: &str) -> Option<&'g str>
-    ensures { MatchOption result (filter (lists feature.now) lines.entry.now ≡ []) (λ t. t.now ≡ feature.now) }
+    ensures { MatchOption result (filter (lists feature.now) lines.entry.now ≡ [])
+        (λ t. t.now ≡ feature.now) }
 {
     for line in lines {
         if let Some(own) = text_among(&line.features, feature) {
@@ -176,7 +182,8 @@ fn own_text<'g>(lines: &'g [LineRecord], feature: &str) -> Option<&'g str>
 }
 
 fn text_among<'g>(names: &'g [String], text: &str) -> Option<&'g str>
-    ensures { MatchOption result (list_any (bytes_eq text.now) (texts names.entry.now) ≡ false) (λ t. t.now ≡ text.now) }
+    ensures { MatchOption result (list_any (bytes_eq text.now) (texts names.entry.now) ≡ false)
+        (λ t. t.now ≡ text.now) }
 {
     for name in names {
         if text == name.as_str() {

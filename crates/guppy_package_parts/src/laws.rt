@@ -9,7 +9,7 @@ ghost use Rattle.guppy_package_parts.specs.StatusViews.{specs_left};
 
 use crate::platform_status::TargetSpecs;
 use crate::requirement_features::RequirementFeatures;
-use guppy_row_parts::SortedSet;
+use crate::sorted_set::SortedSet;
 
 /// `&` on answers is the minimum of Disabled, Unknown and Enabled, in this order.
 pub fn and_is_minimum()
@@ -40,7 +40,8 @@ pub fn ids_are_lawful()
 /// The features that are required of a package end: they are exactly those that are left.
 pub fn required_features_end(features: &RequirementFeatures<'_>)
     ensures ends { IsFinite (⟦<RequirementFeatures<'static> as Iterator>⟧.remaining features.now) }
-    ensures left { size (⟦<RequirementFeatures<'static> as Iterator>⟧.remaining features.now) ≡ length (features_left features.now) }
+    ensures left { size (⟦<RequirementFeatures<'static> as Iterator>⟧.remaining features.now)
+        ≡ length (features_left features.now) }
 {
     let _ = features;
 }
@@ -48,7 +49,8 @@ pub fn required_features_end(features: &RequirementFeatures<'_>)
 /// The specs of a status end: they are exactly those that are left.
 pub fn target_specs_end(specs: &TargetSpecs<'_>)
     ensures ends { IsFinite (⟦<TargetSpecs<'static> as Iterator>⟧.remaining specs.now) }
-    ensures left { size (⟦<TargetSpecs<'static> as Iterator>⟧.remaining specs.now) ≡ length (specs_left specs.now) }
+    ensures left { size (⟦<TargetSpecs<'static> as Iterator>⟧.remaining specs.now)
+        ≡ length (specs_left specs.now) }
 {
     let _ = specs;
 }

@@ -6,7 +6,7 @@ ghost use Rattle.guppy_package_parts.specs.Lines.{line_at};
 ghost use Rattle.guppy_package_parts.specs.LineChoices.{takes};
 ghost use Rattle.guppy_package_parts.specs.LineViews.{is_line_of, lines_of};
 
-use guppy_row_parts::contains_text;
+use crate::texts::contains_text;
 use workspace_record::{LineKind, LineRecord, LinkRecord};
 
 /// Which of the lines of one kind, all required or all optional.
@@ -76,7 +76,8 @@ pub(crate) enum Lines<'g> {
 impl<'g> Lines<'g> {
     /// The first line and the others.
     pub(crate) fn split_first(self) -> Option<(&'g LineRecord, Lines<'g>)>
-        ensures { MatchOption result (lines_of self.entry ≡ []) (λ p. lines_of self.entry ≡ p.0.now ∷ lines_of p.1) }
+        ensures { MatchOption result (lines_of self.entry ≡ [])
+            (λ p. lines_of self.entry ≡ p.0.now ∷ lines_of p.1) }
     {
         match self {
             Lines::Passing(lines, test) => {
@@ -99,7 +100,9 @@ fn first_passing<'g>(
     lines: &'g [LineRecord],
     test: LineTest<'g>,
 ) -> Option<(&'g LineRecord, &'g [LineRecord])>
-    ensures { MatchOption result (filter (is_line_of test.entry) lines.entry.now ≡ []) (λ p. filter (is_line_of test.entry) lines.entry.now ≡ p.0.now ∷ filter (is_line_of test.entry) p.1.now) }
+    ensures { MatchOption result (filter (is_line_of test.entry) lines.entry.now ≡ [])
+        (λ p. filter (is_line_of test.entry) lines.entry.now
+        ≡ p.0.now ∷ filter (is_line_of test.entry) p.1.now) }
 {
     let mut left = lines;
     while let Some((line, others)) = left.split_first() {
@@ -116,7 +119,10 @@ fn first_chosen<'g>(
     places: &'g [(usize, usize)],
     choice: LineChoice,
 ) -> Option<(&'g LineRecord, &'g [(usize, usize)])>
-    ensures { MatchOption result (filter (takes choice) (filter_map (line_at links.entry.now) places.entry.now) ≡ []) (λ p. filter (takes choice) (filter_map (line_at links.entry.now) places.entry.now) ≡ p.0.now ∷ filter (takes choice) (filter_map (line_at links.entry.now) p.1.now)) }
+    ensures { MatchOption result (filter (takes choice)
+        (filter_map (line_at links.entry.now) places.entry.now) ≡ [])
+        (λ p. filter (takes choice) (filter_map (line_at links.entry.now) places.entry.now)
+        ≡ p.0.now ∷ filter (takes choice) (filter_map (line_at links.entry.now) p.1.now)) }
 {
     let mut left = places;
     while let Some((line, others)) = first_named(links, left) {
@@ -132,7 +138,9 @@ fn first_named<'g>(
     links: &'g [LinkRecord],
     places: &'g [(usize, usize)],
 ) -> Option<(&'g LineRecord, &'g [(usize, usize)])>
-    ensures { MatchOption result (filter_map (line_at links.entry.now) places.entry.now ≡ []) (λ p. filter_map (line_at links.entry.now) places.entry.now ≡ p.0.now ∷ filter_map (line_at links.entry.now) p.1.now) }
+    ensures { MatchOption result (filter_map (line_at links.entry.now) places.entry.now ≡ [])
+        (λ p. filter_map (line_at links.entry.now) places.entry.now
+        ≡ p.0.now ∷ filter_map (line_at links.entry.now) p.1.now) }
 {
     let mut left = places;
     while let Some((place, others)) = left.split_first() {

@@ -35,7 +35,8 @@ impl<'g> PlatformStatus<'g> {
     /// of them is there.
     pub fn over(links: &'g [LinkRecord], lines: &'g [(usize, usize)]) -> PlatformStatus<'g>
         requires { All (IsLineAt links.now) lines.now }
-        ensures status { IsStatusOf (specs_of (lines_at links.entry.now lines.entry.now)) (status_view result) }
+        ensures status { IsStatusOf (specs_of (lines_at links.entry.now lines.entry.now))
+            (status_view result) }
     {
         PlatformStatus::of(Lines::Named(links, lines))
     }
@@ -46,7 +47,8 @@ impl<'g> PlatformStatus<'g> {
         lines: &'g [(usize, usize)],
         choice: LineChoice,
     ) -> PlatformStatus<'g>
-        ensures status { IsStatusOf (specs_of (filter (takes choice) (lines_at links.entry.now lines.entry.now))) (status_view result) }
+        ensures status { IsStatusOf (specs_of (filter (takes choice)
+            (lines_at links.entry.now lines.entry.now))) (status_view result) }
     {
         PlatformStatus::of(Lines::Chosen(links, lines, choice))
     }
@@ -87,7 +89,8 @@ impl<'g> PlatformStatus<'g> {
 
     /// Whether it is on, on the platforms that are asked about.
     pub fn enabled_on<P: Platform>(&self, platform_spec: &PlatformSpec<P>) -> EnabledTernary
-        ensures { result ≡ status_of (spec_view P.answers platform_spec.now) (kept_specs (status_view self.now)) }
+        ensures { result ≡ status_of (spec_view P.answers platform_spec.now)
+            (kept_specs (status_view self.now)) }
     {
         match self {
             PlatformStatus::Never => EnabledTernary::Disabled,
@@ -113,7 +116,8 @@ fn has_line_without_spec(lines: Lines<'_>) -> bool
 impl<'g> PlatformEval<'g> {
     /// Whether a spec names one of the platforms that are asked about.
     pub fn eval<P: Platform>(&self, platform_spec: &PlatformSpec<P>) -> EnabledTernary
-        ensures { result ≡ status_of (spec_view P.answers platform_spec.now) (map Some (eval_specs self.now)) }
+        ensures { result ≡ status_of (spec_view P.answers platform_spec.now)
+            (map Some (eval_specs self.now)) }
     {
         let mut greatest = EnabledTernary::Disabled;
         let mut left = self.lines;
@@ -134,7 +138,8 @@ impl<'g> PlatformEval<'g> {
 
 // The first line's spec that there is, and the lines after it.
 fn first_spec<'g>(lines: Lines<'g>) -> Option<(&'g str, Lines<'g>)>
-    ensures { MatchOption result (given_specs (lines_of lines.entry) ≡ []) (λ p. given_specs (lines_of lines.entry) ≡ p.0.now ∷ given_specs (lines_of p.1)) }
+    ensures { MatchOption result (given_specs (lines_of lines.entry) ≡ [])
+        (λ p. given_specs (lines_of lines.entry) ≡ p.0.now ∷ given_specs (lines_of p.1)) }
 {
     let mut left = lines;
     while let Some((line, others)) = left.split_first() {

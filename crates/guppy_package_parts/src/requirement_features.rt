@@ -59,7 +59,8 @@ impl<'g> Iterator for RequirementFeatures<'g> {
 
 impl<'g> Names<'g> {
     fn of(lines: &'g [LineRecord], kind: LineKind, optional: bool) -> Names<'g>
-        ensures { names_left result ≡ each_once (listed (filter (is_in_half optional) (lines_of_kind kind lines.entry.now))) }
+        ensures { names_left result ≡ each_once
+            (listed (filter (is_in_half optional) (lines_of_kind kind lines.entry.now))) }
     {
         let test = LineTest {
             kind,
@@ -75,7 +76,8 @@ impl<'g> Names<'g> {
 
     // The first name and the others.
     fn split_first(self) -> Option<(&'g str, Names<'g>)>
-        ensures { MatchOption result (names_left self.entry ≡ []) (λ p. names_left self.entry ≡ p.0.now ∷ names_left p.1) }
+        ensures { MatchOption result (names_left self.entry ≡ [])
+            (λ p. names_left self.entry ≡ p.0.now ∷ names_left p.1) }
     {
         let Names { lines, test, last } = self;
         match lowest_above(lines, test, last) {
@@ -97,7 +99,9 @@ fn lowest_above<'g>(
     test: LineTest<'g>,
     last: Option<&'g str>,
 ) -> Option<&'g str>
-    ensures { option_map (λ t. t.now) result ≡ lowest_from None (filter (is_above (option_map (λ t. t.now) last.entry)) (listed (filter (is_line_of test.entry) lines.entry.now))) }
+    ensures { option_map (λ t. t.now) result
+        ≡ lowest_from None (filter (is_above (option_map (λ t. t.now) last.entry))
+        (listed (filter (is_line_of test.entry) lines.entry.now))) }
 {
     let mut lowest: Option<&'g str> = None;
     for line in lines {
@@ -112,7 +116,10 @@ fn lowest_of_line<'g>(
     last: Option<&'g str>,
     least: Option<&'g str>,
 ) -> Option<&'g str>
-    ensures { option_map (λ t. t.now) result ≡ lowest_from (option_map (λ t. t.now) least.entry) (filter (is_above (option_map (λ t. t.now) last.entry)) (listed (filter (is_line_of test.entry) (line.entry.now ∷ [])))) }
+    ensures { option_map (λ t. t.now) result
+        ≡ lowest_from (option_map (λ t. t.now) least.entry)
+        (filter (is_above (option_map (λ t. t.now) last.entry))
+        (listed (filter (is_line_of test.entry) (line.entry.now ∷ [])))) }
 {
     if test.passes(line) {
         lowest_of(&line.features, last, least)
@@ -126,7 +133,9 @@ fn lowest_of<'g>(
     last: Option<&'g str>,
     least: Option<&'g str>,
 ) -> Option<&'g str>
-    ensures { option_map (λ t. t.now) result ≡ lowest_from (option_map (λ t. t.now) least.entry) (filter (is_above (option_map (λ t. t.now) last.entry)) (texts names.entry.now)) }
+    ensures { option_map (λ t. t.now) result
+        ≡ lowest_from (option_map (λ t. t.now) least.entry)
+        (filter (is_above (option_map (λ t. t.now) last.entry)) (texts names.entry.now)) }
 {
     let mut lowest = least;
     for name in names {
@@ -137,7 +146,9 @@ fn lowest_of<'g>(
 
 // The lesser of two names, where the second is above the last one.
 fn lower_above<'g>(last: Option<&'g str>, least: Option<&'g str>, name: &'g str) -> Option<&'g str>
-    ensures { option_map (λ t. t.now) result ≡ lower_above (option_map (λ t. t.now) last.entry) (option_map (λ t. t.now) least.entry) name.entry.now }
+    ensures { option_map (λ t. t.now) result
+        ≡ lower_above (option_map (λ t. t.now) last.entry) (option_map (λ t. t.now) least.entry)
+        name.entry.now }
 {
     if is_above(last, name) {
         lower(least, name)
@@ -156,7 +167,8 @@ fn is_above(last: Option<&str>, name: &str) -> bool
 }
 
 fn lower<'g>(least: Option<&'g str>, name: &'g str) -> Option<&'g str>
-    ensures { option_map (λ t. t.now) result ≡ lower (option_map (λ t. t.now) least.entry) name.entry.now }
+    ensures { option_map (λ t. t.now) result
+        ≡ lower (option_map (λ t. t.now) least.entry) name.entry.now }
 {
     match least {
         Some(least) if !(name < least) => Some(least),

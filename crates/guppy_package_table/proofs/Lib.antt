@@ -4,3 +4,5 @@ pub mod Places
 pub mod LinkFacts
 pub mod TableFacts
 pub mod PushFacts
+pub mod OrderFacts
+pub mod ApartFacts

@@ -7,7 +7,7 @@ use Rattle.std.specs.Cmp.Lexicographic.{bytes_decides}
 use Rattle.std.specs.List.{position_or_len}
 use Rattle.std.specs.Str.{bytes_eq}
 use Rattle.workspace_record.specs.Records.{Text, Package, Link, Member, WorkspaceDetails}
-use Rattle.package_rules.specs.Kept.{IsMemberId, IsPackageId}
+use Rattle.guppy_package_rules.specs.Kept.{IsMemberId, IsPackageId}
 use Rattle.guppy_package_table.specs.Tables.{AreKnownEnds, ids_of, place_among}
 
 pub ends_before : {X : Type 0} (p : X → Bool) (xs : List X) (k : ℕ) (d : X) → k < length xs → p (get_or xs k d) ≡ true → position_or_len p xs < length xs

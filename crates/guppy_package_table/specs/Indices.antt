@@ -2,12 +2,12 @@
 use Rattle.std.specs.Prelude.{◌≡◌, ◌≢◌, ◌<◌, List, All, AllPairs, map, length, nat_lt, string_bytes}
 use Rattle.numbered_graph.specs.Listings.{IsListing}
 use Rattle.numbered_graph.specs.Sets.{has}
-use Rattle.package_rules.specs.Kept.{IsMemberId, IsPackageId}
-use Rattle.package_rules.specs.Readings.{AreRequirementsOf, AreVersionsOf}
+use Rattle.guppy_package_rules.specs.Kept.{IsMemberId, IsPackageId}
+use Rattle.guppy_package_rules.specs.Readings.{AreRequirementsOf, AreVersionsOf}
 use Rattle.workspace_record.specs.Records.{Package, Link, WorkspaceDetails}
 use Rattle.guppy_package_table.specs.LinkRows.{name_in_rust}
 use Rattle.guppy_package_table.specs.Tables.{firm_flags, ids_of, links_among}
-use Rattle.guppy_package_table.specs.Members.{AreMembers}
+use Rattle.guppy_package_table.specs.MemberPlaces.{AreMembers}
 use Rattle.guppy_package_table.specs.declared.indices.LinkIndices.{LinkIndices}
 use Rattle.guppy_package_table.specs.declared.indices.PackageIndices.{PackageIndices}
 

@@ -4,5 +4,6 @@ pub mod LinkRows
 pub mod Targets
 pub mod TableLinks
 pub mod Tables
-pub mod Members
+pub mod MemberPlaces
 pub mod Indices
+pub mod Members

@@ -3,7 +3,7 @@ use Rattle.std.specs.Prelude.{◌≡◌, ℕ, Bool, true, false, List, All, Some
 use Rattle.workspace_record.specs.Records.{Target}
 use Rattle.workspace_record.specs.declared.kinds.TargetKind.{TargetKind}
 use Rattle.workspace_record.specs.declared.kinds.TargetKind.TheVariants as kind
-use Rattle.guppy_row_parts.specs.BuildTargets.{TargetId, id_of}
+use Rattle.guppy_package_parts.specs.BuildTargets.{TargetId, id_of}
 
 -- the target is called so
 abbrev pub HasId : TargetId → Target → Type 0

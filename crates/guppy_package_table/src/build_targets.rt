@@ -21,7 +21,7 @@ impl<'g> Iterator for BuildTargets<'g> {
     type Item = BuildTarget<'g>;
 
     ghost use Rattle.std.specs.Iterator.{YieldsFirstBy, item_count};
-    ghost use Rattle.guppy_row_parts.specs.BuildTargetViews.{target_view};
+    ghost use Rattle.guppy_package_parts.specs.BuildTargetViews.{target_view};
     ghost use Rattle.guppy_package_table.specs.PackageDetailsViews.{targets_left};
 
     ghost next_gives = { YieldsFirstBy target_view targets_left };
@@ -41,7 +41,7 @@ impl<'g> Iterator for BuildTargets<'g> {
 
 impl<'g> DoubleEndedIterator for BuildTargets<'g> {
     ghost use Rattle.std.specs.Iterator.{YieldsLastBy};
-    ghost use Rattle.guppy_row_parts.specs.BuildTargetViews.{target_view};
+    ghost use Rattle.guppy_package_parts.specs.BuildTargetViews.{target_view};
     ghost use Rattle.guppy_package_table.specs.PackageDetailsViews.{targets_left};
 
     ghost next_back_gives = { YieldsLastBy target_view targets_left };

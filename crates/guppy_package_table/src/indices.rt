@@ -3,7 +3,7 @@
 ghost use Rattle.std.specs.Prelude.{◌≡◌, IfOk, length, map, nat_lt};
 ghost use Rattle.numbered_graph.specs.Listings.{IsListing};
 ghost use Rattle.numbered_graph.specs.Sets.{has};
-ghost use Rattle.package_rules.specs.Readings.{AreRequirementsOf, AreVersionsOf};
+ghost use Rattle.guppy_package_rules.specs.Readings.{AreRequirementsOf, AreVersionsOf};
 ghost use Rattle.guppy_package_table.specs.Indices.{ArePackagesKept, IndexesLinks, IndexesPackages};
 ghost use Rattle.guppy_package_table.specs.Tables.{AreKnownEnds, firm_flags, ids_of, link_between};
 
@@ -153,7 +153,10 @@ fn graph_of(
     links: &[LinkRow],
 ) -> Result<Graph, AllocError>
     requires { AreKnownEnds ids.now.keys links.now }
-    ensures { IfOk result (λ g. g ≡ record { nodes = length ids.now.keys; links = map (link_between ids.now.keys) links.now }) }
+    ensures { IfOk result (λ g. g ≡ record {
+      nodes = length ids.now.keys;
+      links = map (link_between ids.now.keys) links.now;
+    }) }
 {
     let numbered = numbered_links(alloc, ids, links)?;
     let graph = Graph::new(alloc, ids.len(), numbered)?;
@@ -162,7 +165,8 @@ fn graph_of(
 
 fn listing_of(alloc: Global, graph: &Graph, links: &[LinkRow]) -> Result<Vec<usize>, AllocError>
     requires { length graph.now.links ≡ length links.now }
-    ensures { IfOk result (λ xs. IsListing graph.now.links (has (firm_flags links.now)) (λ v. nat_lt v graph.now.nodes) xs.items) }
+    ensures { IfOk result (λ xs. IsListing graph.now.links (has (firm_flags links.now))
+        (λ v. nat_lt v graph.now.nodes) xs.items) }
 {
     let firm = firm_links(alloc, links)?;
     let order = listing(alloc, graph, &firm)?;

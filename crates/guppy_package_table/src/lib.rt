@@ -1,14 +1,20 @@
 //! The rows of a package graph with what is found in them at once: packages by id, members by path and
 //! by name, the links of a package by both ends, and what the accessors of one row lend.
+//!
+//! Begin with `specs/Tables.antt`, then `table.rt`. How members and ids are found is private; that a
+//! table is one of its rows (`IsTableOf`) is what graphs stand on.
 
 #![tactic(auto)]
 
 mod build_targets;
+mod found_members;
 mod indices;
 mod link_details;
+mod member_texts;
 mod members;
 mod named_features;
 mod numbering;
+mod orders;
 mod package_details;
 mod package_ids;
 mod rust_names;
@@ -16,8 +22,11 @@ mod table;
 mod table_links;
 
 pub use crate::build_targets::BuildTargets;
+pub use crate::found_members::{find_by_name, find_by_path};
 pub use crate::link_details::LinkDetails;
+pub use crate::member_texts::{name_at, path_at};
 pub use crate::named_features::NamedFeatures;
+pub use crate::orders::{MemberOrders, member_orders};
 pub use crate::package_details::PackageDetails;
 pub use crate::table::PackageTable;
-pub use package_rules::PackageGraphError;
+pub use guppy_package_rules::PackageGraphError;

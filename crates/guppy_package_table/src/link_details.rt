@@ -2,7 +2,7 @@ ghost use Rattle.std.specs.Prelude.{◌≡◌, Ok, filter, map, not, option_map}
 ghost use Rattle.std.specs.List.{list_any};
 ghost use Rattle.semver.specs.Identifiers.{comparator_view};
 ghost use Rattle.semver.specs.Parse.{req_of};
-ghost use Rattle.guppy_row_parts.specs.DependencyKinds.{line_kind_of};
+ghost use Rattle.guppy_package_parts.specs.DependencyKinds.{line_kind_of};
 ghost use Rattle.guppy_package_parts.specs.Lines.{is_kind};
 ghost use Rattle.guppy_package_parts.specs.RequirementViews.{requirement_lines};
 ghost use Rattle.workspace_record.specs.declared.kinds.LineKind.TheVariants.{Normal, Build, Dev};
@@ -30,7 +30,8 @@ impl<'g> LinkDetails<'g> {
         requirement: &'g VersionReq,
         resolved_name: &'g str,
     ) -> LinkDetails<'g>
-        requires read { req_of row.now.requirement ≡ Ok (map comparator_view requirement.now.comparators.items) }
+        requires read { req_of row.now.requirement
+            ≡ Ok (map comparator_view requirement.now.comparators.items) }
         requires resolved { resolved_name.now ≡ name_in_rust row.now.name }
         ensures { row_of result ≡ row.entry.now }
     {
@@ -58,7 +59,8 @@ impl<'g> LinkDetails<'g> {
 
     /// What `semver` reads in the row's requirement.
     pub fn version_req(&self) -> &'g VersionReq
-        ensures { req_of (row_of self.now).requirement ≡ Ok (map comparator_view result.now.comparators.items) }
+        ensures { req_of (row_of self.now).requirement
+            ≡ Ok (map comparator_view result.now.comparators.items) }
     {
         self.requirement
     }
@@ -108,7 +110,8 @@ impl<'g> LinkDetails<'g> {
 
     /// What the lines of a kind require.
     pub fn req_for_kind(&self, kind: DependencyKind) -> DependencyReq<'g>
-        ensures { requirement_lines result ≡ filter (is_kind (line_kind_of kind)) (row_of self.now).lines }
+        ensures { requirement_lines result
+            ≡ filter (is_kind (line_kind_of kind)) (row_of self.now).lines }
     {
         DependencyReq::of(self.row, kind)
     }

@@ -2,7 +2,7 @@
 
 ghost use Rattle.std.specs.Prelude.{◌≡◌, ◌≢◌, AllPairs, IfOk, find, map, option_copied, slice_get, string_bytes};
 ghost use Rattle.std.specs.Str.{bytes_eq};
-ghost use Rattle.guppy_package_table.specs.Members.{AreMembers};
+ghost use Rattle.guppy_package_table.specs.MemberPlaces.{AreMembers};
 ghost use Rattle.guppy_package_table.specs.Tables.{place_among};
 
 use crate::package_ids::{insert_id, place_of_id};
@@ -67,7 +67,8 @@ fn member_numbers(
     members: &IndexSet<PackageId>,
     package_ids: &[PackageId],
 ) -> Result<Vec<usize>, AllocError>
-    ensures { IfOk result (λ numbers. numbers.items ≡ map (place_among members.now.keys) package_ids.now) }
+    ensures { IfOk result (λ numbers. numbers.items
+        ≡ map (place_among members.now.keys) package_ids.now) }
 {
     let mut numbers = Vec::with_capacity(alloc, package_ids.len())?;
     for id in package_ids {
@@ -82,7 +83,8 @@ fn member_places(
     ids: &IndexSet<PackageId>,
     members: &[MemberRow],
 ) -> Result<Vec<usize>, AllocError>
-    ensures { IfOk result (λ places. places.items ≡ map (λ m. place_among ids.now.keys m.package_id) members.now) }
+    ensures { IfOk result (λ places. places.items
+        ≡ map (λ m. place_among ids.now.keys m.package_id) members.now) }
 {
     let mut places = Vec::with_capacity(alloc, members.len())?;
     for member in members {
@@ -97,7 +99,8 @@ fn default_places(
     ids: &IndexSet<PackageId>,
     members: &[String],
 ) -> Result<Vec<usize>, AllocError>
-    ensures { IfOk result (λ places. places.items ≡ map (λ m. place_among ids.now.keys (string_bytes m)) members.now) }
+    ensures { IfOk result (λ places. places.items
+        ≡ map (λ m. place_among ids.now.keys (string_bytes m)) members.now) }
 {
     let mut places = Vec::with_capacity(alloc, members.len())?;
     for member in members {

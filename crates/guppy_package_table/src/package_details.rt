@@ -4,10 +4,10 @@ ghost use Rattle.std.specs.Str.{bytes_eq};
 ghost use Rattle.list_facts.specs.Texts.{texts};
 ghost use Rattle.semver.specs.Identifiers.{parts_of};
 ghost use Rattle.semver.specs.Parse.{version_parts};
-ghost use Rattle.guppy_row_parts.specs.BuildTargetViews.{id_view, target_view};
-ghost use Rattle.guppy_row_parts.specs.PublishView.{publish_view};
-ghost use Rattle.guppy_row_parts.specs.Sources.{source_of};
-ghost use Rattle.guppy_row_parts.specs.SourceViews.{source_view};
+ghost use Rattle.guppy_package_parts.specs.BuildTargetViews.{id_view, target_view};
+ghost use Rattle.guppy_package_parts.specs.PublishView.{publish_view};
+ghost use Rattle.guppy_package_parts.specs.Sources.{source_of};
+ghost use Rattle.guppy_package_parts.specs.SourceViews.{source_view};
 ghost use Rattle.guppy_package_table.specs.Targets.{HasId, IsFirstWith, is_build_script, is_proc_macro};
 
 use crate::build_targets::BuildTargets;
@@ -99,7 +99,8 @@ impl<'g> PackageDetails<'g> {
 
     /// A member's source is the workspace, with its path there.
     pub fn source(&self) -> PackageSource<'g>
-        ensures { source_view result ≡ source_of (member_path_of self.now) (row_of self.now).info.source (row_of self.now).info.path }
+        ensures { source_view result ≡ source_of (member_path_of self.now)
+            (row_of self.now).info.source (row_of self.now).info.path }
     {
         PackageSource::of(self.row, self.member_path)
     }
@@ -213,8 +214,10 @@ impl<'g> PackageDetails<'g> {
 
     /// The first target with the id; the rules of a record leave one at most.
     pub fn build_target(&self, id: &BuildTargetId<'_>) -> Option<BuildTarget<'g>>
-        ensures found { IfSome result (λ t. IsFirstWith (id_view id.now) (row_of self.now).targets (target_view t)) }
-        ensures none { IfNone result (All (λ t. ¬ HasId (id_view id.now) t) (row_of self.now).targets) }
+        ensures found { IfSome result (λ t. IsFirstWith (id_view id.now) (row_of self.now).targets
+            (target_view t)) }
+        ensures none { IfNone result (All (λ t. ¬ HasId (id_view id.now) t)
+            (row_of self.now).targets) }
     {
         let row = self.row;
         let target = target_with(&row.targets, *id)?;
@@ -242,7 +245,8 @@ impl<'g> PackageDetails<'g> {
 
     /// Whether a feature is called `default`.
     pub fn has_default_feature(&self) -> bool
-        ensures { result ≡ list_any (λ f. bytes_eq f.name (codes "default")) (row_of self.now).features }
+        ensures { result ≡ list_any (λ f. bytes_eq f.name (codes "default"))
+            (row_of self.now).features }
     {
         let row = self.row;
         row.features

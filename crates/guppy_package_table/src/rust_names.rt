@@ -8,7 +8,8 @@ use std::alloc::{AllocError, Global};
 
 /// The name of each link as Rust writes it.
 pub(crate) fn rust_names_of(alloc: Global, links: &[LinkRow]) -> Result<Vec<String>, AllocError>
-    ensures { IfOk result (λ names. map string_bytes names.items ≡ map (λ l. name_in_rust l.name) links.now) }
+    ensures { IfOk result (λ names. map string_bytes names.items
+        ≡ map (λ l. name_in_rust l.name) links.now) }
 {
     let mut names = Vec::with_capacity(alloc, links.len())?;
     for row in links {

@@ -5,9 +5,9 @@ ghost use Rattle.std.specs.Option.{option_copied};
 ghost use Rattle.std.specs.Str.{bytes_eq};
 ghost use Rattle.numbered_graph.specs.Listings.{IsListing};
 ghost use Rattle.numbered_graph.specs.Sets.{has};
-ghost use Rattle.package_rules.specs.Kept.{AreKept, IsRequirement};
-ghost use Rattle.package_rules.specs.Readings.{AreReadIn, AreRequirementsOf, AreVersionsOf};
-ghost use Rattle.package_rules.specs.Refusals.{IsRefusal};
+ghost use Rattle.guppy_package_rules.specs.Kept.{AreKept, IsRequirement};
+ghost use Rattle.guppy_package_rules.specs.Readings.{AreReadIn, AreRequirementsOf, AreVersionsOf};
+ghost use Rattle.guppy_package_rules.specs.Refusals.{IsRefusal};
 ghost use Rattle.guppy_package_table.specs.Indices.{ArePackagesKept, IndexesPackages};
 ghost use Rattle.guppy_package_table.specs.LinkDetailsViews as link_views;
 ghost use Rattle.guppy_package_table.specs.PackageDetailsViews.{member_path_of, row_of};
@@ -21,8 +21,8 @@ use crate::package_details::PackageDetails;
 use crate::package_ids::{find_id, place_of_id};
 use crate::table_links::TableLinks;
 use guppy_package_parts::{LinkRow, MemberRow, PackageId, PackageRow, WorkspaceRow};
+use guppy_package_rules::{PackageGraphError, RowReadings, read_requirements, read_rows};
 use numbered_graph::{Direction, Graph};
-use package_rules::{PackageGraphError, RowReadings, read_requirements, read_rows};
 use semver::{Version, VersionReq};
 use std::alloc::{AllocError, Global};
 use std::marker::Model;
@@ -68,7 +68,8 @@ impl PackageTable {
         links: Vec<LinkRow>,
         workspace: WorkspaceRow,
     ) -> Result<PackageTable, PackageGraphError>
-        ensures built { IfOk result (λ t. AreKept packages.items links.items workspace × IsTableOf packages.items links.items workspace t) }
+        ensures built { IfOk result (λ t. AreKept packages.items links.items workspace
+            × IsTableOf packages.items links.items workspace t) }
         ensures refused { IfErr result (IsRefusal packages.items links.items workspace) }
     {
         let rows = rows_of(alloc, packages, links, workspace)?;
@@ -81,8 +82,11 @@ impl PackageTable {
         alloc: Global,
         rows: Rc<WorkspaceRecord>,
     ) -> Result<PackageTable, PackageGraphError>
-        ensures built { IfOk result (λ t. AreKept rows.value.packages rows.value.links rows.value.workspace × IsTableOf rows.value.packages rows.value.links rows.value.workspace t) }
-        ensures refused { IfErr result (IsRefusal rows.value.packages rows.value.links rows.value.workspace) }
+        ensures built { IfOk result (λ t. AreKept rows.value.packages rows.value.links
+            rows.value.workspace × IsTableOf rows.value.packages rows.value.links
+            rows.value.workspace t) }
+        ensures refused { IfErr result (IsRefusal rows.value.packages rows.value.links
+            rows.value.workspace) }
     {
         let readings = read_record(alloc, rows.as_ref())?;
         let table = PackageTable::of_kept(alloc, rows, readings)?;
@@ -98,7 +102,8 @@ impl PackageTable {
     ) -> Result<PackageTable, AllocError>
         requires kept { AreKept rows.value.packages rows.value.links rows.value.workspace }
         requires read { AreReadIn rows.value.packages rows.value.links readings }
-        ensures { IfOk result (IsTableOf rows.value.packages rows.value.links rows.value.workspace) }
+        ensures { IfOk result (IsTableOf rows.value.packages rows.value.links
+            rows.value.workspace) }
     {
         let RowReadings {
             versions,
@@ -128,10 +133,14 @@ impl PackageTable {
         links: TableLinks,
         requirements: Vec<VersionReq>,
     ) -> Result<PackageTable, AllocError>
-        requires ends { AreKnownEnds (ids_of shared.value.rows.value.packages) (links_of shared.value.rows.value.links links) }
-        requires read { AreRequirementsOf (links_of shared.value.rows.value.links links) requirements.items }
-        requires indexed { IndexesPackages shared.value.rows.value.packages shared.value.rows.value.workspace shared.value.indices }
-        ensures { IfOk result (IsTableOf shared.value.rows.value.packages (links_of shared.value.rows.value.links links) shared.value.rows.value.workspace) }
+        requires ends { AreKnownEnds (ids_of shared.value.rows.value.packages)
+            (links_of shared.value.rows.value.links links) }
+        requires read { AreRequirementsOf (links_of shared.value.rows.value.links links)
+            requirements.items }
+        requires indexed { IndexesPackages shared.value.rows.value.packages
+            shared.value.rows.value.workspace shared.value.indices }
+        ensures { IfOk result (IsTableOf shared.value.rows.value.packages
+            (links_of shared.value.rows.value.links links) shared.value.rows.value.workspace) }
     {
         let rows = shared.as_ref();
         let indices = link_indices(alloc, rows, links.rows(rows.links()), requirements)?;
@@ -155,8 +164,14 @@ impl PackageTable {
 
     /// The same rows, with their packages listed in this order.
     fn listed_so(mut self, listing: Vec<usize>) -> PackageTable
-        requires { IsListing (numbered_links self) (has (firm_flags self.links)) (λ v. nat_lt v (length self.packages)) listing.items }
-        ensures { result ≡ record { packages = self.packages; links = self.links; workspace = self.workspace; listing = listing.items } }
+        requires { IsListing (numbered_links self) (has (firm_flags self.links))
+            (λ v. nat_lt v (length self.packages)) listing.items }
+        ensures { result ≡ record {
+          packages = self.packages;
+          links = self.links;
+          workspace = self.workspace;
+          listing = listing.items;
+        } }
     {
         self.indices.listing = listing;
         self
@@ -185,7 +200,10 @@ impl PackageTable {
 
     /// The places of packages with the links between them, each with its number.
     pub fn graph(&self) -> &Graph
-        ensures { result.now ≡ record { nodes = length self.now.packages; links = numbered_links self.now } }
+        ensures { result.now ≡ record {
+          nodes = length self.now.packages;
+          links = numbered_links self.now;
+        } }
     {
         &self.indices.graph
     }
@@ -194,7 +212,8 @@ impl PackageTable {
     /// have a normal or a build line, unless they lie on a cycle of such links.
     pub fn listing(&self) -> &[usize]
         ensures value { result.now ≡ self.now.listing }
-        ensures listing { IsListing (numbered_links self.now) (has (firm_flags self.now.links)) (λ v. nat_lt v (length self.now.packages)) result.now }
+        ensures listing { IsListing (numbered_links self.now) (has (firm_flags self.now.links))
+            (λ v. nat_lt v (length self.now.packages)) result.now }
     {
         &self.indices.listing
     }
@@ -241,7 +260,8 @@ impl PackageTable {
     pub fn details(&self, place: usize) -> PackageDetails<'_>
         requires { place < length self.now.packages }
         ensures row { slice_get self.now.packages place ≡ Some (row_of result) }
-        ensures path { member_path_of result ≡ option_map (λ m. m.path) (member_of self.now (row_of result).id) }
+        ensures path { member_path_of result ≡ option_map (λ m. m.path)
+            (member_of self.now (row_of result).id) }
     {
         let shared = self.shared.as_ref();
         let row = &shared.packages()[place];
@@ -263,7 +283,8 @@ impl PackageTable {
 
     /// The place of each member's package, in the order of the members.
     pub fn members(&self) -> &[usize]
-        ensures value { result.now ≡ map (λ m. place_among (ids_of self.now.packages) m.package_id) self.now.workspace.members }
+        ensures value { result.now ≡ map (λ m. place_among (ids_of self.now.packages) m.package_id)
+            self.now.workspace.members }
         ensures within { All (λ v. v < length self.now.packages) result.now }
     {
         &self.shared.as_ref().indices.members.places
@@ -271,7 +292,8 @@ impl PackageTable {
 
     /// The place of each default member's package, in their order.
     pub fn default_members(&self) -> &[usize]
-        ensures value { result.now ≡ map (place_among (ids_of self.now.packages)) self.now.workspace.default_members }
+        ensures value { result.now ≡ map (place_among (ids_of self.now.packages))
+            self.now.workspace.default_members }
         ensures within { All (λ v. v < length self.now.packages) result.now }
     {
         &self.shared.as_ref().indices.members.defaults
@@ -281,7 +303,8 @@ impl PackageTable {
     pub fn link_between(&self, from: usize, to: usize) -> Option<usize>
         requires { from < length self.now.packages }
         ensures some { IfSome result (IsFirstBetween from to (numbered_links self.now)) }
-        ensures none { IfNone result (IsClear from to (numbered_links self.now) (length self.now.links)) }
+        ensures none { IfNone result (IsClear from to (numbered_links self.now)
+            (length self.now.links)) }
     {
         first_link_between(self.graph(), from, to)
     }
@@ -338,7 +361,8 @@ fn shared_rows(
     requires kept { ArePackagesKept rows.value.packages rows.value.workspace }
     requires read { AreVersionsOf rows.value.packages versions.items }
     ensures rows { IfOk result (λ shared. shared.value.rows ≡ rows) }
-    ensures indexed { IfOk result (λ shared. IndexesPackages rows.value.packages rows.value.workspace shared.value.indices) }
+    ensures indexed { IfOk result (λ shared. IndexesPackages rows.value.packages
+        rows.value.workspace shared.value.indices) }
 {
     let record = rows.as_ref();
     let indices = package_indices(alloc, &record.packages, &record.workspace, versions)?;
@@ -348,7 +372,8 @@ fn shared_rows(
 
 /// The path in the workspace of the member with a number, if there is one.
 fn member_path(workspace: &WorkspaceRow, number: usize) -> Option<&str>
-    ensures { option_map (λ p. p.now) result ≡ option_map (λ m. m.path) (slice_get workspace.now.members number) }
+    ensures { option_map (λ p. p.now) result
+        ≡ option_map (λ m. m.path) (slice_get workspace.now.members number) }
 {
     let member = member_at(&workspace.members, number)?;
     Some(member.path.as_str())

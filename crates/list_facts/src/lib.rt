@@ -1,5 +1,8 @@
 //! What several crates say of lists of texts: words for contracts, lemmas, and a few functions that
-//! write, copy and sort texts.
+//! write, copy and sort texts. It decides nothing of the subject.
+//!
+//! Begin with `specs/Texts.antt` and `specs/Writers.antt`. All crates stand on the clauses here, so a
+//! change of one is felt everywhere.
 #![tactic(auto)]
 
 mod entries;

@@ -29,7 +29,8 @@ pub fn sorted_texts(mut names: Vec<String>) -> Result<Vec<String>, AllocError>
 /// Sorts the pairs by their first texts, those with one first text by their second, and drops the
 /// repeats.
 pub fn sorted_pairs(mut pairs: Vec<(String, String)>) -> Result<Vec<(String, String)>, AllocError>
-    ensures { IfOk result (λ v. IsAscendingOf pair_cmp (map pair_of pairs.items) (map pair_of v.items)) }
+    ensures { IfOk result (λ v. IsAscendingOf pair_cmp (map pair_of pairs.items)
+        (map pair_of v.items)) }
 {
     pairs.sort()?;
     pairs.dedup();

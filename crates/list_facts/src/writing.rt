@@ -24,7 +24,8 @@ pub fn write_bytes<W: Write>(writer: &mut W, bytes: &[u8]) -> io::Result<()>
 
 /// Writes all the bytes of each piece in order, up to the first fault.
 pub fn write_pieces<W: Write>(writer: &mut W, pieces: &[&[u8]]) -> io::Result<()>
-    ensures { Writes (W.contents writer.old) (W.contents writer.new) result (flat_map (λ p. p.now) pieces.now) }
+    ensures { Writes (W.contents writer.old) (W.contents writer.new) result
+        (flat_map (λ p. p.now) pieces.now) }
 {
     for piece in pieces {
         write_bytes(writer, *piece)?;

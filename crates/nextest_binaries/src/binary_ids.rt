@@ -15,7 +15,8 @@ pub fn binary_id(
     kind: &str,
     target_name: &str,
 ) -> Result<String, AllocError>
-    ensures id { IfOk result (λ id. string_bytes id ≡ binary_id package_name.now kind.now target_name.now) }
+    ensures id { IfOk result (λ id. string_bytes id
+        ≡ binary_id package_name.now kind.now target_name.now) }
 {
     let mut id = String::from_str(alloc, package_name)?;
     if !is_library(kind) {
@@ -32,7 +33,8 @@ fn is_library(kind: &str) -> bool
 }
 
 fn push_target(id: &mut String, kind: &str, name: &str) -> Result<(), AllocError>
-    ensures { OnOk result (string_bytes id.new ≡ string_bytes id.old ++ target_text kind.now name.now) }
+    ensures { OnOk result (string_bytes id.new
+        ≡ string_bytes id.old ++ target_text kind.now name.now) }
 {
     if kind == "test" {
         return id.push_str(name);

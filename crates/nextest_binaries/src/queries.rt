@@ -2,7 +2,7 @@ use crate::binary_kind::RustTestBinaryKind;
 use crate::build_platform::BuildPlatform;
 use crate::rust_binary_id::RustBinaryId;
 use crate::test_name::TestCaseName;
-use guppy_row_parts::PackageId;
+use guppy_package_parts::PackageId;
 
 /// A binary that a filter is asked about.
 #[derive(Clone, Copy, Debug, PartialEq, Eq)]

@@ -63,7 +63,8 @@ impl RustBinaryId {
         kind: &RustTestBinaryKind,
         target_name: &str,
     ) -> Result<RustBinaryId, AllocError>
-        ensures parts { IfOk result (λ id. id ≡ binary_id package_name.now kind.now target_name.now) }
+        ensures parts { IfOk result (λ id. id ≡ binary_id package_name.now kind.now
+            target_name.now) }
     {
         let text = binary_id(alloc, package_name, kind.as_str(), target_name)?;
         Ok(RustBinaryId { text })

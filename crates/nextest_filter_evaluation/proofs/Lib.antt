@@ -1,4 +1,9 @@
+pub mod NameFacts
 pub mod SetFacts
 pub mod FormulaFacts
 pub mod KleeneFacts
 pub mod MeaningFacts
+pub mod ReadyFacts
+pub mod ReducingFacts
+pub mod TurningFacts
+pub mod QuestionFacts

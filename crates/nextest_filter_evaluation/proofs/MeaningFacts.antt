@@ -1,6 +1,6 @@
 -- What compiled filters say, where this is known of the default filter.
 use Rattle.std.proofs.Common.{◌≡◌, ◌∙◌, ◌↔◌, refl, sym, true≢false, Bool, true, false, not, Option, Some, Result, Ok, Err, IfOk, IsTrue}
-use Rattle.nextest_filter_queries.specs.NameTests.{NameTest}
+use Rattle.nextest_filter_evaluation.specs.NameTests.{NameTest}
 use Rattle.nextest_binaries.specs.Queries as asked
 use Rattle.nextest_filter_evaluation.specs.Formulas.{Formula, negation, either, both, leaf, Holds, SomeAnswersGive, EachLeaf, has_leaf}
 use Rattle.nextest_filter_evaluation.specs.Compiled.{Leaf, Packages, Kind, Platform, Binary, BinaryId, Test, Group, Default, All, is_group, is_default}

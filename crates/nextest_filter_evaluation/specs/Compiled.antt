@@ -3,7 +3,7 @@ use Rattle.std.specs.Prelude.{Bool, true, false, List}
 use Rattle.workspace_record.specs.Records.{Text}
 use Rattle.nextest_filter_matchers.specs.declared.source_span.SourceSpan.{SourceSpan}
 use Rattle.nextest_binaries.specs.declared.build_platform.BuildPlatform.{BuildPlatform}
-use Rattle.nextest_filter_queries.specs.NameTests.{NameTest, is_pattern, name_test}
+use Rattle.nextest_filter_evaluation.specs.NameTests.{NameTest, is_pattern, name_test}
 use Rattle.nextest_filter_evaluation.specs.Formulas.{Formula, negation, either, both, leaf}
 use Rattle.nextest_filter_evaluation.specs.declared.filterset_leaf.FiltersetLeaf.{FiltersetLeaf}
 use Rattle.nextest_filter_evaluation.specs.declared.filterset_leaf.FiltersetLeaf.TheVariants as code

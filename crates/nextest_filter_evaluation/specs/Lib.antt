@@ -1,5 +1,10 @@
+pub mod NameTests
+pub mod Groups
 pub mod Formulas
 pub mod Compiled
 pub mod Meaning
 pub mod Kleene
 pub mod SameFilters
+pub mod Searches
+pub mod Ready
+pub mod Questions

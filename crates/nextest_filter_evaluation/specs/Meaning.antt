@@ -1,6 +1,6 @@
 -- What compiled filters say of tests and of binaries.
 use Rattle.std.specs.Prelude.{◌≡◌, Bool, true, false, Contains}
-use Rattle.nextest_filter_queries.specs.NameTests.{NameTest, Suits}
+use Rattle.nextest_filter_evaluation.specs.NameTests.{NameTest, Suits}
 use Rattle.nextest_binaries.specs.Queries as asked
 use Rattle.nextest_filter_evaluation.specs.Formulas.{Formula, Holds, SomeAnswersGive}
 use Rattle.nextest_filter_evaluation.specs.Compiled.{Leaf, Packages, Kind, Platform, Binary, BinaryId, Test, Group, Default, All, None}

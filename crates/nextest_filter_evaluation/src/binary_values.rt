@@ -11,7 +11,8 @@ use crate::compiled_expr::CompiledExpr;
 use crate::eval_context::EvalContext;
 use crate::filterset_leaf::FiltersetLeaf;
 use crate::known_by_part::KnownByPart;
-use nextest_filter_queries::{BinaryQuery, suits};
+use crate::name_tests::suits;
+use nextest_binaries::BinaryQuery;
 use std::alloc::{AllocError, Global};
 
 impl CompiledExpr {
@@ -24,9 +25,14 @@ impl CompiledExpr {
         query: &BinaryQuery<'_>,
         cx: &EvalContext<'_>,
     ) -> Result<Option<bool>, AllocError>
-        ensures exact { IfOk result (λ r. (v : Bool) → (r ≡ Some v) ↔ AllAnswersGive (MayBe (compiled_of cx.now.default_filter.now) (binary_of query.now)) (compiled_of self.now) v) }
-        ensures some { IfOk result (λ r. Tells r (SomeAnswersGive (MayBe (compiled_of cx.now.default_filter.now) (binary_of query.now)) (compiled_of self.now))) }
-        ensures answers { has_leaf has_pattern (compiled_of self.now) ≡ false → has_leaf has_pattern (compiled_of cx.now.default_filter.now) ≡ false → IsOk result }
+        ensures exact { IfOk result (λ r. (v : Bool) → (r ≡ Some v)
+            ↔ AllAnswersGive (MayBe (compiled_of cx.now.default_filter.now) (binary_of query.now))
+            (compiled_of self.now) v) }
+        ensures some { IfOk result (λ r. Tells r
+            (SomeAnswersGive (MayBe (compiled_of cx.now.default_filter.now) (binary_of query.now))
+            (compiled_of self.now))) }
+        ensures answers { has_leaf has_pattern (compiled_of self.now) ≡ false
+            → has_leaf has_pattern (compiled_of cx.now.default_filter.now) ≡ false → IsOk result }
     {
         let default = self.known_default(alloc, query, cx.default_filter)?;
         self.known_of(alloc, query, default)
@@ -39,8 +45,10 @@ impl CompiledExpr {
         query: &BinaryQuery<'_>,
         default_filter: &CompiledExpr,
     ) -> Result<Option<bool>, AllocError>
-        ensures known { IfOk result (λ r. has_leaf is_default (compiled_of self.now) ≡ true → Tells r (DefaultGives (compiled_of default_filter.now) (binary_of query.now))) }
-        ensures answers { has_leaf has_pattern (compiled_of default_filter.now) ≡ false → IsOk result }
+        ensures known { IfOk result (λ r. has_leaf is_default (compiled_of self.now) ≡ true
+            → Tells r (DefaultGives (compiled_of default_filter.now) (binary_of query.now))) }
+        ensures answers { has_leaf has_pattern (compiled_of default_filter.now) ≡ false
+            → IsOk result }
     {
         if !self.has_default() {
             return Ok(None);
@@ -56,7 +64,9 @@ impl CompiledExpr {
         query: &BinaryQuery<'_>,
         default: Option<bool>,
     ) -> Result<Option<bool>, AllocError>
-        ensures known { IfOk result (λ r. Tells r (SomeAnswersGive (LeafGives (may_be default) (binary_of query.now)) (compiled_of self.now))) }
+        ensures known { IfOk result (λ r. Tells r
+            (SomeAnswersGive (LeafGives (may_be default) (binary_of query.now))
+            (compiled_of self.now))) }
         ensures answers { has_leaf has_pattern (compiled_of self.now) ≡ false → IsOk result }
     {
         let mut whole = KnownByPart::whole();
@@ -92,7 +102,8 @@ fn known_of_leaf(
     query: &BinaryQuery<'_>,
     default: Option<bool>,
 ) -> Result<Option<bool>, AllocError>
-    ensures known { IfOk result (λ r. Tells r (LeafGives (may_be default) (binary_of query.now) (leaf_of leaf.now))) }
+    ensures known { IfOk result (λ r. Tells r
+        (LeafGives (may_be default) (binary_of query.now) (leaf_of leaf.now))) }
     ensures answers { has_pattern (leaf_of leaf.now) ≡ false → IsOk result }
 {
     match leaf {

@@ -20,7 +20,8 @@ impl<'a> EvalContext<'a> {
     /// groups.
     pub fn new(default_filter: &'a CompiledExpr) -> Option<EvalContext<'a>>
         ensures made { IfSome result (λ cx. cx.default_filter.now ≡ default_filter.entry.now) }
-        ensures none { IfNone result ((has_leaf is_default (compiled_of default_filter.entry.now) ≡ true) ⊎ (has_leaf is_group (compiled_of default_filter.entry.now) ≡ true)) }
+        ensures none { IfNone result ((has_leaf is_default (compiled_of default_filter.entry.now)
+            ≡ true) ⊎ (has_leaf is_group (compiled_of default_filter.entry.now) ≡ true)) }
     {
         if default_filter.has_default() {
             return None;

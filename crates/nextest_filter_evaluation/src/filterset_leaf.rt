@@ -1,8 +1,8 @@
 ghost use Rattle.std.specs.Prelude.{◌≡◌, IfOk};
 
-use guppy_row_parts::PackageId;
-use nextest_filter_faults::BuildPlatform;
+use guppy_package_parts::PackageId;
 use nextest_filter_matchers::{NameMatcher, SourceSpan};
+use nextest_filter_tokens::BuildPlatform;
 use std::alloc::{AllocError, Global};
 use std::collections::BTreeSet;
 

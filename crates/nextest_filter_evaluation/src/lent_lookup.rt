@@ -1,5 +1,6 @@
+use crate::groups::GroupLookup;
+use nextest_binaries::TestQuery;
 use nextest_filter_matchers::NameMatcher;
-use nextest_filter_queries::{GroupLookup, TestQuery};
 use std::alloc::AllocError;
 
 /// A lookup of any type that is lent.

@@ -1,5 +1,6 @@
+use crate::groups::GroupLookup;
+use nextest_binaries::TestQuery;
 use nextest_filter_matchers::NameMatcher;
-use nextest_filter_queries::{GroupLookup, TestQuery};
 use std::alloc::AllocError;
 
 /// Stands for groups where none is named: no test is in any.

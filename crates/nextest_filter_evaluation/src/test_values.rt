@@ -1,7 +1,7 @@
 //! Whether filters hold of tests.
 
 ghost use Rattle.std.specs.Prelude.{◌≡◌, ◌↔◌, true, false, IfOk, IsOk, IsTrue};
-ghost use Rattle.nextest_filter_queries.specs.NameTests.{NameTest};
+ghost use Rattle.nextest_filter_evaluation.specs.NameTests.{NameTest};
 ghost use Rattle.nextest_binaries.specs.Queries.{test_of};
 ghost use Rattle.nextest_filter_evaluation.specs.Formulas.{Holds, has_leaf};
 ghost use Rattle.nextest_filter_evaluation.specs.Compiled.{compiled_of, has_pattern, is_default, is_group, leaf_of};
@@ -10,9 +10,11 @@ ghost use Rattle.nextest_filter_evaluation.specs.Meaning.{LeafHolds, Passes};
 use crate::compiled_expr::CompiledExpr;
 use crate::eval_context::EvalContext;
 use crate::filterset_leaf::FiltersetLeaf;
+use crate::groups::GroupLookup;
 use crate::lent_lookup::LentLookup;
+use crate::name_tests::suits;
 use crate::no_groups::NoGroups;
-use nextest_filter_queries::{GroupLookup, TestQuery, suits};
+use nextest_binaries::TestQuery;
 use std::alloc::{AllocError, Global};
 
 impl CompiledExpr {
@@ -25,8 +27,11 @@ impl CompiledExpr {
         cx: &EvalContext<'_>,
     ) -> Result<bool, AllocError>
         requires groups { has_leaf is_group (compiled_of self.now) ≡ false }
-        ensures holds { IfOk result (λ r. IsTrue r ↔ Passes (compiled_of cx.now.default_filter.now) (λ _. ⊥) (test_of query.now) (compiled_of self.now)) }
-        ensures answers { has_leaf has_pattern (compiled_of self.now) ≡ false → has_leaf has_pattern (compiled_of cx.now.default_filter.now) ≡ false → IsOk result }
+        ensures holds { IfOk result (λ r. IsTrue r
+            ↔ Passes (compiled_of cx.now.default_filter.now) (λ _. ⊥) (test_of query.now)
+            (compiled_of self.now)) }
+        ensures answers { has_leaf has_pattern (compiled_of self.now) ≡ false
+            → has_leaf has_pattern (compiled_of cx.now.default_filter.now) ≡ false → IsOk result }
     {
         self.matches_test_by(alloc, query, cx, &NoGroups)
     }
@@ -40,8 +45,13 @@ impl CompiledExpr {
         cx: &EvalContext<'_>,
         groups: &dyn GroupLookup,
     ) -> Result<bool, AllocError>
-        ensures holds { IfOk result (λ r. IsTrue r ↔ Passes (compiled_of cx.now.default_filter.now) (member groups.now (test_of query.now)) (test_of query.now) (compiled_of self.now)) }
-        ensures answers { has_leaf has_pattern (compiled_of self.now) ≡ false → has_leaf has_pattern (compiled_of cx.now.default_filter.now) ≡ false → (has_leaf is_group (compiled_of self.now) ≡ true → (m : NameTest) → ready groups.now (test_of query.now) m) → IsOk result }
+        ensures holds { IfOk result (λ r. IsTrue r
+            ↔ Passes (compiled_of cx.now.default_filter.now) (member groups.now (test_of query.now))
+            (test_of query.now) (compiled_of self.now)) }
+        ensures answers { has_leaf has_pattern (compiled_of self.now) ≡ false
+            → has_leaf has_pattern (compiled_of cx.now.default_filter.now) ≡ false
+            → (has_leaf is_group (compiled_of self.now) ≡ true → (m : NameTest)
+            → ready groups.now (test_of query.now) m) → IsOk result }
     {
         self.matches_test_by(alloc, query, cx, &LentLookup { lookup: groups })
     }
@@ -54,8 +64,13 @@ impl CompiledExpr {
         cx: &EvalContext<'_>,
         groups: &G,
     ) -> Result<bool, AllocError>
-        ensures holds { IfOk result (λ r. IsTrue r ↔ Passes (compiled_of cx.now.default_filter.now) (G.member groups.now (test_of query.now)) (test_of query.now) (compiled_of self.now)) }
-        ensures answers { has_leaf has_pattern (compiled_of self.now) ≡ false → has_leaf has_pattern (compiled_of cx.now.default_filter.now) ≡ false → (has_leaf is_group (compiled_of self.now) ≡ true → (m : NameTest) → G.ready groups.now (test_of query.now) m) → IsOk result }
+        ensures holds { IfOk result (λ r. IsTrue r
+            ↔ Passes (compiled_of cx.now.default_filter.now)
+            (G.member groups.now (test_of query.now)) (test_of query.now) (compiled_of self.now)) }
+        ensures answers { has_leaf has_pattern (compiled_of self.now) ≡ false
+            → has_leaf has_pattern (compiled_of cx.now.default_filter.now) ≡ false
+            → (has_leaf is_group (compiled_of self.now) ≡ true → (m : NameTest)
+            → G.ready groups.now (test_of query.now) m) → IsOk result }
     {
         let default = self.default_value(alloc, query, cx.default_filter, groups)?;
         self.value_of(alloc, query, groups, default)
@@ -69,8 +84,11 @@ impl CompiledExpr {
         default_filter: &CompiledExpr,
         groups: &G,
     ) -> Result<bool, AllocError>
-        ensures holds { IfOk result (λ r. has_leaf is_default (compiled_of self.now) ≡ true → (IsTrue r ↔ Holds (LeafHolds (G.member groups.now (test_of query.now)) (IsTrue false) (test_of query.now)) (compiled_of default_filter.now))) }
-        ensures answers { has_leaf has_pattern (compiled_of default_filter.now) ≡ false → has_leaf is_group (compiled_of default_filter.now) ≡ false → IsOk result }
+        ensures holds { IfOk result (λ r. has_leaf is_default (compiled_of self.now) ≡ true
+            → (IsTrue r ↔ Holds (LeafHolds (G.member groups.now (test_of query.now)) (IsTrue false)
+            (test_of query.now)) (compiled_of default_filter.now))) }
+        ensures answers { has_leaf has_pattern (compiled_of default_filter.now) ≡ false
+            → has_leaf is_group (compiled_of default_filter.now) ≡ false → IsOk result }
     {
         if !self.has_default() {
             return Ok(false);
@@ -87,8 +105,12 @@ impl CompiledExpr {
         groups: &G,
         default: bool,
     ) -> Result<bool, AllocError>
-        ensures holds { IfOk result (λ r. IsTrue r ↔ Holds (LeafHolds (G.member groups.now (test_of query.now)) (IsTrue default) (test_of query.now)) (compiled_of self.now)) }
-        ensures answers { has_leaf has_pattern (compiled_of self.now) ≡ false → (has_leaf is_group (compiled_of self.now) ≡ true → (m : NameTest) → G.ready groups.now (test_of query.now) m) → IsOk result }
+        ensures holds { IfOk result (λ r. IsTrue r
+            ↔ Holds (LeafHolds (G.member groups.now (test_of query.now)) (IsTrue default)
+            (test_of query.now)) (compiled_of self.now)) }
+        ensures answers { has_leaf has_pattern (compiled_of self.now) ≡ false
+            → (has_leaf is_group (compiled_of self.now) ≡ true → (m : NameTest)
+            → G.ready groups.now (test_of query.now) m) → IsOk result }
     {
         let mut negated = false;
         let mut rest = self;
@@ -126,8 +148,12 @@ fn leaf_holds<G: GroupLookup>(
     groups: &G,
     default: bool,
 ) -> Result<bool, AllocError>
-    ensures holds { IfOk result (λ r. IsTrue r ↔ LeafHolds (G.member groups.now (test_of query.now)) (IsTrue default) (test_of query.now) (leaf_of leaf.now)) }
-    ensures answers { has_pattern (leaf_of leaf.now) ≡ false → (is_group (leaf_of leaf.now) ≡ true → (m : NameTest) → G.ready groups.now (test_of query.now) m) → IsOk result }
+    ensures holds { IfOk result (λ r. IsTrue r
+        ↔ LeafHolds (G.member groups.now (test_of query.now)) (IsTrue default) (test_of query.now)
+        (leaf_of leaf.now)) }
+    ensures answers { has_pattern (leaf_of leaf.now) ≡ false
+        → (is_group (leaf_of leaf.now) ≡ true → (m : NameTest)
+        → G.ready groups.now (test_of query.now) m) → IsOk result }
 {
     let binary = query.binary_query;
     match leaf {

@@ -36,18 +36,18 @@ read_view (Err error) = Err error
 
 -- how a run of tokens ends
 pub data RunStop : Type 0 where
-  AtEnd : List ℕ → RunStop
+  OnExit : List ℕ → RunStop
   AtGroup : List ℕ → RunStop
   AtFault : GlobError → RunStop
 
 abbrev pub end_of : RunEnd → RunStop
-end_of (Ends text) = AtEnd text.now
+end_of (Ends text) = OnExit text.now
 end_of (Opens text) = AtGroup text.now
 end_of (BadRun error) = AtFault error
 
 -- what is read from there on
 abbrev pub end_outcome : (spec.Part → List ℕ → spec.Outcome) → Bool → RunStop → spec.Outcome
-end_outcome next inside (AtEnd text) = spec.Reads Empty text
+end_outcome next inside (OnExit text) = spec.Reads Empty text
 end_outcome next inside (AtGroup text) = spec.after_alternates next inside (next spec.Alternates text)
 end_outcome next inside (AtFault error) = spec.Refuses error
 

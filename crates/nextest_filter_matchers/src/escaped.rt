@@ -97,7 +97,8 @@ impl fmt::Display for EscapedPattern<'_> {
 
 /// Writes a pattern as it stands between slashes.
 fn write_pattern<W: fmt::Write>(pattern: &str, f: &mut fmt::Formatter<W>) -> fmt::Result
-    ensures { WritesOnOk W.write_str_gives f.old result (printed_pattern false (chars pattern.now)) f.new }
+    ensures { WritesOnOk W.write_str_gives f.old result (printed_pattern false (chars pattern.now))
+        f.new }
 {
     let mut is_escaped = false;
     for c in pattern.chars() {

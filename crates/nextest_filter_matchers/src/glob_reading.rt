@@ -88,7 +88,8 @@ fn class_in<'t>(
     is_complement: bool,
     text: &'t [char],
 ) -> Result<Piece<'t>, AllocError>
-    ensures { IfOk result (λ p. piece_view p ≡ class_piece is_complement (class_of text.entry.now)) }
+    ensures { IfOk result (λ p. piece_view p
+        ≡ class_piece is_complement (class_of text.entry.now)) }
 {
     let [first, rest @ ..] = text else {
         return Ok(Piece::Bad(GlobError::UnclosedClass));
@@ -197,7 +198,8 @@ fn or_if_read<'t>(
     pattern: Pattern,
     more: Result<PatternRead<'t>, AllocError>,
 ) -> Result<PatternRead<'t>, AllocError>
-    ensures { (o : Outcome) → IfOk more.entry (λ m. outcome_of m ≡ o) → IfOk result (λ r. outcome_of r ≡ or_read (glob_of pattern) o) }
+    ensures { (o : Outcome) → IfOk more.entry (λ m. outcome_of m ≡ o)
+        → IfOk result (λ r. outcome_of r ≡ or_read (glob_of pattern) o) }
 {
     match more {
         Ok(more) => or_more(alloc, pattern, more),
@@ -219,7 +221,9 @@ fn run<'t>(
     tokens: &mut Vec<Token>,
 ) -> Result<(usize, RunEnd<'t>), AllocError>
     requires { tokens.old.items ≡ [] }
-    ensures reads { IfOk result (λ r. prefixed (tokens_in tokens.new.items) (end_outcome (read_part r.0) is_inside (end_of r.1)) ≡ read_part left (Tokens is_front is_inside) text.entry.now) }
+    ensures reads { IfOk result (λ r. prefixed (tokens_in tokens.new.items)
+        (end_outcome (read_part r.0) is_inside (end_of r.1))
+        ≡ read_part left (Tokens is_front is_inside) text.entry.now) }
     ensures fewer { IfOk result (λ r. IsOpen (end_of r.1) → r.0 < left) }
 {
     let mut rest = text;
@@ -259,7 +263,8 @@ fn sequence<'t>(
     is_inside: bool,
     text: &'t [char],
 ) -> Result<PatternRead<'t>, AllocError>
-    ensures { IfOk result (λ r. outcome_of r ≡ read_part left (Tokens is_front is_inside) text.entry.now) }
+    ensures { IfOk result (λ r. outcome_of r
+        ≡ read_part left (Tokens is_front is_inside) text.entry.now) }
 {
     let mut tokens = Vec::new(alloc);
     let (left, end) = run(alloc, left, is_front, is_inside, text, &mut tokens)?;
@@ -279,7 +284,9 @@ fn grouped<'t>(
     tokens: Vec<Token>,
     text: &'t [char],
 ) -> Result<PatternRead<'t>, AllocError>
-    ensures { IfOk result (λ r. outcome_of r ≡ prefixed (tokens_in tokens.items) (after_alternates (read_part left) is_inside (read_part left Alternates text.entry.now))) }
+    ensures { IfOk result (λ r. outcome_of r
+        ≡ prefixed (tokens_in tokens.items)
+        (after_alternates (read_part left) is_inside (read_part left Alternates text.entry.now))) }
 {
     match alternates(alloc, left, text)? {
         PatternRead::Read(group, rest) => {
@@ -297,7 +304,8 @@ fn group_then<'t>(
     group: Pattern,
     more: PatternRead<'t>,
 ) -> Result<PatternRead<'t>, AllocError>
-    ensures { IfOk result (λ r. outcome_of r ≡ prefixed (tokens_in tokens.items) (then_read (glob_of group) (outcome_of more.entry))) }
+    ensures { IfOk result (λ r. outcome_of r
+        ≡ prefixed (tokens_in tokens.items) (then_read (glob_of group) (outcome_of more.entry))) }
 {
     match more {
         PatternRead::Read(more, rest) => {

@@ -50,7 +50,9 @@ fn matches_tokens(tokens: &[Token], group: &Pattern, more: &Pattern, text: &str)
     requires tokens { leads_first (tokens_in tokens.now) ≡ true }
     requires group { stands_nowhere (glob_of group.now) ≡ true }
     requires more { stands_nowhere (glob_of more.now) ≡ true }
-    ensures { IsTrue result ↔ GlobMatches (Then (tokens_then (tokens_in tokens.now) Empty) (Then (glob_of group.now) (glob_of more.now))) (chars text.now) }
+    ensures { IsTrue result ↔ GlobMatches
+        (Then (tokens_then (tokens_in tokens.now) Empty)
+        (Then (glob_of group.now) (glob_of more.now))) (chars text.now) }
 {
     let mut at = first_cut(text);
     loop {
@@ -70,7 +72,8 @@ fn matches_tokens(tokens: &[Token], group: &Pattern, more: &Pattern, text: &str)
 fn matches_both(group: &Pattern, more: &Pattern, text: &str) -> bool
     requires group { stands_nowhere (glob_of group.now) ≡ true }
     requires more { stands_nowhere (glob_of more.now) ≡ true }
-    ensures { IsTrue result ↔ GlobMatches (Then (glob_of group.now) (glob_of more.now)) (chars text.now) }
+    ensures { IsTrue result ↔ GlobMatches (Then (glob_of group.now) (glob_of more.now))
+        (chars text.now) }
 {
     let mut at = first_cut(text);
     loop {

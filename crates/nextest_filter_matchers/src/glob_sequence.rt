@@ -38,7 +38,8 @@ fn gap_behind_slash<'g, 't>(
     text: &'t str,
 ) -> Option<Stop<'g, 't>>
     ensures none { (more : List ℕ) → IfNone result (chars text.entry.now ≡ 47 ∷ more → ⊥) }
-    ensures some { IfSome result (λ s. (more : List ℕ) × (chars text.entry.now ≡ 47 ∷ more) × (stop_of s ≡ Gap of_folders (tokens_in tokens.entry.now) more)) }
+    ensures some { IfSome result (λ s. (more : List ℕ) × (chars text.entry.now ≡ 47 ∷ more)
+        × (stop_of s ≡ Gap of_folders (tokens_in tokens.entry.now) more)) }
 {
     match first_of(text) {
         Some(('/', left)) => Some(Stop::Gap(of_folders, tokens, left)),
@@ -48,8 +49,11 @@ fn gap_behind_slash<'g, 't>(
 
 /// Where the single characters at the front of the tokens end, if the text begins with such.
 fn stop_after<'g, 't>(tokens: &'g [Token], text: &'t str) -> Option<Stop<'g, 't>>
-    ensures none { IfNone result (SuitsTokens (tokens_in tokens.entry.now) (chars text.entry.now) → ⊥) }
-    ensures some { IfSome result (λ s. (SuitsStop (stop_of s) → SuitsTokens (tokens_in tokens.entry.now) (chars text.entry.now)) × (stop_of s ≡ stop_in (tokens_in tokens.entry.now) (chars text.entry.now))) }
+    ensures none { IfNone result (SuitsTokens (tokens_in tokens.entry.now) (chars text.entry.now)
+        → ⊥) }
+    ensures some { IfSome result (λ s. (SuitsStop (stop_of s)
+        → SuitsTokens (tokens_in tokens.entry.now) (chars text.entry.now))
+        × (stop_of s ≡ stop_in (tokens_in tokens.entry.now) (chars text.entry.now))) }
 {
     let mut rest = tokens;
     let mut left = text;
@@ -75,8 +79,10 @@ fn stop_after<'g, 't>(tokens: &'g [Token], text: &'t str) -> Option<Stop<'g, 't>
 /// The next stop behind a gap: the tokens follow at the first place at which they can.
 fn stop_behind<'g, 't>(of_folders: bool, tokens: &'g [Token], text: &'t str) -> Option<Stop<'g, 't>>
     requires { list_any is_leading (tokens_in tokens.now) ≡ false }
-    ensures none { IfNone result (IsBehind of_folders true (SuitsTokens (tokens_in tokens.entry.now)) (chars text.entry.now) → ⊥) }
-    ensures some { IfSome result (λ s. IsBehind of_folders true (SuitsTokens (tokens_in tokens.entry.now)) (chars text.entry.now) ↔ SuitsStop (stop_of s)) }
+    ensures none { IfNone result (IsBehind of_folders true
+        (SuitsTokens (tokens_in tokens.entry.now)) (chars text.entry.now) → ⊥) }
+    ensures some { IfSome result (λ s. IsBehind of_folders true
+        (SuitsTokens (tokens_in tokens.entry.now)) (chars text.entry.now) ↔ SuitsStop (stop_of s)) }
     ensures fewer { IfSome result (λ s. IsFewer (tokens_in tokens.entry.now) (stop_of s)) }
 {
     let mut left = text;
@@ -93,9 +99,12 @@ fn stop_behind<'g, 't>(of_folders: bool, tokens: &'g [Token], text: &'t str) -> 
 
 /// Where the single characters end, if the tokens may stand here.
 fn stop_if<'g, 't>(is_here: bool, tokens: &'g [Token], text: &'t str) -> Option<Stop<'g, 't>>
-    ensures none { IfNone result (is_here ≡ true → SuitsTokens (tokens_in tokens.entry.now) (chars text.entry.now) → ⊥) }
+    ensures none { IfNone result (is_here ≡ true
+        → SuitsTokens (tokens_in tokens.entry.now) (chars text.entry.now) → ⊥) }
     ensures here { IfSome result (λ _. is_here ≡ true) }
-    ensures some { IfSome result (λ s. (SuitsStop (stop_of s) → SuitsTokens (tokens_in tokens.entry.now) (chars text.entry.now)) × (stop_of s ≡ stop_in (tokens_in tokens.entry.now) (chars text.entry.now))) }
+    ensures some { IfSome result (λ s. (SuitsStop (stop_of s)
+        → SuitsTokens (tokens_in tokens.entry.now) (chars text.entry.now))
+        × (stop_of s ≡ stop_in (tokens_in tokens.entry.now) (chars text.entry.now))) }
 {
     if is_here {
         return stop_after(tokens, text);
@@ -106,7 +115,8 @@ fn stop_if<'g, 't>(is_here: bool, tokens: &'g [Token], text: &'t str) -> Option<
 /// Whether the tokens match the whole text, in no more steps than the tokens times the characters.
 pub(crate) fn suits_tokens(tokens: &[Token], text: &str) -> bool
     requires { leads_first (tokens_in tokens.now) ≡ true }
-    ensures { IsTrue result ↔ GlobMatches (tokens_then (tokens_in tokens.now) Empty) (chars text.now) }
+    ensures { IsTrue result ↔ GlobMatches (tokens_then (tokens_in tokens.now) Empty)
+        (chars text.now) }
 {
     let mut stop = stop_after(tokens, text);
     while let Some(Stop::Gap(of_folders, more, left)) = stop {

@@ -119,7 +119,8 @@ fn tokens_step(
     at: usize,
 ) -> (bool, usize)
     requires { at + room_of_tokens (tokens_in tokens.now) ≤ length flags.old }
-    ensures step { (more : Glob) → glob_step (tokens_then (tokens_in tokens.now) more) c is_begun flags.old at ≡ glob_step more c result.0 flags.new result.1 }
+    ensures step { (more : Glob) → glob_step (tokens_then (tokens_in tokens.now) more) c is_begun
+        flags.old at ≡ glob_step more c result.0 flags.new result.1 }
     ensures next { result.1 ≡ at + room_of_tokens (tokens_in tokens.now) }
     ensures size { length flags.new ≡ length flags.old }
 {

@@ -1,5 +1,9 @@
 //! What the matchers of filter texts say of names: globs with their tokens, and the four sorts of
 //! matchers. Beside these stands where a part of a text lies.
+//!
+//! Begin with `specs/Globs.antt` (which names a glob matches) and `specs/GlobGrammar.antt` (how its
+//! text reads), then `name_matcher.rt`. How a glob is matched (`glob_walk.rt` and those beside it) is
+//! private.
 
 #![tactic(auto)]
 

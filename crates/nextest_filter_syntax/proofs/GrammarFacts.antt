@@ -7,13 +7,13 @@ use Rattle.nextest_filter_tokens.specs.declared.heads.Head.{Head}
 use Rattle.nextest_filter_tokens.specs.declared.heads.Head.TheVariants.{Names, Platform, Says, Negates, Opens, Misplaces, Unknown}
 use Rattle.nextest_filter_tokens.specs.declared.operators.Found.{Found}
 use Rattle.nextest_filter_tokens.specs.declared.operators.Found.TheVariants.{Nothing, Joins, Wrong}
-use Rattle.nextest_filter_leaves.specs.Leaves.{Leaf}
-use Rattle.nextest_filter_leaves.specs.LeafGrammar.{LeafBy, Stands}
-use Rattle.nextest_filter_leaves.proofs.OnceFacts.{leaves_read_once}
+use Rattle.nextest_filter_syntax.specs.Leaves.{Leaf}
+use Rattle.nextest_filter_syntax.specs.LeafGrammar.{LeafBy, Stands}
+use Rattle.nextest_filter_syntax.proofs.OnceFacts.{leaves_read_once}
 use Rattle.nextest_filter_syntax.specs.Trees.{Tree, not_of, parens_of, set_of}
 use Rattle.nextest_filter_syntax.specs.Grammar.{MoreOf, Reads, chain, found_at, joined_of, leaf, negated, none, one, parens}
 use Rattle.nextest_filter_syntax.specs.Reading.{Ends}
-use Rattle.nextest_filter_syntax.specs.Laws.{TextsReadAsOne}
+use Rattle.nextest_filter_syntax.specs.FilterLaws.{TextsReadAsOne}
 use Rattle.nextest_filter_syntax.proofs.OperatorFacts.{close_ends, lower_none, whole_ends}
 
 module _ (text : List ℕ) where

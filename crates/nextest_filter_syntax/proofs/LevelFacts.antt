@@ -1,8 +1,8 @@
 -- The texts of a filter's levels make its whole text, and what lies below a level is lighter.
 use Rattle.std.proofs.Common.{◌≡◌, ◌∙◌, ℕ, zero, suc, ◌+◌, ◌-◌, ◌/◌, ◌<◌, ◌≤◌, List, ◌++◌, append_assoc, append-nil, refl, sym, ap, subst, arith}
-use Rattle.nextest_filter_faults.specs.declared.operators.OrOperator.{OrOperator}
-use Rattle.nextest_filter_faults.specs.declared.operators.AndOperator.{AndOperator}
-use Rattle.nextest_filter_leaves.specs.declared.parsed_leaf.ParsedLeaf.{ParsedLeaf}
+use Rattle.nextest_filter_tokens.specs.declared.operator_signs.OrOperator.{OrOperator}
+use Rattle.nextest_filter_tokens.specs.declared.operator_signs.AndOperator.{AndOperator}
+use Rattle.nextest_filter_syntax.specs.declared.parsed_leaf.ParsedLeaf.{ParsedLeaf}
 use Rattle.nextest_filter_syntax.specs.declared.parsed_expr.ParsedExpr.{ParsedExpr, Not', Union', Intersection', Difference', Parens', Set}
 use Rattle.nextest_filter_syntax.specs.Trees.{Tree, not_of, union_of, intersection_of, difference_of, parens_of, set_of, tree_of}
 use Rattle.nextest_filter_syntax.specs.TreeTexts.{tree_text}

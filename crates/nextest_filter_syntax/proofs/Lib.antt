@@ -1,3 +1,8 @@
+pub mod PatternFacts
+pub mod SignFacts
+pub mod ReadFacts
+pub mod OnceFacts
+pub mod LeafStepFacts
 pub mod OperatorFacts
 pub mod GrammarFacts
 pub mod StepFacts

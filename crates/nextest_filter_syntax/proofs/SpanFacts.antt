@@ -13,8 +13,8 @@ use Rattle.nextest_filter_tokens.specs.declared.operators.Operator.{Operator}
 use Rattle.nextest_filter_tokens.specs.declared.operators.Operator.TheVariants.{Or, And, Minus}
 use Rattle.nextest_filter_tokens.proofs.BlankFacts.{byte_within, skip_rises}
 use Rattle.nextest_filter_tokens.proofs.EndFacts.{head_ends}
-use Rattle.nextest_filter_leaves.specs.Leaves.{Leaf, Named, Platform, Default, All, None}
-use Rattle.nextest_filter_leaves.specs.LeafGrammar.{LeafBy, Stands, between, nullary_leaf}
+use Rattle.nextest_filter_syntax.specs.Leaves.{Leaf, Named, Platform, Default, All, None}
+use Rattle.nextest_filter_syntax.specs.LeafGrammar.{LeafBy, Stands, between, nullary_leaf}
 use Rattle.nextest_filter_syntax.specs.Trees.{Tree, not_of, union_of, intersection_of, difference_of, parens_of, set_of}
 use Rattle.nextest_filter_syntax.specs.Grammar.{MoreOf, Reads, ReadsWhole, chain, joined_of, leaf, negated, none, one, parens}
 

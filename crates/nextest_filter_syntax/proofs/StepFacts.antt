@@ -1,7 +1,7 @@
 -- The steps of reading: what each takes from the parts before it, and gives to those after it.
 use Rattle.std.proofs.Common.{◌≡◌, ◌↔◌, ℕ, suc, ◌+◌, ◌-◌, ◌<◌, ◌≤◌, ◌++◌, true, false, List, [], Option, Some, None, IfSome, IfNone, length, vec_len, refl, sym, ◌∙◌, ap, subst, arith}
 use Rattle.nextest_filter_matchers.specs.declared.source_span.SourceSpan.{SourceSpan}
-use Rattle.nextest_filter_faults.specs.declared.operators.NotOperator.{NotOperator}
+use Rattle.nextest_filter_tokens.specs.declared.operator_signs.NotOperator.{NotOperator}
 use Rattle.nextest_filter_tokens.specs.Bytes.{skip}
 use Rattle.nextest_filter_tokens.specs.FaultLists.{AreSomeOf, pattern_spans}
 use Rattle.nextest_filter_tokens.specs.ReadingSteps.{GoesOn, Grows, KeepsPatterns, RefusesSomeOf, Spoils, SpoilsSyntax}
@@ -14,10 +14,10 @@ use Rattle.nextest_filter_tokens.specs.declared.operators.Operator.{Operator}
 use Rattle.nextest_filter_tokens.specs.declared.operators.Operator.TheVariants.{Or, And, Minus}
 use Rattle.nextest_filter_tokens.specs.declared.operators.Found.{Found}
 use Rattle.nextest_filter_tokens.specs.declared.operators.Found.TheVariants.{Nothing, Joins, Wrong}
-use Rattle.nextest_filter_leaves.specs.Leaves.{Leaf, leaf_of}
-use Rattle.nextest_filter_leaves.specs.LeafGrammar.{LeafBy, Stands, leaf_places}
-use Rattle.nextest_filter_leaves.specs.declared.parsed_leaf.ParsedLeaf.{ParsedLeaf}
-use Rattle.nextest_filter_leaves.proofs.StepFacts.{goes_from}
+use Rattle.nextest_filter_syntax.specs.Leaves.{Leaf, leaf_of}
+use Rattle.nextest_filter_syntax.specs.LeafGrammar.{LeafBy, Stands, leaf_places}
+use Rattle.nextest_filter_syntax.specs.declared.parsed_leaf.ParsedLeaf.{ParsedLeaf}
+use Rattle.nextest_filter_syntax.proofs.LeafStepFacts.{goes_from}
 use Rattle.nextest_filter_syntax.specs.declared.parsed_expr.ParsedExpr.{ParsedExpr}
 use Rattle.nextest_filter_syntax.specs.Trees.{Tree, not_of, parens_of, set_of, tree_of}
 use Rattle.nextest_filter_syntax.specs.Grammar.{MoreOf, Reads, ReadsWhole, chain, found_at, joined_of, leaf, negated, none, one, parens, tree_places}

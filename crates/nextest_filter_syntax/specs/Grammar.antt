@@ -1,7 +1,7 @@
 -- The grammar of filters, between two places of a text.
 use Rattle.std.specs.Prelude.{◌≡◌, ◌++◌, ℕ, zero, suc, List, length}
 use Rattle.nextest_filter_matchers.specs.declared.source_span.SourceSpan.{SourceSpan}
-use Rattle.nextest_filter_faults.specs.declared.operators.NotOperator.{NotOperator}
+use Rattle.nextest_filter_tokens.specs.declared.operator_signs.NotOperator.{NotOperator}
 use Rattle.nextest_filter_tokens.specs.Bytes.{skip}
 use Rattle.nextest_filter_tokens.specs.Heads.{head_at}
 use Rattle.nextest_filter_tokens.specs.Operators.{and_at, or_at}
@@ -10,8 +10,8 @@ use Rattle.nextest_filter_tokens.specs.declared.operators.Operator.{Operator}
 use Rattle.nextest_filter_tokens.specs.declared.operators.Operator.TheVariants.{Or, And, Minus}
 use Rattle.nextest_filter_tokens.specs.declared.operators.Found.{Found}
 use Rattle.nextest_filter_tokens.specs.declared.operators.Found.TheVariants.{Nothing, Joins}
-use Rattle.nextest_filter_leaves.specs.Leaves.{Leaf}
-use Rattle.nextest_filter_leaves.specs.LeafGrammar.{ReadsLeaf, Stands, leaf_places}
+use Rattle.nextest_filter_syntax.specs.Leaves.{Leaf}
+use Rattle.nextest_filter_syntax.specs.LeafGrammar.{ReadsLeaf, Stands, leaf_places}
 use Rattle.nextest_filter_syntax.specs.Trees.{Tree, not_of, union_of, intersection_of, difference_of, parens_of, set_of}
 
 -- two trees, joined by the operator between them

@@ -1,6 +1,6 @@
 -- The left side of a filter, level by level, and what is printed before and after each level.
 use Rattle.std.specs.Prelude.{ℕ, zero, suc, List, [], ◌++◌, codes}
-use Rattle.nextest_filter_faults.specs.Signs.{not_sign, or_sign, and_sign}
+use Rattle.nextest_filter_tokens.specs.Signs.{not_sign, or_sign, and_sign}
 use Rattle.nextest_filter_syntax.specs.Trees.{Tree, not_of, union_of, intersection_of, difference_of, parens_of, set_of}
 use Rattle.nextest_filter_syntax.specs.TreeTexts.{joined_text, tree_text}
 

@@ -1,7 +1,7 @@
 -- Operators that stand in an operand's place.
 use Rattle.std.specs.Prelude.{Bool, true, false, List, ℕ, Option, Some, None, codes}
-use Rattle.nextest_filter_faults.specs.declared.parse_error.ParseSingleError.{ParseSingleError}
-use Rattle.nextest_filter_faults.specs.declared.parse_error.ParseSingleError.TheVariants.{ExprFoundBinaryOp, ExprFoundUnaryOp}
+use Rattle.nextest_filter_tokens.specs.declared.parse_error.ParseSingleError.{ParseSingleError}
+use Rattle.nextest_filter_tokens.specs.declared.parse_error.ParseSingleError.TheVariants.{ExprFoundBinaryOp, ExprFoundUnaryOp}
 use Rattle.nextest_filter_tokens.specs.declared.heads.WrongOperator.{WrongOperator}
 use Rattle.nextest_filter_tokens.specs.declared.heads.WrongOperator.TheVariants.{LowerAnd, LowerOr, UpperAnd, UpperOr, DoubleAmpersand, DoublePipe, UpperNot}
 

@@ -1,7 +1,7 @@
 -- What the faults of a refused text say.
 use Rattle.std.specs.Prelude.{◌≡◌, ◌↔◌, ℕ, ◌<◌, List, length, vec_len}
 use Rattle.nextest_filter_matchers.specs.declared.source_span.SourceSpan.{SourceSpan}
-use Rattle.nextest_filter_faults.specs.declared.parse_error.ParseSingleError.{ParseSingleError}
+use Rattle.nextest_filter_tokens.specs.declared.parse_error.ParseSingleError.{ParseSingleError}
 use Rattle.nextest_filter_tokens.specs.FaultLists.{AreOver, AreSomeOf, AreWithin, pattern_faults, pattern_spans, syntax_faults}
 use Rattle.nextest_filter_syntax.specs.Trees.{Tree}
 use Rattle.nextest_filter_syntax.specs.Grammar.{ReadsWhole, tree_places}

@@ -1,15 +1,15 @@
 -- What clauses see of trees that are being read.
 use Rattle.std.specs.Prelude.{◌≡◌, ℕ, ◌<◌, Bool, true, false, List, Option, Some, None, IfSome}
 use Rattle.nextest_filter_matchers.specs.declared.source_span.SourceSpan.{SourceSpan}
-use Rattle.nextest_filter_faults.specs.declared.operators.NotOperator.{NotOperator}
+use Rattle.nextest_filter_tokens.specs.declared.operator_signs.NotOperator.{NotOperator}
 use Rattle.nextest_filter_tokens.specs.Bytes.{skip}
 use Rattle.nextest_filter_tokens.specs.FaultLists.{pattern_spans}
 use Rattle.nextest_filter_tokens.specs.ReadingSteps.{RefusesSomeOf}
 use Rattle.nextest_filter_tokens.specs.declared.fault_list.FaultList.{FaultList}
 use Rattle.nextest_filter_tokens.specs.declared.operators.Found.{Found}
 use Rattle.nextest_filter_tokens.specs.declared.operators.Found.TheVariants.{Nothing, Joins, Wrong}
-use Rattle.nextest_filter_leaves.specs.Leaves.{leaf_of}
-use Rattle.nextest_filter_leaves.specs.declared.parsed_leaf.ParsedLeaf.{ParsedLeaf}
+use Rattle.nextest_filter_syntax.specs.Leaves.{leaf_of}
+use Rattle.nextest_filter_syntax.specs.declared.parsed_leaf.ParsedLeaf.{ParsedLeaf}
 use Rattle.nextest_filter_syntax.specs.declared.parsed_expr.ParsedExpr.{ParsedExpr}
 use Rattle.nextest_filter_syntax.specs.Trees.{Tree, not_of, parens_of, set_of, tree_of}
 use Rattle.nextest_filter_syntax.specs.Grammar.{Reads, found_at, joined_of, tree_places}

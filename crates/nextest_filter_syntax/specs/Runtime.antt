@@ -1,8 +1,8 @@
 -- The leaves of a filter that can be told only at run time.
 use Rattle.std.specs.Prelude.{◌≡◌, List, [], ◌∷◌, ◌++◌, if◌then◌else◌, map, reverse}
 use Rattle.std.specs.Borrow.{Bor}
-use Rattle.nextest_filter_leaves.specs.declared.parsed_leaf.ParsedLeaf.{ParsedLeaf}
-use Rattle.nextest_filter_leaves.specs.Leaves.{Leaf, is_runtime_leaf, leaf_of}
+use Rattle.nextest_filter_syntax.specs.declared.parsed_leaf.ParsedLeaf.{ParsedLeaf}
+use Rattle.nextest_filter_syntax.specs.Leaves.{Leaf, is_runtime_leaf, leaf_of}
 use Rattle.nextest_filter_syntax.specs.Trees.{Tree, not_of, union_of, intersection_of, difference_of, parens_of, set_of}
 
 -- from left to right

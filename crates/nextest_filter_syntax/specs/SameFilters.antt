@@ -3,11 +3,11 @@ use Rattle.std.specs.Prelude.{◌≡◌, Bool, true, false, ◌&&◌}
 use Rattle.std.specs.Cmp.{IsEquivalence, IsPartialEquivalence, equiv, partial_equiv_from_equiv}
 use Rattle.std.proofs.Common.{refl}
 use Rattle.std.proofs.lemmas.Bool.{false≢true, and_parts, and_from}
-use Rattle.nextest_filter_faults.specs.declared.operators.NotOperator.{NotOperator}
-use Rattle.nextest_filter_faults.specs.declared.operators.OrOperator.{OrOperator}
-use Rattle.nextest_filter_faults.specs.declared.operators.AndOperator.{AndOperator}
-use Rattle.nextest_filter_faults.specs.declared.operators.DifferenceOperator.{DifferenceOperator}
-use Rattle.nextest_filter_leaves.specs.declared.parsed_leaf.ParsedLeaf.{ParsedLeaf}
+use Rattle.nextest_filter_tokens.specs.declared.operator_signs.NotOperator.{NotOperator}
+use Rattle.nextest_filter_tokens.specs.declared.operator_signs.OrOperator.{OrOperator}
+use Rattle.nextest_filter_tokens.specs.declared.operator_signs.AndOperator.{AndOperator}
+use Rattle.nextest_filter_tokens.specs.declared.operator_signs.DifferenceOperator.{DifferenceOperator}
+use Rattle.nextest_filter_syntax.specs.declared.parsed_leaf.ParsedLeaf.{ParsedLeaf}
 use Rattle.nextest_filter_syntax.specs.declared.parsed_expr.ParsedExpr.{ParsedExpr, Not', Union', Intersection', Difference', Parens', Set}
 
 both_turned : {a b c d : Bool} → a ≡ c → b ≡ d → (a && b) ≡ (c && d)

@@ -1,7 +1,7 @@
 -- How filters are printed.
 use Rattle.std.specs.Prelude.{ℕ, List, ◌++◌, codes}
-use Rattle.nextest_filter_faults.specs.Signs.{not_sign, or_sign, and_sign}
-use Rattle.nextest_filter_leaves.specs.LeafTexts.{leaf_text}
+use Rattle.nextest_filter_tokens.specs.Signs.{not_sign, or_sign, and_sign}
+use Rattle.nextest_filter_syntax.specs.LeafTexts.{leaf_text}
 use Rattle.nextest_filter_syntax.specs.Trees.{Tree, not_of, union_of, intersection_of, difference_of, parens_of, set_of}
 
 -- two parts, with an operator and blanks between them

@@ -1,9 +1,9 @@
 -- Filters as plain trees.
 use Rattle.std.specs.Prelude.{◌++◌}
-use Rattle.nextest_filter_faults.specs.declared.operators.NotOperator.{NotOperator}
-use Rattle.nextest_filter_faults.specs.declared.operators.OrOperator.{OrOperator}
-use Rattle.nextest_filter_faults.specs.declared.operators.AndOperator.{AndOperator}
-use Rattle.nextest_filter_leaves.specs.Leaves.{Leaf, Patterns, leaf_of, leaf_patterns}
+use Rattle.nextest_filter_tokens.specs.declared.operator_signs.NotOperator.{NotOperator}
+use Rattle.nextest_filter_tokens.specs.declared.operator_signs.OrOperator.{OrOperator}
+use Rattle.nextest_filter_tokens.specs.declared.operator_signs.AndOperator.{AndOperator}
+use Rattle.nextest_filter_syntax.specs.Leaves.{Leaf, Patterns, leaf_of, leaf_patterns}
 use Rattle.nextest_filter_syntax.specs.declared.parsed_expr.ParsedExpr.{ParsedExpr, Not', Union', Intersection', Difference', Parens', Set}
 
 pub data Tree (S : Type 0) : Type 0 where

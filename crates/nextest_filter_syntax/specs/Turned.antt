@@ -1,6 +1,6 @@
 -- Filters whose left side was built from the outside in, with a leaf where the innermost operand goes.
 use Rattle.std.specs.Prelude.{◌++◌}
-use Rattle.nextest_filter_leaves.specs.Leaves.{Patterns}
+use Rattle.nextest_filter_syntax.specs.Leaves.{Patterns}
 use Rattle.nextest_filter_syntax.specs.declared.parsed_expr.ParsedExpr.{ParsedExpr, Not', Union', Intersection', Difference', Parens', Set}
 use Rattle.nextest_filter_syntax.specs.Trees.{Tree, not_of, union_of, intersection_of, difference_of, parens_of, patterns_of, tree_of}
 

@@ -1,5 +1,5 @@
 ghost use Rattle.std.specs.Prelude.{◌≡◌, ◌≤◌, ◌<◌, true, false, IfOk, IfSome, OnOk, length};
-ghost use Rattle.nextest_filter_faults.specs.Faults.{is_pattern_fault, span_of};
+ghost use Rattle.nextest_filter_tokens.specs.Faults.{is_pattern_fault, span_of};
 ghost use Rattle.nextest_filter_tokens.specs.Bytes.{skip};
 ghost use Rattle.nextest_filter_tokens.specs.FaultLists.{syntax_faults};
 ghost use Rattle.nextest_filter_tokens.specs.ReadingSteps.{AreOf, Grows, HasSyntaxFault, KeepsPatterns};
@@ -7,8 +7,9 @@ ghost use Rattle.nextest_filter_tokens.specs.Operators.{FoundEndsWithin};
 ghost use Rattle.nextest_filter_syntax.specs.Grammar.{found_at};
 ghost use Rattle.nextest_filter_syntax.specs.Reading.{is_wrong, place_of};
 
-use nextest_filter_faults::{ParseSingleError, SourceSpan};
-use nextest_filter_tokens::{FaultList, Found, and_operator, or_operator, skip_blanks};
+use nextest_filter_tokens::{
+    FaultList, Found, ParseSingleError, SourceSpan, and_operator, or_operator, skip_blanks,
+};
 use std::alloc::AllocError;
 
 /// What stands in the place of an operator of the level.
@@ -60,7 +61,8 @@ pub(crate) fn operator_after(
     ensures grows { OnOk result (Grows text.now faults.old faults.new) }
     ensures wrong { IfOk result (λ f. is_wrong f ≡ true → HasSyntaxFault faults.new) }
     ensures keeps { IfOk result (λ f. is_wrong f ≡ false → KeepsPatterns faults.old faults.new) }
-    ensures same { IfOk result (λ f. is_wrong f ≡ false → syntax_faults faults.new.list.items ≡ syntax_faults faults.old.list.items) }
+    ensures same { IfOk result (λ f. is_wrong f ≡ false
+        → syntax_faults faults.new.list.items ≡ syntax_faults faults.old.list.items) }
 {
     let place = skip_blanks(text, at);
     match found_of(text, level, place) {

@@ -1,26 +1,39 @@
-//! Filters as trees: how they are read, with their faults, and how they are printed.
+//! Filters as trees: their grammar, the leaves, how they are read, with their faults, and how they are
+//! printed.
+//!
+//! Begin with `specs/Grammar.antt` and `specs/LeafGrammar.antt`, then `parsing.rt`. The trees are
+//! nextest's; the reader's steps are private. No walk along the left side of a tree takes a frame of
+//! the stack for an operand.
 
 #![tactic(auto)]
 
 mod between;
 pub mod laws;
+mod matchers;
 mod parsed_expr;
+mod parsed_leaf;
 mod parsing;
 mod parts;
+mod places;
 mod printing;
 mod reading;
 mod reference;
 mod runtime_leaves;
+mod sets;
+mod signs;
 
 pub use crate::parsed_expr::ParsedExpr;
+pub use crate::parsed_leaf::ParsedLeaf;
 pub use crate::parsing::{ParseExprError, parse_with_faults};
+pub use crate::places::expect_byte;
 pub use crate::reference::FILTERSET_REFERENCE_MD;
 pub use crate::runtime_leaves::needs_deps;
-pub use nextest_filter_faults::{
-    AndOperator, BannedPredicateReason, BuildPlatform, DifferenceOperator, FiltersetKind,
-    NotOperator, OrOperator, ParseSingleError,
-};
-pub use nextest_filter_leaves::ParsedLeaf;
+pub use crate::sets::{named_set_from, nullary_set_from, platform_set_from};
+pub use crate::signs::{Sign, Style};
 pub use nextest_filter_matchers::{
     GenericGlob, GlobConstructError, GlobError, NameMatcher, SourceSpan,
+};
+pub use nextest_filter_tokens::{
+    AndOperator, BannedPredicateReason, BuildPlatform, DifferenceOperator, FiltersetKind,
+    NotOperator, OrOperator, ParseSingleError,
 };

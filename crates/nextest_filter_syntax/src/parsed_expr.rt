@@ -1,8 +1,8 @@
 ghost use Rattle.std.specs.Prelude.{◌≡◌, IfOk};
 
-use nextest_filter_faults::{AndOperator, DifferenceOperator, NotOperator, OrOperator};
-use nextest_filter_leaves::ParsedLeaf;
+use crate::parsed_leaf::ParsedLeaf;
 use nextest_filter_matchers::SourceSpan;
+use nextest_filter_tokens::{AndOperator, DifferenceOperator, NotOperator, OrOperator};
 use std::alloc::{AllocError, Global};
 use std::{fmt, mem};
 
@@ -38,11 +38,11 @@ impl<S: Drop> Drop for ParsedExpr<S> {
 /// Two filters are compared by a loop along their left sides, the operands on the right first.
 impl<S: PartialEq> PartialEq for ParsedExpr<S> {
     ghost use Rattle.nextest_filter_syntax.specs.SameFilters.{same_filters, same_filters_alike};
-    ghost use Rattle.nextest_filter_faults.specs.contracts.operators.NotOperatorPartialEq.TheImpl.Laws as not_laws;
-    ghost use Rattle.nextest_filter_faults.specs.contracts.operators.OrOperatorPartialEq.TheImpl.Laws as or_laws;
-    ghost use Rattle.nextest_filter_faults.specs.contracts.operators.AndOperatorPartialEq.TheImpl.Laws as and_laws;
-    ghost use Rattle.nextest_filter_faults.specs.contracts.operators.DifferenceOperatorPartialEq.TheImpl.Laws as minus_laws;
-    ghost use Rattle.nextest_filter_leaves.specs.contracts.parsed_leaf.ParsedLeafPartialEq.TheImpl.Laws as leaf_laws;
+    ghost use Rattle.nextest_filter_tokens.specs.contracts.operator_signs.NotOperatorPartialEq.TheImpl.Laws as not_laws;
+    ghost use Rattle.nextest_filter_tokens.specs.contracts.operator_signs.OrOperatorPartialEq.TheImpl.Laws as or_laws;
+    ghost use Rattle.nextest_filter_tokens.specs.contracts.operator_signs.AndOperatorPartialEq.TheImpl.Laws as and_laws;
+    ghost use Rattle.nextest_filter_tokens.specs.contracts.operator_signs.DifferenceOperatorPartialEq.TheImpl.Laws as minus_laws;
+    ghost use Rattle.nextest_filter_syntax.specs.contracts.parsed_leaf.ParsedLeafPartialEq.TheImpl.Laws as leaf_laws;
     ghost use Rattle.std.proofs.Common.{rules};
 
     ghost eq = { same_filters ⟦<NotOperator as PartialEq>⟧.eq ⟦<OrOperator as PartialEq>⟧.eq ⟦<AndOperator as PartialEq>⟧.eq ⟦<DifferenceOperator as PartialEq>⟧.eq ⟦<ParsedLeaf<S> as PartialEq>⟧.eq };
@@ -95,11 +95,11 @@ impl<S: PartialEq> PartialEq for ParsedExpr<S> {
 
 impl<S: Eq> Eq for ParsedExpr<S> {
     ghost use Rattle.nextest_filter_syntax.specs.SameFilters.{same_filters_equivalent};
-    ghost use Rattle.nextest_filter_faults.specs.contracts.operators.NotOperatorEq.TheImpl.Laws as not_laws;
-    ghost use Rattle.nextest_filter_faults.specs.contracts.operators.OrOperatorEq.TheImpl.Laws as or_laws;
-    ghost use Rattle.nextest_filter_faults.specs.contracts.operators.AndOperatorEq.TheImpl.Laws as and_laws;
-    ghost use Rattle.nextest_filter_faults.specs.contracts.operators.DifferenceOperatorEq.TheImpl.Laws as minus_laws;
-    ghost use Rattle.nextest_filter_leaves.specs.contracts.parsed_leaf.ParsedLeafEq.TheImpl.Laws as leaf_laws;
+    ghost use Rattle.nextest_filter_tokens.specs.contracts.operator_signs.NotOperatorEq.TheImpl.Laws as not_laws;
+    ghost use Rattle.nextest_filter_tokens.specs.contracts.operator_signs.OrOperatorEq.TheImpl.Laws as or_laws;
+    ghost use Rattle.nextest_filter_tokens.specs.contracts.operator_signs.AndOperatorEq.TheImpl.Laws as and_laws;
+    ghost use Rattle.nextest_filter_tokens.specs.contracts.operator_signs.DifferenceOperatorEq.TheImpl.Laws as minus_laws;
+    ghost use Rattle.nextest_filter_syntax.specs.contracts.parsed_leaf.ParsedLeafEq.TheImpl.Laws as leaf_laws;
     ghost use Rattle.std.proofs.Common.{rules};
 
     ghost laws = { same_filters_equivalent ⟦<NotOperator as PartialEq>⟧.eq ⟦<OrOperator as PartialEq>⟧.eq ⟦<AndOperator as PartialEq>⟧.eq ⟦<DifferenceOperator as PartialEq>⟧.eq ⟦<ParsedLeaf<S> as PartialEq>⟧.eq not_laws.laws-law or_laws.laws-law and_laws.laws-law minus_laws.laws-law (Prim.search (leaf_laws.laws-law, rules)) };
@@ -107,7 +107,7 @@ impl<S: Eq> Eq for ParsedExpr<S> {
 
 impl<S: Copy> ParsedExpr<S> {
     ghost use Rattle.std.specs.Prelude.{◌≡◌, IfOk};
-    ghost use Rattle.nextest_filter_leaves.specs.Leaves.{leaf_of, leaf_patterns};
+    ghost use Rattle.nextest_filter_syntax.specs.Leaves.{leaf_of, leaf_patterns};
     ghost use Rattle.nextest_filter_syntax.specs.Trees.{patterns_of, set_of, tree_of};
     ghost use Rattle.nextest_filter_syntax.specs.Turned.{turned_patterns, turned_tree};
 

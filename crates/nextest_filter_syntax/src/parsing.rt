@@ -3,7 +3,7 @@ ghost use Rattle.nextest_filter_matchers.specs.declared.source_span.SourceSpan a
 ghost use Rattle.nextest_filter_tokens.specs.Bytes.{skip};
 ghost use Rattle.nextest_filter_tokens.specs.FaultLists.{AreOver, AreWithin, pattern_faults, syntax_faults};
 ghost use Rattle.nextest_filter_tokens.specs.ReadingSteps.{AreOf, Grows, IsClean, KeepsPatterns};
-ghost use Rattle.nextest_filter_syntax.specs.AsWritten.{IsExprAsWritten};
+ghost use Rattle.nextest_filter_syntax.specs.FiltersAsWritten.{IsExprAsWritten};
 ghost use Rattle.nextest_filter_syntax.specs.Trees.{Tree, tree_of};
 ghost use Rattle.nextest_filter_syntax.specs.Grammar.{ReadsWhole};
 ghost use Rattle.nextest_filter_syntax.specs.Reading.{part_of};
@@ -11,9 +11,8 @@ ghost use Rattle.nextest_filter_syntax.specs.Parsing.{AreOfTree, ReadsSome};
 
 use crate::parsed_expr::ParsedExpr;
 use crate::reading::{rest_of, tree_from};
-use nextest_filter_faults::ParseSingleError;
 use nextest_filter_matchers::SourceSpan;
-use nextest_filter_tokens::{FaultList, skip_blanks};
+use nextest_filter_tokens::{FaultList, ParseSingleError, skip_blanks};
 use std::alloc::{AllocError, Global};
 use thiserror::Error;
 
@@ -34,7 +33,8 @@ fn expect_end(text: &str, at: usize, faults: &mut FaultList) -> Result<(), Alloc
     ensures grows { OnOk result (Grows text.now faults.old faults.new) }
     ensures keeps { OnOk result (KeepsPatterns faults.old faults.new) }
     ensures read { OnOk result (IsClean faults.new → skip text.now at ≡ length text.now) }
-    ensures only { OnOk result (IsClean faults.old → skip text.now at ≡ length text.now → IsClean faults.new) }
+    ensures only { OnOk result (IsClean faults.old → skip text.now at ≡ length text.now
+        → IsClean faults.new) }
 {
     let end = skip_blanks(text, at);
     if end == text.len() {
@@ -49,12 +49,14 @@ pub fn parse_with_faults(
     alloc: Global,
     text: &str,
 ) -> Result<(Option<ParsedExpr>, Vec<ParseSingleError>), AllocError>
-    ensures exact { IfOk result (λ r. vec_len r.1 ≡ 0 ↔ ((t : Tree source.SourceSpan) × ReadsWhole text.now t × (part_of r.0 ≡ Some t))) }
+    ensures exact { IfOk result (λ r. vec_len r.1 ≡ 0
+        ↔ ((t : Tree source.SourceSpan) × ReadsWhole text.now t × (part_of r.0 ≡ Some t))) }
     ensures reads { IfOk result (λ r. syntax_faults r.1.items ≡ 0 ↔ ReadsSome text.now) }
     ensures spoiled { IfOk result (λ r. IfNone r.0 (0 < vec_len r.1)) }
     ensures as_written { IfOk result (λ r. IfSome r.0 IsExprAsWritten) }
     ensures built { IfOk result (λ r. IfSome r.0 (λ _. pattern_faults r.1.items ≡ 0)) }
-    ensures tree { IfOk result (λ r. (t : Tree source.SourceSpan) → ReadsWhole text.now t → IfSome r.0 (λ x. tree_of x ≡ t)) }
+    ensures tree { IfOk result (λ r. (t : Tree source.SourceSpan) → ReadsWhole text.now t
+        → IfSome r.0 (λ x. tree_of x ≡ t)) }
     ensures within { IfOk result (λ r. AreWithin (length text.now) r.1.items) }
     ensures over { IfOk result (λ r. AreOver text.now r.1.items) }
     ensures of_tree { IfOk result (λ r. AreOfTree text.now r.1.items) }
@@ -75,12 +77,13 @@ impl ParsedExpr<SourceSpan> {
     ghost use Rattle.nextest_filter_matchers.specs.declared.source_span.SourceSpan as source;
     ghost use Rattle.nextest_filter_syntax.specs.Trees.{Tree, tree_of};
     ghost use Rattle.nextest_filter_syntax.specs.Grammar.{ReadsWhole};
-    ghost use Rattle.nextest_filter_syntax.specs.AsWritten.{IsExprAsWritten};
+    ghost use Rattle.nextest_filter_syntax.specs.FiltersAsWritten.{IsExprAsWritten};
     ghost use Rattle.nextest_filter_syntax.specs.Parsing.{AreFaultsOf};
 
     /// The tree of a filter, even where faults of its text were found.
     pub fn parse(alloc: Global, text: &str) -> Result<ParsedExpr, ParseExprError>
-        ensures tree { IfOk result (λ x. (t : Tree source.SourceSpan) → ReadsWhole text.now t → tree_of x ≡ t) }
+        ensures tree { IfOk result (λ x. (t : Tree source.SourceSpan) → ReadsWhole text.now t
+            → tree_of x ≡ t) }
         ensures as_written { IfOk result IsExprAsWritten }
         ensures faults { IfErr result (AreFaultsOf text.now) }
     {

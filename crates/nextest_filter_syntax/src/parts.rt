@@ -1,14 +1,13 @@
 ghost use Rattle.std.specs.Prelude.{◌≡◌, IfOk, IfSome};
-ghost use Rattle.nextest_filter_leaves.specs.AsWritten.{IsLeafAsWritten};
-ghost use Rattle.nextest_filter_syntax.specs.AsWritten.{IsExprAsWritten};
+ghost use Rattle.nextest_filter_syntax.specs.PatternsAsWritten.{IsLeafAsWritten};
+ghost use Rattle.nextest_filter_syntax.specs.FiltersAsWritten.{IsExprAsWritten};
 ghost use Rattle.nextest_filter_syntax.specs.Trees.{tree_of};
 ghost use Rattle.nextest_filter_syntax.specs.Grammar.{joined_of};
 ghost use Rattle.nextest_filter_syntax.specs.Reading.{joined_part, leaf_part, negated_part, parens_part, part_of};
 
 use crate::parsed_expr::{ParsedExpr, both_boxed};
-use nextest_filter_faults::{DifferenceOperator, NotOperator};
-use nextest_filter_leaves::ParsedLeaf;
-use nextest_filter_tokens::{Found, Operator};
+use crate::parsed_leaf::ParsedLeaf;
+use nextest_filter_tokens::{DifferenceOperator, Found, NotOperator, Operator};
 use std::alloc::{AllocError, Global};
 
 /// The expression of a leaf, unless it is spoiled.
@@ -65,7 +64,8 @@ fn joined_by(
     right: ParsedExpr,
 ) -> Result<ParsedExpr, AllocError>
     ensures value { IfOk result (λ x. tree_of x ≡ joined_of op (tree_of left) (tree_of right)) }
-    ensures as_written { IsExprAsWritten left → IsExprAsWritten right → IfOk result IsExprAsWritten }
+    ensures as_written { IsExprAsWritten left → IsExprAsWritten right
+        → IfOk result IsExprAsWritten }
 {
     let (left, right) = both_boxed(alloc, left, right)?;
     match op {
@@ -85,8 +85,10 @@ pub(crate) fn joined(
     left: Option<ParsedExpr>,
     right: Option<ParsedExpr>,
 ) -> Result<Option<ParsedExpr>, AllocError>
-    ensures value { IfOk result (λ r. part_of r ≡ joined_part found (part_of left) (part_of right)) }
-    ensures as_written { IfSome left IsExprAsWritten → IfSome right IsExprAsWritten → IfOk result (λ r. IfSome r IsExprAsWritten) }
+    ensures value { IfOk result (λ r. part_of r
+        ≡ joined_part found (part_of left) (part_of right)) }
+    ensures as_written { IfSome left IsExprAsWritten → IfSome right IsExprAsWritten
+        → IfOk result (λ r. IfSome r IsExprAsWritten) }
 {
     let Some((left, right)) = left.zip(right) else {
         return Ok(None);

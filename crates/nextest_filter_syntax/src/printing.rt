@@ -67,7 +67,8 @@ impl<S> ParsedExpr<S> {
         mut levels: usize,
         f: &mut fmt::Formatter<W>,
     ) -> fmt::Result
-        ensures { WritesOnOk W.write_str_gives f.old result (openings levels (tree_of self.now)) f.new }
+        ensures { WritesOnOk W.write_str_gives f.old result (openings levels (tree_of self.now))
+            f.new }
     {
         let mut rest = self;
         while levels > 0 {
@@ -96,7 +97,8 @@ impl<S> ParsedExpr<S> {
     /// that few calls are open at a time.
     #[cycle(writing)]
     fn write_closings<W: fmt::Write>(&self, levels: usize, f: &mut fmt::Formatter<W>) -> fmt::Result
-        ensures { WritesOnOk W.write_str_gives f.old result (closings levels (tree_of self.now)) f.new }
+        ensures { WritesOnOk W.write_str_gives f.old result (closings levels (tree_of self.now))
+            f.new }
     {
         match levels {
             0 => Ok(()),

@@ -1,22 +1,24 @@
 ghost use Rattle.std.specs.Prelude.{◌≡◌, ◌≤◌, ◌<◌, ◌+◌, ℕ, false, IfOk, IfSome, OnOk, Some, length};
 ghost use Rattle.nextest_filter_matchers.specs.declared.source_span.SourceSpan as source;
 ghost use Rattle.nextest_filter_tokens.specs.Bytes.{skip};
-ghost use Rattle.nextest_filter_faults.specs.Faults.{is_pattern_fault, span_of};
+ghost use Rattle.nextest_filter_tokens.specs.Faults.{is_pattern_fault, span_of};
 ghost use Rattle.nextest_filter_tokens.specs.ReadingSteps.{AreOf, GoesOn, Grows, HasSyntaxFault, IsClean, KeepsPatterns, Spoils};
 ghost use Rattle.nextest_filter_tokens.specs.Heads.{HeadEndsWithin, head_at};
 ghost use Rattle.nextest_filter_syntax.specs.Trees.{Tree};
-ghost use Rattle.nextest_filter_syntax.specs.AsWritten.{IsExprAsWritten};
+ghost use Rattle.nextest_filter_syntax.specs.FiltersAsWritten.{IsExprAsWritten};
 ghost use Rattle.nextest_filter_syntax.specs.Grammar.{Reads};
 ghost use Rattle.nextest_filter_syntax.specs.MisplacedOperators.{found_as, found_in};
 ghost use Rattle.nextest_filter_syntax.specs.Reading.{Ends, IsReading, parens_part, part_of};
-ghost use Rattle.nextest_filter_leaves.specs.LeafGrammar.{Stands};
+ghost use Rattle.nextest_filter_syntax.specs.LeafGrammar.{Stands};
 
 use crate::between::{operator_after, place_after};
 use crate::parsed_expr::ParsedExpr;
 use crate::parts::{in_parens, joined, leaf_expr, negated};
-use nextest_filter_faults::{ParseSingleError, SourceSpan};
-use nextest_filter_leaves::{expect_byte, named_set_from, nullary_set_from, platform_set_from};
-use nextest_filter_tokens::{FaultList, Head, WrongOperator, head_of, skip_blanks};
+use crate::places::expect_byte;
+use crate::sets::{named_set_from, nullary_set_from, platform_set_from};
+use nextest_filter_tokens::{
+    FaultList, Head, ParseSingleError, SourceSpan, WrongOperator, head_of, skip_blanks,
+};
 use std::alloc::{AllocError, Global};
 
 /// The fault of an operator that stands in an operand's place.
@@ -108,9 +110,11 @@ fn closed_parens(
     ensures goes_on { IfOk result (λ p. GoesOn text.now at p.1 faults.old faults.new) }
     ensures keeps { OnOk result (KeepsPatterns faults.old faults.new) }
     ensures value { IfOk result (λ p. part_of p.0 ≡ parens_part (part_of tree)) }
-    ensures as_written { IfSome tree IsExprAsWritten → IfOk result (λ p. IfSome p.0 IsExprAsWritten) }
+    ensures as_written { IfSome tree IsExprAsWritten
+        → IfOk result (λ p. IfSome p.0 IsExprAsWritten) }
     ensures read { IfOk result (λ p. IsClean faults.new → Stands text.now at 41 p.1) }
-    ensures only { IfOk result (λ p. IsClean faults.old → (j : ℕ) → Stands text.now at 41 j → (p.1 ≡ j) × IsClean faults.new) }
+    ensures only { IfOk result (λ p. IsClean faults.old → (j : ℕ) → Stands text.now at 41 j
+        → (p.1 ≡ j) × IsClean faults.new) }
 {
     let span = SourceSpan { offset: at, len: 0 };
     let fault = ParseSingleError::ExpectedCloseParenthesis(span);
@@ -138,9 +142,12 @@ pub(crate) fn tree_from(
     requires faults { AreOf text.now faults.old }
     ensures goes_on { IfOk result (λ p. GoesOn text.now at p.1 faults.old faults.new) }
     ensures spoils { IfOk result (λ p. Spoils p.0 faults.old faults.new) }
-    ensures read { IfOk result (λ p. IsClean faults.new → IsReading text.now room level at p.0 p.1 faults.old faults.new) }
+    ensures read { IfOk result (λ p. IsClean faults.new
+        → IsReading text.now room level at p.0 p.1 faults.old faults.new) }
     ensures as_written { IfOk result (λ p. IfSome p.0 IsExprAsWritten) }
-    ensures only { IfOk result (λ p. IsClean faults.old → (t : Tree source.SourceSpan) (j : ℕ) → Reads text.now room level at t j → Ends text.now level j → (p.1 ≡ j) × IsClean faults.new) }
+    ensures only { IfOk result (λ p. IsClean faults.old → (t : Tree source.SourceSpan) (j : ℕ)
+        → Reads text.now room level at t j → Ends text.now level j → (p.1 ≡ j)
+        × IsClean faults.new) }
 {
     if level == 0 {
         let (tree, end) = operand_from(alloc, text, room, at, faults)?;
@@ -184,9 +191,11 @@ fn operand_from(
     requires faults { AreOf text.now faults.old }
     ensures goes_on { IfOk result (λ p. GoesOn text.now at p.1 faults.old faults.new) }
     ensures spoils { IfOk result (λ p. Spoils p.0 faults.old faults.new) }
-    ensures read { IfOk result (λ p. IsClean faults.new → IsReading text.now room 0 at p.0 p.1 faults.old faults.new) }
+    ensures read { IfOk result (λ p. IsClean faults.new
+        → IsReading text.now room 0 at p.0 p.1 faults.old faults.new) }
     ensures as_written { IfOk result (λ p. IfSome p.0 IsExprAsWritten) }
-    ensures only { IfOk result (λ p. IsClean faults.old → (t : Tree source.SourceSpan) (j : ℕ) → Reads text.now room 0 at t j → (p.1 ≡ j) × IsClean faults.new) }
+    ensures only { IfOk result (λ p. IsClean faults.old → (t : Tree source.SourceSpan) (j : ℕ)
+        → Reads text.now room 0 at t j → (p.1 ≡ j) × IsClean faults.new) }
 {
     let start = skip_blanks(text, at);
     match head_of(text, start) {

@@ -1,17 +1,18 @@
 ghost use Rattle.std.specs.Prelude.{◌≡◌, ◌↔◌, IfOk, IsTrue, OnOk, codes, map};
 ghost use Rattle.std.specs.Str.Iter.{HasSubslice};
 ghost use Rattle.nextest_filter_syntax.specs.Trees.{tree_of};
-ghost use Rattle.nextest_filter_leaves.specs.Leaves.{leaf_of};
+ghost use Rattle.nextest_filter_syntax.specs.Leaves.{leaf_of};
 ghost use Rattle.nextest_filter_syntax.specs.Runtime.{AddsLeaves, runtime_leaves};
 
 use crate::parsed_expr::ParsedExpr;
-use nextest_filter_leaves::ParsedLeaf;
+use crate::parsed_leaf::ParsedLeaf;
 use std::alloc::{AllocError, Global};
 
 impl<S> ParsedExpr<S> {
     /// The leaves that can be told only of a test, or only at run time, from left to right.
     pub fn runtime_only_leaves(&self, alloc: Global) -> Result<Vec<&ParsedLeaf<S>>, AllocError>
-        ensures { IfOk result (λ v. map (λ l. leaf_of l.now) v.items ≡ runtime_leaves (tree_of self.now)) }
+        ensures { IfOk result (λ v. map (λ l. leaf_of l.now) v.items
+            ≡ runtime_leaves (tree_of self.now)) }
     {
         let mut leaves = Vec::new(alloc);
         self.push_from_the_right(&mut leaves)?;

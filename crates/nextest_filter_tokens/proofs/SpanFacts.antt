@@ -5,8 +5,8 @@ use Rattle.std.proofs.lemmas.List.Elements.{filter-append}
 use Rattle.std.proofs.lemmas.List.Sums.{length-filter, sum_by-cons}
 use Rattle.std.specs.List.{count_by, filter}
 use Rattle.nextest_filter_matchers.specs.declared.source_span.SourceSpan.{SourceSpan}
-use Rattle.nextest_filter_faults.specs.Faults.{is_pattern_fault, span_of}
-use Rattle.nextest_filter_faults.specs.declared.parse_error.ParseSingleError.{ParseSingleError}
+use Rattle.nextest_filter_tokens.specs.Faults.{is_pattern_fault, span_of}
+use Rattle.nextest_filter_tokens.specs.declared.parse_error.ParseSingleError.{ParseSingleError}
 use Rattle.nextest_filter_tokens.specs.FaultLists.{AreSomeOf, kept, left_out, none, pattern_faults, pattern_spans, syntax_faults}
 use Rattle.nextest_filter_tokens.specs.ReadingSteps.{IsClean, RefusesSomeOf}
 use Rattle.nextest_filter_tokens.specs.declared.fault_list.FaultList.{FaultList}

@@ -2,8 +2,8 @@
 use Rattle.std.specs.Prelude.{◌≡◌, ◌⊎◌, ℕ, ◌+◌, ◌≤◌, true, not, All, List, [], ◌∷◌, length, map}
 use Rattle.std.specs.List.{count_by, filter}
 use Rattle.nextest_filter_matchers.specs.declared.source_span.SourceSpan.{SourceSpan}
-use Rattle.nextest_filter_faults.specs.declared.parse_error.ParseSingleError.{ParseSingleError}
-use Rattle.nextest_filter_faults.specs.Faults.{span_of, is_pattern_fault}
+use Rattle.nextest_filter_tokens.specs.declared.parse_error.ParseSingleError.{ParseSingleError}
+use Rattle.nextest_filter_tokens.specs.Faults.{span_of, is_pattern_fault}
 use Rattle.nextest_filter_tokens.specs.Bytes.{is_byte, skip}
 use Rattle.nextest_filter_tokens.specs.Heads.{head_at}
 use Rattle.nextest_filter_tokens.specs.Patterns.{ReadsPattern}

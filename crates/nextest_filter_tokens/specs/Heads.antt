@@ -1,6 +1,6 @@
 -- What an operand begins with, by its place.
 use Rattle.std.specs.Prelude.{ℕ, ◌+◌, List, codes, if◌then◌else◌}
-use Rattle.nextest_filter_faults.specs.declared.operators.NotOperator.TheVariants.{LiteralNot, Exclamation}
+use Rattle.nextest_filter_tokens.specs.declared.operator_signs.NotOperator.TheVariants.{LiteralNot, Exclamation}
 use Rattle.nextest_filter_tokens.specs.Bytes.{IsEnd, has_word, has_whole_word}
 use Rattle.nextest_filter_tokens.specs.declared.heads.Predicate.TheVariants.{Package, Deps, Rdeps, Kind, Binary, BinaryId, Test, Group, Feature}
 use Rattle.nextest_filter_tokens.specs.declared.heads.Nullary.TheVariants.{Default, All, None}

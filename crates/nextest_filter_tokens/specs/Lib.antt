@@ -1,3 +1,7 @@
+pub mod Signs
+pub mod Faults
+pub mod FaultTexts
+pub mod Copies
 pub mod Bytes
 pub mod Patterns
 pub mod Escapes
@@ -5,3 +9,4 @@ pub mod Operators
 pub mod Heads
 pub mod FaultLists
 pub mod ReadingSteps
+pub mod Texts

@@ -1,7 +1,7 @@
 -- The operators of filter texts, by their places.
 use Rattle.std.specs.Prelude.{ℕ, ◌+◌, List, codes, if◌then◌else◌}
-use Rattle.nextest_filter_faults.specs.declared.operators.OrOperator.TheVariants.{LiteralOr, Pipe, Plus}
-use Rattle.nextest_filter_faults.specs.declared.operators.AndOperator.TheVariants.{LiteralAnd, Ampersand}
+use Rattle.nextest_filter_tokens.specs.declared.operator_signs.OrOperator.TheVariants.{LiteralOr, Pipe, Plus}
+use Rattle.nextest_filter_tokens.specs.declared.operator_signs.AndOperator.TheVariants.{LiteralAnd, Ampersand}
 use Rattle.nextest_filter_tokens.specs.Bytes.{IsEnd, has_word, has_whole_word}
 use Rattle.nextest_filter_tokens.specs.declared.operators.Operator.TheVariants.{Or, And, Minus}
 use Rattle.nextest_filter_tokens.specs.declared.operators.Found.{Found}

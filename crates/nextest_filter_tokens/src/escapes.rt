@@ -39,7 +39,8 @@ fn closed(text: &str, has_digits: bool, code: u32, at: usize) -> Escape
 
 /// The value of the digit at the place.
 fn digit_at(text: &str, at: usize) -> Option<u8>
-    ensures value { result ≡ (if is_digit_at text.now at then Some (digit_value (byte text.now at)) else None) }
+    ensures value { result ≡ (if is_digit_at text.now at then Some (digit_value (byte text.now at))
+        else None) }
     ensures small { IfSome result (λ v. v < 16) }
 {
     let bytes = text.as_bytes();

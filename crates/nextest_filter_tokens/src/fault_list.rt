@@ -1,7 +1,8 @@
 ghost use Rattle.std.specs.Prelude.{◌≡◌, ◌<◌, true};
 ghost use Rattle.nextest_filter_tokens.specs.FaultLists.{syntax_faults};
 
-use nextest_filter_faults::{ParseSingleError, SourceSpan};
+use crate::parse_error::ParseSingleError;
+use nextest_filter_matchers::SourceSpan;
 use std::alloc::{AllocError, Global};
 
 /// Faults in the order in which they were found. Once it is closed, no more are taken.
@@ -14,8 +15,8 @@ pub struct FaultList {
 
 impl FaultList {
     ghost use Rattle.std.specs.Prelude.{◌≡◌, ◌+◌, ◌≤◌, ◌<◌, ◌++◌, ◌∷◌, ℕ, List, [], false, true, IfOk, OnOk, vec_len};
-    ghost use Rattle.nextest_filter_faults.specs.Faults.{is_pattern_fault};
-    ghost use Rattle.nextest_filter_faults.specs.declared.parse_error.ParseSingleError.TheVariants.{UnsupportedExpression};
+    ghost use Rattle.nextest_filter_tokens.specs.Faults.{is_pattern_fault};
+    ghost use Rattle.nextest_filter_tokens.specs.declared.parse_error.ParseSingleError.TheVariants.{UnsupportedExpression};
     ghost use Rattle.nextest_filter_tokens.specs.FaultLists.{AreOver, AreWithin, LiesOver, LiesWithin, pattern_spans, syntax_faults};
 
     /// No faults.
@@ -33,14 +34,22 @@ impl FaultList {
     pub fn report(&mut self, fault: ParseSingleError) -> Result<(), AllocError>
         ensures grows { OnOk result (vec_len self.old.list ≤ vec_len self.new.list) }
         ensures some { OnOk result (0 < vec_len self.new.list) }
-        ensures syntax { OnOk result (is_pattern_fault fault ≡ false → 0 < syntax_faults self.new.list.items) }
-        ensures pattern { OnOk result (is_pattern_fault fault ≡ true → syntax_faults self.new.list.items ≡ syntax_faults self.old.list.items) }
-        ensures keeps_syntax { OnOk result (syntax_faults self.old.list.items ≤ syntax_faults self.new.list.items) }
-        ensures keeps_patterns { OnOk result (is_pattern_fault fault ≡ false → pattern_spans self.new.list.items ≡ pattern_spans self.old.list.items) }
-        ensures within { (n : ℕ) → AreWithin n self.old.list.items → LiesWithin n fault → AreWithin n self.new.list.items }
-        ensures over { (text : List ℕ) → AreOver text self.old.list.items → LiesOver text fault → AreOver text self.new.list.items }
-        ensures same_over { (text : List ℕ) → AreOver text self.old.list.items → is_pattern_fault fault ≡ false → AreOver text self.new.list.items }
-        ensures added { OnOk result (self.old.is_closed ≡ false → self.new.list.items ≡ self.old.list.items ++ fault ∷ []) }
+        ensures syntax { OnOk result (is_pattern_fault fault ≡ false
+            → 0 < syntax_faults self.new.list.items) }
+        ensures pattern { OnOk result (is_pattern_fault fault ≡ true
+            → syntax_faults self.new.list.items ≡ syntax_faults self.old.list.items) }
+        ensures keeps_syntax { OnOk result (syntax_faults self.old.list.items
+            ≤ syntax_faults self.new.list.items) }
+        ensures keeps_patterns { OnOk result (is_pattern_fault fault ≡ false
+            → pattern_spans self.new.list.items ≡ pattern_spans self.old.list.items) }
+        ensures within { (n : ℕ) → AreWithin n self.old.list.items → LiesWithin n fault
+            → AreWithin n self.new.list.items }
+        ensures over { (text : List ℕ) → AreOver text self.old.list.items → LiesOver text fault
+            → AreOver text self.new.list.items }
+        ensures same_over { (text : List ℕ) → AreOver text self.old.list.items
+            → is_pattern_fault fault ≡ false → AreOver text self.new.list.items }
+        ensures added { OnOk result (self.old.is_closed ≡ false
+            → self.new.list.items ≡ self.old.list.items ++ fault ∷ []) }
         ensures closed { OnOk result (self.old.is_closed ≡ true → self.new ≡ self.old) }
     {
         if self.is_closed {
@@ -54,12 +63,16 @@ impl FaultList {
     pub fn close(&mut self, span: SourceSpan) -> Result<(), AllocError>
         ensures grows { OnOk result (vec_len self.old.list ≤ vec_len self.new.list) }
         ensures syntax { OnOk result (0 < syntax_faults self.new.list.items) }
-        ensures keeps_syntax { OnOk result (syntax_faults self.old.list.items ≤ syntax_faults self.new.list.items) }
+        ensures keeps_syntax { OnOk result (syntax_faults self.old.list.items
+            ≤ syntax_faults self.new.list.items) }
         ensures closed { OnOk result (self.new.is_closed ≡ true) }
-        ensures added { OnOk result (self.old.is_closed ≡ false → self.new.list.items ≡ self.old.list.items ++ UnsupportedExpression span ∷ []) }
+        ensures added { OnOk result (self.old.is_closed ≡ false
+            → self.new.list.items ≡ self.old.list.items ++ UnsupportedExpression span ∷ []) }
         ensures kept { OnOk result (self.old.is_closed ≡ true → self.new.list ≡ self.old.list) }
-        ensures within { (n : ℕ) → AreWithin n self.old.list.items → span.offset + span.len ≤ n → AreWithin n self.new.list.items }
-        ensures over { (text : List ℕ) → AreOver text self.old.list.items → AreOver text self.new.list.items }
+        ensures within { (n : ℕ) → AreWithin n self.old.list.items → span.offset + span.len ≤ n
+            → AreWithin n self.new.list.items }
+        ensures over { (text : List ℕ) → AreOver text self.old.list.items
+            → AreOver text self.new.list.items }
     {
         self.report(ParseSingleError::UnsupportedExpression(span))?;
         self.is_closed = true;

@@ -2,8 +2,8 @@ ghost use Rattle.std.specs.Prelude.{◌≡◌};
 ghost use Rattle.nextest_filter_tokens.specs.Heads.{HeadEndsWithin, head_at, misplaced_at, plain_set_at, sign_at};
 
 use crate::bytes::has_word;
+use crate::operator_signs::NotOperator;
 use crate::operators::has_whole_word;
-use nextest_filter_faults::NotOperator;
 
 /// What a matcher is of.
 #[derive(Clone, Copy, Debug, PartialEq, Eq)]

@@ -3,7 +3,7 @@ ghost use Rattle.nextest_filter_tokens.specs.Bytes as spec;
 ghost use Rattle.nextest_filter_tokens.specs.Operators.{FoundEndsWithin, and_at, or_at};
 
 use crate::bytes::{has_word, is_word_end};
-use nextest_filter_faults::{AndOperator, OrOperator};
+use crate::operator_signs::{AndOperator, OrOperator};
 
 /// An operator between two operands.
 #[derive(Clone, Copy, Debug, PartialEq, Eq)]

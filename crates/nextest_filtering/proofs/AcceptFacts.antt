@@ -3,13 +3,13 @@ use Rattle.std.proofs.Common.{◌≡◌, ◌∙◌, ◌↔◌, ◌<◌, ◌==◌
 use Rattle.std.proofs.lemmas.Bool.Decides.{nat_tests}
 use Rattle.list_facts.proofs.Membership.{Contains-none, Contains-first, Contains-map, Contains-map_cases}
 use Rattle.workspace_record.specs.Records.{Text}
-use Rattle.guppy_row_parts.specs.declared.dependency_direction.DependencyDirection.{DependencyDirection}
-use Rattle.nextest_filter_faults.specs.declared.filterset_kind.FiltersetKind.{FiltersetKind}
-use Rattle.nextest_filter_faults.specs.declared.filterset_kind.FiltersetKind.TheVariants as kind
-use Rattle.nextest_filter_faults.specs.declared.parse_error.ParseSingleError.{ParseSingleError}
+use Rattle.guppy_package_parts.specs.declared.dependency_direction.DependencyDirection.{DependencyDirection}
+use Rattle.nextest_filter_tokens.specs.declared.filterset_kind.FiltersetKind.{FiltersetKind}
+use Rattle.nextest_filter_tokens.specs.declared.filterset_kind.FiltersetKind.TheVariants as kind
+use Rattle.nextest_filter_tokens.specs.declared.parse_error.ParseSingleError.{ParseSingleError}
 use Rattle.nextest_filter_tokens.specs.declared.heads.Predicate.TheVariants as names
-use Rattle.nextest_filter_queries.specs.NameTests.{NameTest, Suits, SuitsOneOf}
-use Rattle.nextest_filter_queries.specs.declared.groups.KnownGroups.{KnownGroups}
+use Rattle.nextest_filter_evaluation.specs.NameTests.{NameTest, Suits, SuitsOneOf}
+use Rattle.nextest_filter_evaluation.specs.declared.groups.KnownGroups.{KnownGroups}
 use Rattle.nextest_filter_evaluation.specs.Formulas.{Formula, negation, either, both, leaf, has_leaf}
 use Rattle.nextest_filter_evaluation.specs.Compiled as compiled
 use Rattle.nextest_filtering.specs.Contexts.{ContextValue}

@@ -6,24 +6,24 @@ use Rattle.regex.specs.Patterns.{find_str}
 use Rattle.regex.specs.Strings.{regex_pattern, regex_source}
 use Rattle.list_facts.proofs.Membership.{Contains-map_cases}
 use Rattle.workspace_record.specs.Records.{Text}
-use Rattle.guppy_row_parts.specs.declared.dependency_direction.DependencyDirection.{DependencyDirection}
-use Rattle.guppy_row_parts.specs.declared.dependency_direction.DependencyDirection.TheVariants as direction
+use Rattle.guppy_package_parts.specs.declared.dependency_direction.DependencyDirection.{DependencyDirection}
+use Rattle.guppy_package_parts.specs.declared.dependency_direction.DependencyDirection.TheVariants as direction
 use Rattle.nextest_filter_matchers.specs.Matchers.{matcher_of, tokens_of}
 use Rattle.nextest_filter_matchers.specs.Globs.{GlobMatches}
 use Rattle.nextest_filter_matchers.specs.declared.name_matcher.NameMatcher.{NameMatcher}
 use Rattle.nextest_filter_matchers.specs.declared.name_matcher.NameMatcher.TheVariants as name
 use Rattle.nextest_filter_matchers.specs.declared.source_span.SourceSpan.{SourceSpan}
-use Rattle.nextest_filter_faults.specs.declared.filterset_kind.FiltersetKind.{FiltersetKind}
-use Rattle.nextest_filter_faults.specs.declared.filterset_kind.FiltersetKind.TheVariants as kind
+use Rattle.nextest_filter_tokens.specs.declared.filterset_kind.FiltersetKind.{FiltersetKind}
+use Rattle.nextest_filter_tokens.specs.declared.filterset_kind.FiltersetKind.TheVariants as kind
 use Rattle.nextest_binaries.specs.declared.build_platform.BuildPlatform.{BuildPlatform}
 use Rattle.nextest_filter_tokens.specs.declared.heads.Predicate.{Predicate}
 use Rattle.nextest_filter_tokens.specs.declared.heads.Predicate.TheVariants as names
-use Rattle.nextest_filter_leaves.specs.AsWritten.{IsMatcherAsWritten}
-use Rattle.nextest_filter_leaves.proofs.PatternFacts.{patterns_alike}
-use Rattle.nextest_filter_queries.specs.Groups.{known_groups}
-use Rattle.nextest_filter_queries.specs.NameTests.{NameTest, Suits, SuitsOneOf, name_test}
+use Rattle.nextest_filter_syntax.specs.PatternsAsWritten.{IsMatcherAsWritten}
+use Rattle.nextest_filter_syntax.proofs.PatternFacts.{patterns_alike}
+use Rattle.nextest_filter_evaluation.specs.Groups.{known_groups}
+use Rattle.nextest_filter_evaluation.specs.NameTests.{NameTest, Suits, SuitsOneOf, name_test}
 use Rattle.nextest_binaries.specs.Queries as asked
-use Rattle.nextest_filter_queries.specs.declared.groups.KnownGroups.{KnownGroups}
+use Rattle.nextest_filter_evaluation.specs.declared.groups.KnownGroups.{KnownGroups}
 use Rattle.nextest_filter_evaluation.specs.Formulas.{Formula, negation, either, both, leaf, EachLeaf, Holds, SomeAnswersGive}
 use Rattle.nextest_filter_evaluation.specs.Meaning.{Gives}
 use Rattle.nextest_filtering.specs.Acceptance.{MatchesSome, ban_of}

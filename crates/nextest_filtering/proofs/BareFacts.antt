@@ -7,18 +7,18 @@ use Rattle.nextest_filter_matchers.specs.declared.source_span.SourceSpan.{Source
 use Rattle.nextest_binaries.specs.declared.build_platform.BuildPlatform.{BuildPlatform}
 use Rattle.nextest_filter_tokens.specs.declared.heads.Predicate.{Predicate}
 use Rattle.nextest_filter_tokens.specs.declared.heads.Predicate.TheVariants as names
-use Rattle.nextest_filter_leaves.specs.AsWritten.{IsLeafAsWritten, IsMatcherAsWritten}
-use Rattle.nextest_filter_leaves.specs.Leaves as leaves
-use Rattle.nextest_filter_leaves.specs.Leaves.{leaf_of}
-use Rattle.nextest_filter_leaves.specs.declared.parsed_leaf.ParsedLeaf.{ParsedLeaf}
-use Rattle.nextest_filter_leaves.specs.declared.parsed_leaf.ParsedLeaf.TheVariants as code
-use Rattle.nextest_filter_syntax.specs.AsWritten.{IsExprAsWritten}
+use Rattle.nextest_filter_syntax.specs.PatternsAsWritten.{IsLeafAsWritten, IsMatcherAsWritten}
+use Rattle.nextest_filter_syntax.specs.Leaves as leaves
+use Rattle.nextest_filter_syntax.specs.Leaves.{leaf_of}
+use Rattle.nextest_filter_syntax.specs.declared.parsed_leaf.ParsedLeaf.{ParsedLeaf}
+use Rattle.nextest_filter_syntax.specs.declared.parsed_leaf.ParsedLeaf.TheVariants as code
+use Rattle.nextest_filter_syntax.specs.FiltersAsWritten.{IsExprAsWritten}
 use Rattle.nextest_filter_syntax.specs.Grammar.{ReadsWhole}
 use Rattle.nextest_filter_syntax.specs.Trees.{tree_of}
 use Rattle.nextest_filter_syntax.specs.declared.parsed_expr.ParsedExpr.{ParsedExpr, Not', Union', Intersection', Difference', Parens', Set}
 use Rattle.nextest_filter_syntax.proofs.GrammarFacts.{texts_read_as_one}
-use Rattle.nextest_filter_printing.specs.Laws.{bare, bare_leaf}
-use Rattle.nextest_filter_queries.specs.NameTests.{name_test}
+use Rattle.nextest_filter_laws.specs.Laws.{bare, bare_leaf}
+use Rattle.nextest_filter_evaluation.specs.NameTests.{name_test}
 use Rattle.nextest_filtering.specs.Filters.{FilterLeaf, Named, Platform, Default, All, filter_leaf, filter_of}
 use Rattle.nextest_filtering.specs.Filters as filter
 use Rattle.nextest_filtering.proofs.AlikeFacts.{AlikeFormula, AlikeLeaf, all, boths, eithers, leaves as leaves_alike, matchers_alike, named, negations, none, of_default, platform}

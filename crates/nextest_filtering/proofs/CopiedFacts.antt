@@ -1,12 +1,12 @@
 -- Faults copied one by one, and copies of matchers.
 use Rattle.std.proofs.Common.{◌≡◌, List, [], ◌∷◌, ◌++◌, Result, Ok, Err, IfOk}
-use Rattle.nextest_filter_faults.specs.Copies.{SameFault}
-use Rattle.nextest_filter_faults.specs.declared.parse_error.ParseSingleError.{ParseSingleError}
+use Rattle.nextest_filter_tokens.specs.Copies.{SameFault}
+use Rattle.nextest_filter_tokens.specs.declared.parse_error.ParseSingleError.{ParseSingleError}
 use Rattle.nextest_filter_matchers.specs.Copies.{pattern_of}
 use Rattle.nextest_filter_matchers.specs.Matchers.{matcher_of}
 use Rattle.nextest_filter_matchers.specs.declared.name_matcher.NameMatcher.{NameMatcher}
-use Rattle.nextest_filter_queries.specs.NameTests.{name_test}
-use Rattle.nextest_filter_queries.proofs.NameFacts.{same_test}
+use Rattle.nextest_filter_evaluation.specs.NameTests.{name_test}
+use Rattle.nextest_filter_evaluation.proofs.NameFacts.{same_test}
 use Rattle.nextest_filtering.specs.CopiedFaults.{AreSame}
 
 -- one more fault

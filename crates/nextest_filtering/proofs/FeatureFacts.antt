@@ -1,7 +1,7 @@
 -- Packages with a feature that is said to be on.
 use Rattle.std.proofs.Common.{◌≡◌, ◌∙◌, ◌↔◌, sym, subst, List, Contains, map}
 use Rattle.workspace_record.specs.Records.{Text}
-use Rattle.nextest_filter_queries.specs.NameTests.{NameTest, Suits}
+use Rattle.nextest_filter_evaluation.specs.NameTests.{NameTest, Suits}
 use Rattle.nextest_filtering.specs.Contexts.{ContextValue}
 use Rattle.nextest_filtering.specs.ContextViews.{ArePicked}
 use Rattle.nextest_filtering.specs.Meaning.{IsFeatured}

@@ -4,18 +4,18 @@ use Rattle.std.proofs.lemmas.Bool.Decides.{nat_tests}
 use Rattle.std.specs.Str.{IsUtf8}
 use Rattle.workspace_record.specs.Records.{Text}
 use Rattle.nextest_filter_matchers.specs.declared.source_span.SourceSpan.{SourceSpan}
-use Rattle.nextest_filter_faults.specs.declared.filterset_kind.FiltersetKind.{FiltersetKind}
-use Rattle.nextest_filter_faults.specs.declared.parse_error.ParseSingleError.{ParseSingleError}
+use Rattle.nextest_filter_tokens.specs.declared.filterset_kind.FiltersetKind.{FiltersetKind}
+use Rattle.nextest_filter_tokens.specs.declared.parse_error.ParseSingleError.{ParseSingleError}
 use Rattle.nextest_filter_tokens.specs.FaultLists.{AreOver, AreWithin, syntax_faults}
 use Rattle.nextest_filter_tokens.proofs.SpanFacts.{all_faults}
-use Rattle.nextest_filter_syntax.specs.AsWritten.{IsExprAsWritten}
+use Rattle.nextest_filter_syntax.specs.FiltersAsWritten.{IsExprAsWritten}
 use Rattle.nextest_filter_syntax.specs.Trees.{Tree, tree_of}
 use Rattle.nextest_filter_syntax.specs.Grammar.{ReadsWhole}
 use Rattle.nextest_filter_syntax.specs.Reading.{part_of}
 use Rattle.nextest_filter_syntax.specs.Parsing.{AreFaultsOf, AreOfTree, ReadsSome}
 use Rattle.nextest_filter_syntax.specs.declared.parsing.ParseExprError.TheVariants as unread
 use Rattle.nextest_filter_syntax.specs.declared.parsed_expr.ParsedExpr.{ParsedExpr}
-use Rattle.nextest_filter_queries.specs.declared.groups.KnownGroups.{KnownGroups}
+use Rattle.nextest_filter_evaluation.specs.declared.groups.KnownGroups.{KnownGroups}
 use Rattle.nextest_filtering.specs.Contexts.{ContextValue}
 use Rattle.nextest_filtering.specs.Filters.{filter_of}
 use Rattle.nextest_filtering.specs.Acceptance.{AreUnmatched, bans}

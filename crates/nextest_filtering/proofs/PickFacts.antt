@@ -7,8 +7,8 @@ use Rattle.list_facts.proofs.Membership.{Contains-none, Contains-first, Contains
 use Rattle.std.proofs.lemmas.List.{take_more, drop_more}
 use Rattle.std.specs.BTreeSet.{insert_key}
 use Rattle.workspace_record.specs.Records.{Text}
-use Rattle.nextest_filter_queries.specs.NameTests.{NameTest, Suits, SuitsOneOf}
-use Rattle.nextest_filter_queries.proofs.NameFacts.{suits_first, suits_none}
+use Rattle.nextest_filter_evaluation.specs.NameTests.{NameTest, Suits, SuitsOneOf}
+use Rattle.nextest_filter_evaluation.proofs.NameFacts.{suits_first, suits_none}
 use Rattle.nextest_filtering.specs.ContextViews.{ArePicked}
 
 -- what one more element adds

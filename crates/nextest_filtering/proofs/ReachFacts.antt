@@ -4,15 +4,15 @@ use Rattle.list_facts.proofs.Quantifiers.{Any-from_Contains, Any_cases}
 use Rattle.numbered_graph.specs.Paths.{IsReached, any_link}
 use Rattle.numbered_graph.specs.Sets.{has}
 use Rattle.workspace_record.specs.Records.{Text}
-use Rattle.guppy_row_parts.specs.declared.dependency_direction.DependencyDirection.{DependencyDirection}
-use Rattle.guppy_row_parts.specs.declared.dependency_direction.DependencyDirection.TheVariants.{Forward, Reverse}
+use Rattle.guppy_package_parts.specs.declared.dependency_direction.DependencyDirection.{DependencyDirection}
+use Rattle.guppy_package_parts.specs.declared.dependency_direction.DependencyDirection.TheVariants.{Forward, Reverse}
 use Rattle.guppy_package_table.specs.Tables.{TableValue, numbered_links}
 use Rattle.guppy_package_graph.specs.Directions.{direction_of}
 use Rattle.guppy_package_graph.specs.Finding.{IsAt, IsNamed}
 use Rattle.guppy_package_graph.specs.Queries.{AreInitials, IsQueryOf, QueryValue}
 use Rattle.guppy_package_graph.specs.Resolves.{IsReachOf}
 use Rattle.guppy_package_graph.specs.SetValues.{SetValue}
-use Rattle.nextest_filter_queries.specs.NameTests.{NameTest, Suits}
+use Rattle.nextest_filter_evaluation.specs.NameTests.{NameTest, Suits}
 use Rattle.nextest_filtering.specs.Contexts.{ContextValue}
 use Rattle.nextest_filtering.specs.ContextViews.{ArePicked, IsInSet}
 use Rattle.nextest_filtering.specs.Meaning.{IsMatched, IsReachedOf, LeadsAlong}

@@ -1,9 +1,9 @@
 -- Faults that are found from right to left.
 use Rattle.std.proofs.Common.{◌≡◌, ◌∙◌, List, [], ◌∷◌, ◌++◌, Option, Some, None, refl, sym, ap, inl, inr, reverse}
 use Rattle.std.proofs.lemmas.List.{append_assoc, reverse-append}
-use Rattle.nextest_filter_faults.specs.declared.parse_error.ParseSingleError.{ParseSingleError}
+use Rattle.nextest_filter_tokens.specs.declared.parse_error.ParseSingleError.{ParseSingleError}
 use Rattle.nextest_filter_tokens.specs.declared.heads.Predicate.TheVariants as names
-use Rattle.nextest_filter_queries.specs.declared.groups.KnownGroups.{KnownGroups}
+use Rattle.nextest_filter_evaluation.specs.declared.groups.KnownGroups.{KnownGroups}
 use Rattle.nextest_filter_evaluation.specs.Formulas.{Formula, both, either, leaf}
 use Rattle.nextest_filtering.specs.Acceptance.{AreUnmatched, no_match}
 use Rattle.nextest_filtering.specs.Compiling.{AddsReversed, AddsUnmatched}

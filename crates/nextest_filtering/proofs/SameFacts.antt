@@ -1,7 +1,7 @@
 -- Compiled filters say what the filters say that they are made of.
 use Rattle.std.proofs.Common.{◌↔◌, inl, inr, ⊎_elim, Bool, true, false, not}
 use Rattle.nextest_filter_tokens.specs.declared.heads.Predicate.TheVariants as names
-use Rattle.nextest_filter_queries.specs.NameTests.{NameTest}
+use Rattle.nextest_filter_evaluation.specs.NameTests.{NameTest}
 use Rattle.nextest_binaries.specs.Queries as asked
 use Rattle.nextest_filter_evaluation.specs.Formulas.{Formula, negation, either, both, leaf, Holds, SomeAnswersGive}
 use Rattle.nextest_filter_evaluation.specs.Compiled.{Leaf}

@@ -8,7 +8,7 @@ use Rattle.guppy_package_table.specs.Tables.{TableValue}
 use Rattle.guppy_package_graph.specs.Finding.{IsAt}
 use Rattle.guppy_package_graph.specs.SetValues.{SetValue}
 use Rattle.nextest_filtering.specs.Contexts.{AreRowsAt, binaries_of, features_of}
-use Rattle.nextest_filter_faults.specs.declared.parse_error.ParseSingleError.{ParseSingleError}
+use Rattle.nextest_filter_tokens.specs.declared.parse_error.ParseSingleError.{ParseSingleError}
 use Rattle.nextest_filtering.specs.declared.context_names.ContextNames.{ContextNames}
 
 abbrev pub packages_in : ContextNames → List (Text × Text)

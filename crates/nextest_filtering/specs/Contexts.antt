@@ -3,7 +3,7 @@ use Rattle.std.specs.Prelude.{◌≡◌, ◌↔◌, ℕ, List, [], ◌∷◌, Co
 use Rattle.std.specs.List.{flat_map}
 use Rattle.numbered_graph.specs.Paths.{Reaches, any_link}
 use Rattle.workspace_record.specs.Records.{Text, Package, FeatureEntry, Target}
-use Rattle.guppy_row_parts.specs.BuildTargets.{TargetId, Library, BuildScript, Binary, Example, Test, Benchmark, id_of}
+use Rattle.guppy_package_parts.specs.BuildTargets.{TargetId, Library, BuildScript, Binary, Example, Test, Benchmark, id_of}
 use Rattle.guppy_package_table.specs.Tables.{TableValue, numbered_links}
 use Rattle.guppy_package_graph.specs.Finding.{IsAt}
 use Rattle.nextest_binaries.specs.BinaryIds.{binary_id}

@@ -3,10 +3,10 @@ use Rattle.nextest_filter_matchers.specs.declared.source_span.SourceSpan.{Source
 use Rattle.nextest_binaries.specs.declared.build_platform.BuildPlatform.{BuildPlatform}
 use Rattle.nextest_filter_tokens.specs.declared.heads.Predicate.{Predicate}
 use Rattle.nextest_filter_tokens.specs.declared.heads.Predicate.TheVariants as names
-use Rattle.nextest_filter_leaves.specs.declared.parsed_leaf.ParsedLeaf.{ParsedLeaf}
-use Rattle.nextest_filter_leaves.specs.declared.parsed_leaf.ParsedLeaf.TheVariants as code
+use Rattle.nextest_filter_syntax.specs.declared.parsed_leaf.ParsedLeaf.{ParsedLeaf}
+use Rattle.nextest_filter_syntax.specs.declared.parsed_leaf.ParsedLeaf.TheVariants as code
 use Rattle.nextest_filter_syntax.specs.declared.parsed_expr.ParsedExpr.{ParsedExpr, Not', Union', Intersection', Difference', Parens', Set}
-use Rattle.nextest_filter_queries.specs.NameTests.{NameTest, name_test}
+use Rattle.nextest_filter_evaluation.specs.NameTests.{NameTest, name_test}
 use Rattle.nextest_filter_evaluation.specs.Formulas.{Formula, negation, either, both, leaf}
 
 -- what a filter names, and where in its text

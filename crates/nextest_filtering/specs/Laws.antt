@@ -1,13 +1,13 @@
 -- Laws of compiled filters.
 use Rattle.std.specs.Prelude.{◌↔◌, Bool, IsTrue}
 use Rattle.nextest_filter_matchers.specs.declared.source_span.SourceSpan.{SourceSpan}
-use Rattle.nextest_filter_syntax.specs.AsWritten.{IsExprAsWritten}
+use Rattle.nextest_filter_syntax.specs.FiltersAsWritten.{IsExprAsWritten}
 use Rattle.nextest_filter_syntax.specs.Grammar.{ReadsWhole}
 use Rattle.nextest_filter_syntax.specs.Trees.{tree_of}
 use Rattle.nextest_filter_syntax.specs.TreeTexts.{tree_text}
 use Rattle.nextest_filter_syntax.specs.declared.parsed_expr.ParsedExpr.{ParsedExpr}
-use Rattle.nextest_filter_printing.specs.Printable.{IsPrintable}
-use Rattle.nextest_filter_queries.specs.NameTests.{NameTest}
+use Rattle.nextest_filter_laws.specs.Printable.{IsPrintable}
+use Rattle.nextest_filter_evaluation.specs.NameTests.{NameTest}
 use Rattle.nextest_binaries.specs.Queries as asked
 use Rattle.nextest_filter_evaluation.specs.Formulas.{Formula, Holds, SomeAnswersGive}
 use Rattle.nextest_filter_evaluation.specs.Compiled.{Leaf}

@@ -1,11 +1,11 @@
 -- What filters say of tests and of binaries, over the packages of a context and the paths of its graph.
 use Rattle.std.specs.Prelude.{◌≡◌, Bool, Contains}
 use Rattle.workspace_record.specs.Records.{Text}
-use Rattle.guppy_row_parts.specs.declared.dependency_direction.DependencyDirection.{DependencyDirection}
-use Rattle.guppy_row_parts.specs.declared.dependency_direction.DependencyDirection.TheVariants.{Forward, Reverse}
+use Rattle.guppy_package_parts.specs.declared.dependency_direction.DependencyDirection.{DependencyDirection}
+use Rattle.guppy_package_parts.specs.declared.dependency_direction.DependencyDirection.TheVariants.{Forward, Reverse}
 use Rattle.guppy_package_table.specs.Tables.{TableValue}
 use Rattle.nextest_filter_tokens.specs.declared.heads.Predicate.TheVariants as names
-use Rattle.nextest_filter_queries.specs.NameTests.{NameTest, Suits}
+use Rattle.nextest_filter_evaluation.specs.NameTests.{NameTest, Suits}
 use Rattle.nextest_binaries.specs.Queries as asked
 use Rattle.nextest_filter_evaluation.specs.Meaning.{Gives}
 use Rattle.nextest_filtering.specs.Contexts.{ContextValue, Leads}

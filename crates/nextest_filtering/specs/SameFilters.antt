@@ -1,11 +1,11 @@
 -- Filters that say the same.
 use Rattle.std.specs.Prelude.{◌↔◌, ℕ, ◌<◌, Bool, Contains, IsTrue, slice_index}
 use Rattle.workspace_record.specs.Records.{Text}
-use Rattle.nextest_filter_faults.specs.declared.filterset_kind.FiltersetKind.{FiltersetKind}
-use Rattle.nextest_filter_queries.specs.Groups.{known_groups}
-use Rattle.nextest_filter_queries.specs.NameTests.{Suits}
+use Rattle.nextest_filter_tokens.specs.declared.filterset_kind.FiltersetKind.{FiltersetKind}
+use Rattle.nextest_filter_evaluation.specs.Groups.{known_groups}
+use Rattle.nextest_filter_evaluation.specs.NameTests.{Suits}
 use Rattle.nextest_binaries.specs.Queries as asked
-use Rattle.nextest_filter_queries.specs.declared.groups.KnownGroups.{KnownGroups}
+use Rattle.nextest_filter_evaluation.specs.declared.groups.KnownGroups.{KnownGroups}
 use Rattle.nextest_filter_evaluation.specs.Formulas.{Formula, Holds, SomeAnswersGive}
 use Rattle.nextest_filtering.specs.Acceptance.{IsAccepted}
 use Rattle.nextest_filtering.specs.Contexts.{ContextValue, Leads}

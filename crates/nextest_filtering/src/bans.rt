@@ -1,7 +1,7 @@
 //! Predicates that may not stand in some filters.
 
 ghost use Rattle.std.specs.Prelude.{◌≡◌, ◌++◌, IfOk, OnOk, reverse};
-ghost use Rattle.nextest_filter_faults.specs.declared.parse_error.ParseSingleError.TheVariants as fault;
+ghost use Rattle.nextest_filter_tokens.specs.declared.parse_error.ParseSingleError.TheVariants as fault;
 ghost use Rattle.nextest_filtering.specs.Acceptance as spec;
 ghost use Rattle.nextest_filtering.specs.ContextViews.{list_of};
 ghost use Rattle.nextest_filtering.specs.Filters.{filter_leaf, filter_of};
@@ -31,7 +31,8 @@ fn push_bans(
     kind: FiltersetKind,
     errors: &mut Vec<ParseSingleError>,
 ) -> Result<(), AllocError>
-    ensures { OnOk result (errors.new.items ≡ errors.old.items ++ reverse (spec.bans kind (filter_of expr.now))) }
+    ensures { OnOk result (errors.new.items
+        ≡ errors.old.items ++ reverse (spec.bans kind (filter_of expr.now))) }
 {
     let mut rest = expr;
     loop {

@@ -1,9 +1,9 @@
 //! Filters with their names of packages looked up.
 
 ghost use Rattle.std.specs.Prelude.{◌≡◌, ◌++◌, ◌∷◌, [], Bool, true, IfOk, Ok, OnOk, if◌then◌else◌, map};
-ghost use Rattle.nextest_filter_faults.specs.declared.parse_error.ParseSingleError.TheVariants.{NoFeatureMatch, NoPackageMatch};
-ghost use Rattle.nextest_filter_queries.specs.NameTests.{SuitsOneOf, name_test};
-ghost use Rattle.nextest_filter_queries.specs.Groups.{AreKnown};
+ghost use Rattle.nextest_filter_tokens.specs.declared.parse_error.ParseSingleError.TheVariants.{NoFeatureMatch, NoPackageMatch};
+ghost use Rattle.nextest_filter_evaluation.specs.NameTests.{SuitsOneOf, name_test};
+ghost use Rattle.nextest_filter_evaluation.specs.Groups.{AreKnown};
 ghost use Rattle.nextest_filter_evaluation.specs.Formulas as formula;
 ghost use Rattle.nextest_filter_evaluation.specs.Formulas.{has_leaf};
 ghost use Rattle.nextest_filter_evaluation.specs.Compiled.{compiled_of, leaf_of};
@@ -16,8 +16,7 @@ ghost use Rattle.nextest_filtering.specs.Meaning.{IsFeatured};
 use crate::matching::id_set;
 use crate::parse_context::ParseContext;
 use guppy_package_graph::DependencyDirection;
-use nextest_filter_evaluation::{CompiledExpr, FiltersetLeaf};
-use nextest_filter_queries::KnownGroups;
+use nextest_filter_evaluation::{CompiledExpr, FiltersetLeaf, KnownGroups};
 use nextest_filter_syntax::{NameMatcher, ParseSingleError, ParsedExpr, ParsedLeaf, SourceSpan};
 use std::alloc::{AllocError, Global};
 
@@ -30,7 +29,8 @@ pub(crate) fn compiled_with_faults(
 ) -> Result<(CompiledExpr, Vec<ParseSingleError>), AllocError>
     requires groups { has_leaf names_group (filter_of expr.now) ≡ true → AreKnown groups.now }
     ensures compiled { IfOk result (λ r. IsCompiled cx.now (filter_of expr.now) (compiled_of r.0)) }
-    ensures faults { IfOk result (λ r. AreUnmatched cx.now groups.now (filter_of expr.now) r.1.items) }
+    ensures faults { IfOk result (λ r. AreUnmatched cx.now groups.now (filter_of expr.now)
+        r.1.items) }
 {
     let mut errors = Vec::new(alloc);
     let compiled = compile_expr(alloc, expr, cx, groups, &mut errors)?;
@@ -48,7 +48,8 @@ fn compile_expr(
 ) -> Result<CompiledExpr, AllocError>
     requires groups { has_leaf names_group (filter_of expr.now) ≡ true → AreKnown groups.now }
     ensures compiled { IfOk result (λ c. IsCompiled cx.now (filter_of expr.now) (compiled_of c)) }
-    ensures faults { OnOk result (AddsReversed cx.now groups.now (filter_of expr.now) errors.old.items errors.new.items) }
+    ensures faults { OnOk result (AddsReversed cx.now groups.now (filter_of expr.now)
+        errors.old.items errors.new.items) }
 {
     let mut above = CompiledExpr::Set(FiltersetLeaf::None);
     let mut rest = expr;
@@ -93,7 +94,8 @@ fn compile_leaf(
 ) -> Result<FiltersetLeaf, AllocError>
     requires groups { names_group (filter_leaf leaf.now) ≡ true → AreKnown groups.now }
     ensures compiled { IfOk result (λ l. IsCompiledLeaf cx.now (filter_leaf leaf.now) (leaf_of l)) }
-    ensures faults { OnOk result (AddsUnmatched cx.now groups.now (formula.leaf (filter_leaf leaf.now)) errors.old.items errors.new.items) }
+    ensures faults { OnOk result (AddsUnmatched cx.now groups.now
+        (formula.leaf (filter_leaf leaf.now)) errors.old.items errors.new.items) }
 {
     match leaf {
         ParsedLeaf::Package(matcher, span) => {
@@ -150,7 +152,8 @@ fn expected_matcher(
     errors: &mut Vec<ParseSingleError>,
 ) -> Result<NameMatcher, AllocError>
     ensures same { IfOk result (λ m. name_test m ≡ name_test matcher.now) }
-    ensures faults { OnOk result ((b : Bool) × (is_some ≡ Ok b) × (errors.new.items ≡ errors.old.items ++ (if b then [] else fault ∷ []))) }
+    ensures faults { OnOk result ((b : Bool) × (is_some ≡ Ok b)
+        × (errors.new.items ≡ errors.old.items ++ (if b then [] else fault ∷ []))) }
 {
     expect(is_some?, fault, errors)?;
     matcher.copy(alloc)
@@ -162,7 +165,8 @@ fn expect(
     fault: ParseSingleError,
     errors: &mut Vec<ParseSingleError>,
 ) -> Result<(), AllocError>
-    ensures { OnOk result (errors.new.items ≡ errors.old.items ++ (if is_some then [] else fault ∷ [])) }
+    ensures { OnOk result (errors.new.items
+        ≡ errors.old.items ++ (if is_some then [] else fault ∷ [])) }
 {
     if !is_some {
         errors.push(fault)?;
@@ -179,8 +183,10 @@ fn featured_of(
     cx: &ParseContext<'_>,
     errors: &mut Vec<ParseSingleError>,
 ) -> Result<FiltersetLeaf, AllocError>
-    ensures packages { IfOk result (λ l. ArePackages (IsFeatured cx.now (name_test matcher.now)) (leaf_of l)) }
-    ensures faults { OnOk result (AddsUnless (SuitsOneOf (name_test matcher.now) cx.now.features) (NoFeatureMatch span ∷ []) errors.old.items errors.new.items) }
+    ensures packages { IfOk result (λ l. ArePackages (IsFeatured cx.now (name_test matcher.now))
+        (leaf_of l)) }
+    ensures faults { OnOk result (AddsUnless (SuitsOneOf (name_test matcher.now) cx.now.features)
+        (NoFeatureMatch span ∷ []) errors.old.items errors.new.items) }
 {
     let is_some = cx.has_feature(alloc, matcher)?;
     expect(is_some, ParseSingleError::NoFeatureMatch(span), errors)?;
@@ -199,8 +205,11 @@ fn packages_of(
     direction: Option<DependencyDirection>,
     errors: &mut Vec<ParseSingleError>,
 ) -> Result<FiltersetLeaf, AllocError>
-    ensures packages { IfOk result (λ l. ArePackages (IsPicked cx.now (name_test matcher.now) direction) (leaf_of l)) }
-    ensures faults { OnOk result (AddsUnless (SuitsOneOf (name_test matcher.now) (map (λ p. p.1) cx.now.packages)) (NoPackageMatch span ∷ []) errors.old.items errors.new.items) }
+    ensures packages { IfOk result (λ l. ArePackages
+        (IsPicked cx.now (name_test matcher.now) direction) (leaf_of l)) }
+    ensures faults { OnOk result (AddsUnless
+        (SuitsOneOf (name_test matcher.now) (map (λ p. p.1) cx.now.packages))
+        (NoPackageMatch span ∷ []) errors.old.items errors.new.items) }
 {
     let matched = cx.matched(alloc, matcher)?;
     let is_some = !matched.is_empty();

@@ -2,14 +2,14 @@
 
 ghost use Rattle.std.specs.Prelude.{◌≡◌, ◌++◌, ◌∷◌, [], OnOk, Some, IfOk, codes, map, option_map, slice_get, string_bytes};
 ghost use Rattle.workspace_record.specs.Records.{Package};
-ghost use Rattle.guppy_row_parts.specs.BuildTargetViews.{target_view};
-ghost use Rattle.guppy_row_parts.specs.BuildTargets.{id_of};
+ghost use Rattle.guppy_package_parts.specs.BuildTargetViews.{target_view};
+ghost use Rattle.guppy_package_parts.specs.BuildTargets.{id_of};
 ghost use Rattle.guppy_package_graph.specs.Views.{graph_of, place_of};
 ghost use Rattle.nextest_filtering.specs.Contexts.{binaries_of, binary_kind, features_of, named_binary};
 ghost use Rattle.nextest_filtering.specs.ContextViews.{binaries_in, features_in, list_of, packages_in};
 
 use guppy_package_graph::{BuildTarget, BuildTargetId, PackageId, PackageMetadata, PackageRow};
-use nextest_filter_queries::{RustBinaryId, RustTestBinaryKind};
+use nextest_filter_evaluation::{RustBinaryId, RustTestBinaryKind};
 use std::alloc::{AllocError, Global};
 use std::marker::Model;
 
@@ -82,7 +82,11 @@ impl ContextNames {
         alloc: Global,
         added: PackageMetadata<'_>,
     ) -> Result<(), AllocError>
-        ensures { OnOk result ((p : Package) × (slice_get (graph_of added.entry).packages (place_of added.entry) ≡ Some p) × (packages_in self.new ≡ packages_in self.old ++ (p.id, p.name) ∷ []) × (binaries_in self.new ≡ binaries_in self.old ++ binaries_of p) × (features_in self.new ≡ features_in self.old ++ features_of p)) }
+        ensures { OnOk result ((p : Package)
+            × (slice_get (graph_of added.entry).packages (place_of added.entry) ≡ Some p)
+            × (packages_in self.new ≡ packages_in self.old ++ (p.id, p.name) ∷ [])
+            × (binaries_in self.new ≡ binaries_in self.old ++ binaries_of p)
+            × (features_in self.new ≡ features_in self.old ++ features_of p)) }
     {
         let row = added.row();
         let package = NamedPackage::of(alloc, row.id.as_str(), row.name.as_str())?;
@@ -99,7 +103,8 @@ fn push_features(
     row: &PackageRow,
     features: &mut Vec<String>,
 ) -> Result<(), AllocError>
-    ensures { OnOk result (map string_bytes features.new.items ≡ map string_bytes features.old.items ++ features_of row.now) }
+    ensures { OnOk result (map string_bytes features.new.items
+        ≡ map string_bytes features.old.items ++ features_of row.now) }
 {
     for feature in &row.features {
         let name = String::from_str(alloc, feature.name.as_str())?;
@@ -138,7 +143,9 @@ fn binary_of(
     package_name: &str,
     target: BuildTarget<'_>,
 ) -> Result<Option<NamedBinary>, AllocError>
-    ensures { IfOk result (λ b. list_of b ≡ named_binary package_name.now (target_view target.entry).name (binary_kind (id_of (target_view target.entry).kind (target_view target.entry).name))) }
+    ensures { IfOk result (λ b. list_of b
+        ≡ named_binary package_name.now (target_view target.entry).name
+        (binary_kind (id_of (target_view target.entry).kind (target_view target.entry).name))) }
 {
     let Some(kind) = binary_kind(target) else {
         return Ok(None);
@@ -151,7 +158,8 @@ fn binary_of(
 
 /// The kind of a target's binary; a procedural macro's is that of a library, since their ids agree.
 fn binary_kind(target: BuildTarget<'_>) -> Option<&'static str>
-    ensures { option_map (λ k. k.now) result ≡ binary_kind (id_of (target_view target.entry).kind (target_view target.entry).name) }
+    ensures { option_map (λ k. k.now) result
+        ≡ binary_kind (id_of (target_view target.entry).kind (target_view target.entry).name) }
 {
     match target.id() {
         BuildTargetId::Library => Some(RustTestBinaryKind::LIB),

@@ -2,12 +2,12 @@
 
 ghost use Rattle.std.specs.Prelude.{◌≡◌, ◌↔◌, ◌<◌, Bool, Some, true, false, IfErr, IfOk, IsOk, IsTrue, codes, string_bytes, vec_len};
 ghost use Rattle.std.specs.Str.Iter.{HasSubslice};
-ghost use Rattle.nextest_filter_faults.specs.declared.filterset_kind.FiltersetKind.TheVariants.{Test};
+ghost use Rattle.nextest_filter_tokens.specs.declared.filterset_kind.FiltersetKind.TheVariants.{Test};
 ghost use Rattle.nextest_filter_syntax.specs.Grammar.{ReadsWhole};
-ghost use Rattle.nextest_filter_syntax.specs.AsWritten.{IsExprAsWritten};
+ghost use Rattle.nextest_filter_syntax.specs.FiltersAsWritten.{IsExprAsWritten};
 ghost use Rattle.nextest_filter_syntax.specs.Trees.{patterns_of, tree_of};
-ghost use Rattle.nextest_filter_queries.specs.Groups.{AreKnown};
-ghost use Rattle.nextest_filter_queries.specs.NameTests.{NameTest};
+ghost use Rattle.nextest_filter_evaluation.specs.Groups.{AreKnown};
+ghost use Rattle.nextest_filter_evaluation.specs.NameTests.{NameTest};
 ghost use Rattle.nextest_binaries.specs.Queries.{binary_of, test_of};
 ghost use Rattle.nextest_filter_evaluation.specs.Compiled.{compiled_of, has_pattern, is_group};
 ghost use Rattle.nextest_filter_evaluation.specs.Formulas.{AllAnswersGive, has_leaf};
@@ -22,8 +22,9 @@ use crate::bans::bans_of;
 use crate::compiling::compiled_with_faults;
 use crate::parse_context::ParseContext;
 use crate::refusals::{FiltersetError, FiltersetParseErrors};
-use nextest_filter_evaluation::{CompiledExpr, EvalContext};
-use nextest_filter_queries::{BinaryQuery, GroupLookup, KnownGroups, TestQuery};
+use nextest_filter_evaluation::{
+    BinaryQuery, CompiledExpr, EvalContext, GroupLookup, KnownGroups, TestQuery,
+};
 use nextest_filter_syntax::{FiltersetKind, ParseSingleError, ParsedExpr, parse_with_faults};
 use std::alloc::{AllocError, Global};
 
@@ -53,9 +54,12 @@ impl Filterset {
         ensures input { IfOk result (λ f. string_bytes f.input ≡ string_bytes input) }
         ensures reads { IfOk result (λ f. ReadsWhole (string_bytes input) (tree_of f.parsed)) }
         ensures as_written { IfOk result (λ f. IsExprAsWritten f.parsed) }
-        ensures accepted { IfOk result (λ f. IsAccepted cx.now known_groups.now kind (filter_of f.parsed)) }
-        ensures compiled { IfOk result (λ f. IsCompiled cx.now (filter_of f.parsed) (compiled_of f.compiled)) }
-        ensures refused { IfErr result (IsRefusal cx.now known_groups.now kind (string_bytes input)) }
+        ensures accepted { IfOk result (λ f. IsAccepted cx.now known_groups.now kind
+            (filter_of f.parsed)) }
+        ensures compiled { IfOk result (λ f. IsCompiled cx.now (filter_of f.parsed)
+            (compiled_of f.compiled)) }
+        ensures refused { IfErr result (IsRefusal cx.now known_groups.now kind
+            (string_bytes input)) }
     {
         let (tree, faults) = parse_with_faults(alloc, input.as_str())?;
         if !faults.is_empty() {
@@ -92,7 +96,8 @@ impl Filterset {
         ensures input { IfOk result (λ c. string_bytes c.input ≡ string_bytes self.now.input) }
         ensures parsed { IfOk result (λ c. tree_of c.parsed ≡ tree_of self.now.parsed) }
         ensures patterns { IfOk result (λ c. patterns_of c.parsed ≡ patterns_of self.now.parsed) }
-        ensures compiled { IfOk result (λ c. compiled_of c.compiled ≡ compiled_of self.now.compiled) }
+        ensures compiled { IfOk result (λ c. compiled_of c.compiled
+            ≡ compiled_of self.now.compiled) }
     {
         let input = String::from_str(alloc, self.input.as_str())?;
         let parsed = self.parsed.copy(alloc)?;
@@ -116,8 +121,11 @@ impl Filterset {
         query: &BinaryQuery<'_>,
         cx: &EvalContext<'_>,
     ) -> Result<Option<bool>, AllocError>
-        ensures exact { IfOk result (λ r. (v : Bool) → (r ≡ Some v) ↔ AllAnswersGive (MayBe (compiled_of cx.now.default_filter.now) (binary_of query.now)) (compiled_of self.now.compiled) v) }
-        ensures answers { has_leaf has_pattern (compiled_of self.now.compiled) ≡ false → has_leaf has_pattern (compiled_of cx.now.default_filter.now) ≡ false → IsOk result }
+        ensures exact { IfOk result (λ r. (v : Bool) → (r ≡ Some v)
+            ↔ AllAnswersGive (MayBe (compiled_of cx.now.default_filter.now) (binary_of query.now))
+            (compiled_of self.now.compiled) v) }
+        ensures answers { has_leaf has_pattern (compiled_of self.now.compiled) ≡ false
+            → has_leaf has_pattern (compiled_of cx.now.default_filter.now) ≡ false → IsOk result }
     {
         self.compiled.matches_binary(alloc, query, cx)
     }
@@ -130,8 +138,11 @@ impl Filterset {
         cx: &EvalContext<'_>,
     ) -> Result<bool, AllocError>
         requires groups { has_leaf is_group (compiled_of self.now.compiled) ≡ false }
-        ensures holds { IfOk result (λ r. IsTrue r ↔ Passes (compiled_of cx.now.default_filter.now) (λ _. ⊥) (test_of query.now) (compiled_of self.now.compiled)) }
-        ensures answers { has_leaf has_pattern (compiled_of self.now.compiled) ≡ false → has_leaf has_pattern (compiled_of cx.now.default_filter.now) ≡ false → IsOk result }
+        ensures holds { IfOk result (λ r. IsTrue r
+            ↔ Passes (compiled_of cx.now.default_filter.now) (λ _. ⊥) (test_of query.now)
+            (compiled_of self.now.compiled)) }
+        ensures answers { has_leaf has_pattern (compiled_of self.now.compiled) ≡ false
+            → has_leaf has_pattern (compiled_of cx.now.default_filter.now) ≡ false → IsOk result }
     {
         self.compiled.matches_test(alloc, query, cx)
     }
@@ -144,8 +155,13 @@ impl Filterset {
         cx: &EvalContext<'_>,
         groups: &dyn GroupLookup,
     ) -> Result<bool, AllocError>
-        ensures holds { IfOk result (λ r. IsTrue r ↔ Passes (compiled_of cx.now.default_filter.now) (member groups.now (test_of query.now)) (test_of query.now) (compiled_of self.now.compiled)) }
-        ensures answers { has_leaf has_pattern (compiled_of self.now.compiled) ≡ false → has_leaf has_pattern (compiled_of cx.now.default_filter.now) ≡ false → (has_leaf is_group (compiled_of self.now.compiled) ≡ true → (m : NameTest) → ready groups.now (test_of query.now) m) → IsOk result }
+        ensures holds { IfOk result (λ r. IsTrue r
+            ↔ Passes (compiled_of cx.now.default_filter.now) (member groups.now (test_of query.now))
+            (test_of query.now) (compiled_of self.now.compiled)) }
+        ensures answers { has_leaf has_pattern (compiled_of self.now.compiled) ≡ false
+            → has_leaf has_pattern (compiled_of cx.now.default_filter.now) ≡ false
+            → (has_leaf is_group (compiled_of self.now.compiled) ≡ true → (m : NameTest)
+            → ready groups.now (test_of query.now) m) → IsOk result }
     {
         self.compiled
             .matches_test_with_groups(alloc, query, cx, groups)

@@ -2,10 +2,11 @@
 
 ghost use Rattle.nextest_filtering.specs.Laws.{CompiledGiveTheSame, CompiledHoldTheSame, PrintedFiltersSayTheSame};
 
-pub use nextest_filter_leaves::laws::{leaves_read_once, patterns_of_one_text_match_alike};
+pub use nextest_filter_laws::laws::printed_filters_read_back;
 pub use nextest_filter_matchers::laws::matchers_are_lawful;
-pub use nextest_filter_printing::laws::printed_filters_read_back;
-pub use nextest_filter_syntax::laws::texts_read_as_one;
+pub use nextest_filter_syntax::laws::{
+    leaves_read_once, patterns_of_one_text_match_alike, texts_read_as_one,
+};
 
 /// A compiled filter says of tests and of binaries what the filter says that it is made of.
 pub fn compiled_filters_say_the_same()

@@ -1,5 +1,8 @@
 //! Filters over a package graph: texts compiled, and asked about binaries and tests. It gives out all
 //! of the syntax and of what filters are asked.
+//!
+//! Begin with `filterset.rt`, then `compiling.rt`; `specs/Meaning.antt` says what each leaf matches.
+//! Each public item is a name of nextest's.
 
 #![tactic(auto)]
 
@@ -14,10 +17,9 @@ mod refusals;
 
 pub use crate::filterset::Filterset;
 pub use crate::parse_context::ParseContext;
-pub use nextest_filter_evaluation::{CompiledExpr, EvalContext, FiltersetLeaf, NoGroups};
-pub use nextest_filter_queries::{
-    BinaryQuery, GroupLookup, KnownGroups, PackageId, RustBinaryId, RustTestBinaryKind,
-    TestCaseName, TestQuery,
+pub use nextest_filter_evaluation::{
+    BinaryQuery, CompiledExpr, EvalContext, FiltersetLeaf, GroupLookup, KnownGroups, NoGroups,
+    PackageId, RustBinaryId, RustTestBinaryKind, TestCaseName, TestQuery,
 };
 pub use nextest_filter_syntax::{
     AndOperator, BuildPlatform, DifferenceOperator, FILTERSET_REFERENCE_MD, FiltersetKind,

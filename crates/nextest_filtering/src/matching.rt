@@ -3,15 +3,15 @@
 ghost use Rattle.std.specs.Prelude.{◌≡◌, ◌↔◌, ◌++◌, ◌∷◌, [], ℕ, Contains, IfOk, IsTrue, OnOk, if◌then◌else◌, map, string_bytes};
 ghost use Rattle.workspace_record.specs.Records.{Text};
 ghost use Rattle.guppy_package_graph.specs.Finding.{AreKnown, IsNamed};
-ghost use Rattle.nextest_filter_queries.specs.NameTests.{Suits, SuitsOneOf, name_test};
+ghost use Rattle.nextest_filter_evaluation.specs.NameTests.{Suits, SuitsOneOf, name_test};
 ghost use Rattle.nextest_filtering.specs.Meaning.{IsFeatured, IsMatched, IsReachedOf};
 ghost use Rattle.nextest_filtering.specs.ContextViews.{ArePicked, IsInSet};
 
 use crate::context_names::{NamedBinary, NamedPackage};
 use crate::parse_context::ParseContext;
 use guppy_package_graph::{DependencyDirection, PackageGraph, PackageId, PackageSet};
+use nextest_filter_evaluation::suits;
 use nextest_filter_matchers::NameMatcher;
-use nextest_filter_queries::suits;
 use std::alloc::{AllocError, Global};
 use std::collections::BTreeSet;
 
@@ -22,7 +22,8 @@ impl ParseContext<'_> {
         alloc: Global,
         matcher: &NameMatcher,
     ) -> Result<Vec<&PackageId>, AllocError>
-        ensures { IfOk result (λ v. (id : Text) → Contains (map (λ i. i.now) v.items) id ↔ IsMatched self.now (name_test matcher.now) id) }
+        ensures { IfOk result (λ v. (id : Text) → Contains (map (λ i. i.now) v.items) id
+            ↔ IsMatched self.now (name_test matcher.now) id) }
     {
         let ids = named_so(alloc, self.packages(), matcher)?;
         Ok(ids)
@@ -36,7 +37,8 @@ impl ParseContext<'_> {
         starts: &[&PackageId],
         direction: DependencyDirection,
     ) -> Result<Vec<&PackageId>, AllocError>
-        ensures { IfOk result (λ v. (id : Text) → Contains (map (λ i. i.now) v.items) id ↔ IsReachedOf self.now (Contains (map (λ i. i.now) starts.now)) direction id) }
+        ensures { IfOk result (λ v. (id : Text) → Contains (map (λ i. i.now) v.items) id
+            ↔ IsReachedOf self.now (Contains (map (λ i. i.now) starts.now)) direction id) }
     {
         let known = known_to(alloc, self.graph(), starts)?;
         match self.graph().query_directed(alloc, &known, direction) {
@@ -55,7 +57,8 @@ impl ParseContext<'_> {
         alloc: Global,
         matcher: &NameMatcher,
     ) -> Result<Vec<&PackageId>, AllocError>
-        ensures { IfOk result (λ v. (id : Text) → Contains (map (λ i. i.now) v.items) id ↔ IsFeatured self.now (name_test matcher.now) id) }
+        ensures { IfOk result (λ v. (id : Text) → Contains (map (λ i. i.now) v.items) id
+            ↔ IsFeatured self.now (name_test matcher.now) id) }
     {
         let listed = named_so(alloc, self.on(), matcher)?;
         let wanted = id_set(alloc, &listed)?;
@@ -69,7 +72,8 @@ impl ParseContext<'_> {
         alloc: Global,
         matcher: &NameMatcher,
     ) -> Result<bool, AllocError>
-        ensures { IfOk result (λ r. IsTrue r ↔ SuitsOneOf (name_test matcher.now) self.now.features) }
+        ensures { IfOk result (λ r. IsTrue r
+            ↔ SuitsOneOf (name_test matcher.now) self.now.features) }
     {
         some_text_suits(alloc, self.features(), matcher)
     }
@@ -80,7 +84,8 @@ impl ParseContext<'_> {
         alloc: Global,
         matcher: &NameMatcher,
     ) -> Result<bool, AllocError>
-        ensures { IfOk result (λ r. IsTrue r ↔ SuitsOneOf (name_test matcher.now) (map (λ b. b.0) self.now.binaries)) }
+        ensures { IfOk result (λ r. IsTrue r
+            ↔ SuitsOneOf (name_test matcher.now) (map (λ b. b.0) self.now.binaries)) }
     {
         some_id_suits(alloc, self.binaries(), matcher)
     }
@@ -91,7 +96,8 @@ impl ParseContext<'_> {
         alloc: Global,
         matcher: &NameMatcher,
     ) -> Result<bool, AllocError>
-        ensures { IfOk result (λ r. IsTrue r ↔ SuitsOneOf (name_test matcher.now) (map (λ b. b.1) self.now.binaries)) }
+        ensures { IfOk result (λ r. IsTrue r
+            ↔ SuitsOneOf (name_test matcher.now) (map (λ b. b.1) self.now.binaries)) }
     {
         some_name_suits(alloc, self.binaries(), matcher)
     }
@@ -104,7 +110,9 @@ fn known_to<'a>(
     ids: &[&'a PackageId],
 ) -> Result<Vec<&'a PackageId>, AllocError>
     ensures known { IfOk result (λ v. AreKnown graph.now (map (λ i. i.now) v.items)) }
-    ensures same { IfOk result (λ v. (place : ℕ) → IsNamed graph.now (map (λ i. i.now) v.items) place ↔ IsNamed graph.now (map (λ i. i.now) ids.entry.now) place) }
+    ensures same { IfOk result (λ v. (place : ℕ)
+        → IsNamed graph.now (map (λ i. i.now) v.items) place
+        ↔ IsNamed graph.now (map (λ i. i.now) ids.entry.now) place) }
 {
     let mut known = Vec::new(alloc);
     for id in ids {
@@ -120,7 +128,8 @@ fn named_so<'a>(
     packages: &'a [NamedPackage],
     matcher: &NameMatcher,
 ) -> Result<Vec<&'a PackageId>, AllocError>
-    ensures { IfOk result (λ v. ArePicked (λ p. Suits (name_test matcher.now) p.1) packages.entry.now (map (λ i. i.now) v.items)) }
+    ensures { IfOk result (λ v. ArePicked (λ p. Suits (name_test matcher.now) p.1)
+        packages.entry.now (map (λ i. i.now) v.items)) }
 {
     let mut ids = Vec::new(alloc);
     for found in packages {
@@ -136,7 +145,8 @@ fn in_set<'a>(
     packages: &'a [NamedPackage],
     set: &PackageSet<'_>,
 ) -> Result<Vec<&'a PackageId>, AllocError>
-    ensures { IfOk result (λ v. ArePicked (λ p. IsInSet set.now p.0) packages.entry.now (map (λ i. i.now) v.items)) }
+    ensures { IfOk result (λ v. ArePicked (λ p. IsInSet set.now p.0) packages.entry.now
+        (map (λ i. i.now) v.items)) }
 {
     let mut ids = Vec::new(alloc);
     for found in packages {
@@ -152,7 +162,8 @@ fn those_in<'a>(
     packages: &'a [NamedPackage],
     wanted: &BTreeSet<PackageId>,
 ) -> Result<Vec<&'a PackageId>, AllocError>
-    ensures { IfOk result (λ v. ArePicked (λ p. Contains wanted.now.keys p.0) packages.entry.now (map (λ i. i.now) v.items)) }
+    ensures { IfOk result (λ v. ArePicked (λ p. Contains wanted.now.keys p.0) packages.entry.now
+        (map (λ i. i.now) v.items)) }
 {
     let mut ids = Vec::new(alloc);
     for found in packages {
@@ -173,7 +184,8 @@ fn push_if<'a>(
     id: &'a PackageId,
     ids: &mut Vec<&'a PackageId>,
 ) -> Result<(), AllocError>
-    ensures { OnOk result (map (λ i. i.now) ids.new.items ≡ map (λ i. i.now) ids.old.items ++ (if is_wanted then id.entry.now ∷ [] else [])) }
+    ensures { OnOk result (map (λ i. i.now) ids.new.items
+        ≡ map (λ i. i.now) ids.old.items ++ (if is_wanted then id.entry.now ∷ [] else [])) }
 {
     if is_wanted {
         ids.push(id)?;
@@ -195,7 +207,8 @@ fn some_id_suits(
     binaries: &[NamedBinary],
     matcher: &NameMatcher,
 ) -> Result<bool, AllocError>
-    ensures { IfOk result (λ r. IsTrue r ↔ SuitsOneOf (name_test matcher.now) (map (λ b. b.0) binaries.now)) }
+    ensures { IfOk result (λ r. IsTrue r
+        ↔ SuitsOneOf (name_test matcher.now) (map (λ b. b.0) binaries.now)) }
 {
     for binary in binaries {
         if suits(alloc, matcher, binary.id.as_str())? {
@@ -210,7 +223,8 @@ fn some_name_suits(
     binaries: &[NamedBinary],
     matcher: &NameMatcher,
 ) -> Result<bool, AllocError>
-    ensures { IfOk result (λ r. IsTrue r ↔ SuitsOneOf (name_test matcher.now) (map (λ b. b.1) binaries.now)) }
+    ensures { IfOk result (λ r. IsTrue r
+        ↔ SuitsOneOf (name_test matcher.now) (map (λ b. b.1) binaries.now)) }
 {
     for binary in binaries {
         if suits(alloc, matcher, binary.name.as_str())? {
@@ -225,7 +239,8 @@ fn some_text_suits(
     names: &[String],
     matcher: &NameMatcher,
 ) -> Result<bool, AllocError>
-    ensures { IfOk result (λ r. IsTrue r ↔ SuitsOneOf (name_test matcher.now) (map string_bytes names.now)) }
+    ensures { IfOk result (λ r. IsTrue r
+        ↔ SuitsOneOf (name_test matcher.now) (map string_bytes names.now)) }
 {
     for name in names {
         if suits(alloc, matcher, name.as_str())? {
@@ -237,7 +252,8 @@ fn some_text_suits(
 
 /// The ids as a set.
 pub(crate) fn id_set(alloc: Global, ids: &[&PackageId]) -> Result<BTreeSet<PackageId>, AllocError>
-    ensures { IfOk result (λ s. (id : Text) → Contains s.keys id ↔ Contains (map (λ i. i.now) ids.now) id) }
+    ensures { IfOk result (λ s. (id : Text) → Contains s.keys id
+        ↔ Contains (map (λ i. i.now) ids.now) id) }
 {
     let mut set = BTreeSet::new(alloc);
     for id in ids {

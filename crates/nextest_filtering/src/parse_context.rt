@@ -61,7 +61,8 @@ impl<'g> ParseContext<'g> {
         packages: &PackageSet<'_>,
     ) -> Result<ParseContext<'g>, AllocError>
         requires same { ids_of graph.now.packages ≡ ids_of packages.now.graph.packages }
-        ensures packages { IfOk result (IsContextOf graph.now packages.now.graph (λ v. IsTrue (has packages.now.included v))) }
+        ensures packages { IfOk result (IsContextOf graph.now packages.now.graph
+            (λ v. IsTrue (has packages.now.included v))) }
         ensures on { IfOk result (λ cx. cx.on ≡ []) }
     {
         let names = names_of(alloc, packages)?;
@@ -79,7 +80,8 @@ impl<'g> ParseContext<'g> {
         on: &[(PackageId, String)],
     ) -> Result<ParseContext<'g>, AllocError>
         requires same { ids_of graph.now.packages ≡ ids_of packages.now.graph.packages }
-        ensures packages { IfOk result (IsContextOf graph.now packages.now.graph (λ v. IsTrue (has packages.now.included v))) }
+        ensures packages { IfOk result (IsContextOf graph.now packages.now.graph
+            (λ v. IsTrue (has packages.now.included v))) }
         ensures on { IfOk result (λ cx. cx.on ≡ map listed_as on.now) }
     {
         let names = names_of(alloc, packages)?;
@@ -132,7 +134,8 @@ fn features_on(alloc: Global, on: &[(PackageId, String)]) -> Result<Vec<NamedPac
 
 /// The packages of a set with their binaries and their features.
 fn names_of(alloc: Global, packages: &PackageSet<'_>) -> Result<ContextNames, AllocError>
-    ensures { IfOk result (AreNamesOf packages.now.graph (λ v. IsTrue (has packages.now.included v))) }
+    ensures { IfOk result (AreNamesOf packages.now.graph
+        (λ v. IsTrue (has packages.now.included v))) }
 {
     let mut names = ContextNames {
         packages: Vec::new(alloc),

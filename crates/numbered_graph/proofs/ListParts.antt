@@ -12,9 +12,6 @@ module _ {X : Type 0} where
   pub All-left : (P : X → Type 0) (xs ys : List X) → All P (xs ++ ys) → All P xs
   All-left P xs ys h k d lt = subst P (get_or_append_left xs ys d k lt) (h k d (let size = length-append xs ys in omega arith))
 
-  pub All-right : (P : X → Type 0) (xs ys : List X) → All P (xs ++ ys) → All P ys
-  All-right P xs ys h k d lt = subst P (get_or-append-add xs ys k d) (h (length xs + k) d (let size = length-append xs ys in omega arith))
-
   pub AllPairs-left : (R : X → X → Type 0) (xs ys : List X) → AllPairs R (xs ++ ys) → AllPairs R xs
   AllPairs-left R xs ys h i j d lt small =
       subst (λ x. R x (get_or xs j d)) (get_or_append_left xs ys d i (omega arith)) (subst (λ y. R (get_or (xs ++ ys) i d) y) (get_or_append_left xs ys d j small) (h i j d lt (let size = length-append xs ys in omega arith)))

@@ -1,5 +1,5 @@
 -- From ranks to listings.
-use Rattle.std.proofs.Common.{◌≡◌, ◌≢◌, ℕ, ◌<◌, ◌≤◌, Bool, false, ◌&&◌, eqb, ltb, List, [], ◌∷◌, length, get_or, map, filter, refl, sym, subst, ap, IsPermutation, All, arith}
+use Rattle.std.proofs.Common.{◌≡◌, ◌≢◌, ℕ, ◌<◌, ◌≤◌, Bool, false, ◌&&◌, eqb, ltb, List, [], ◌∷◌, Result, Ok, Err, IfOk, length, get_or, map, filter, refl, sym, subst, ap, IsPermutation, All, arith}
 use Rattle.std.specs.Ordering.{nat_cmp, ordering_then, is_lt}
 use Rattle.std.proofs.lemmas.Bool.{ltb-true, lt-ltb, and_parts, and_from}
 use Rattle.std.proofs.lemmas.Bool.Decides.{Decides-eqb, nat_tests}
@@ -19,6 +19,11 @@ use Rattle.numbered_graph.proofs.PathFacts.{Reaches-weaker}
 use Rattle.numbered_graph.proofs.Numbers.{numbers-small, numbers-all, numbers-apart}
 use Rattle.numbered_graph.proofs.RankFacts.{level, mutual_at}
 use Rattle.numbered_graph.proofs.Kept.{AllPairs-filter, triples_filter}
+
+-- what follows of a value from two facts of it
+pub IfOk-both : {T E : Type 0} {P Q R : T → Type 0} (r : Result T E) → IfOk r P → IfOk r Q → ((x : T) → P x → Q x → R x) → IfOk r R
+IfOk-both (Ok x) p q from = from x p q
+IfOk-both (Err e) p q from = tt
 
 -- what a comparison by three numbers says where the later one is not below the earlier one
 pub lex : (a b c d e f : ℕ) → is_lt (ordering_then (nat_cmp a b) (ordering_then (nat_cmp c d) (nat_cmp e f))) ≡ false → (b ≤ a) × (b ≡ a → d ≤ c)

@@ -1,12 +1,12 @@
 -- Paths joined, made longer, and closed sets.
-use Rattle.std.proofs.Common.{◌≡◌, ℕ, ◌<◌, Bool, true, false, List, [], ◌∷◌, ◌++◌, length, replicate, ◌↔◌, Contains, refl, sym, subst}
+use Rattle.std.proofs.Common.{◌≡◌, ℕ, zero, suc, ◌<◌, Bool, true, false, List, [], ◌∷◌, ◌++◌, length, replicate, ◌↔◌, Contains, refl, sym, subst, arith}
 use Rattle.numbered_graph.specs.declared.link.Link.{Link}
 use Rattle.numbered_graph.specs.declared.direction.Direction.{Direction}
 use Rattle.numbered_graph.specs.declared.direction.Direction.TheVariants.{Forward, Reverse}
 use Rattle.numbered_graph.specs.Links.{link_at, near_at, far_at}
 use Rattle.std.proofs.lemmas.List.{get_or-replicate}
 use Rattle.numbered_graph.specs.Sets.{has}
-use Rattle.numbered_graph.specs.Paths.{any_link, IsPath, Reaches, AreMutual, LeadsOn, IsReached}
+use Rattle.numbered_graph.specs.Paths.{any_link, IsPath, Reaches, LeadsOn, IsReached}
 
 module _ (links : List Link) where
   -- a path over links that pass one test, where those pass another one too
@@ -34,18 +34,9 @@ module _ (links : List Link) where
   pub Reaches-link : (p : ℕ → Bool) (j : ℕ) → j < length links → p j ≡ true → Reaches links p (link_at links j).from (link_at links j).to
   Reaches-link p j lt ok = record { path = j ∷ []; leads = (lt, ok, refl, refl) }
 
-  pub AreMutual-refl : (p : ℕ → Bool) (a : ℕ) → AreMutual links p a a
-  AreMutual-refl p a = record { there = Reaches-refl p a; back = Reaches-refl p a }
-
 module _ {links : List Link} {p : ℕ → Bool} where
   pub Reaches-trans : {a b c : ℕ} → Reaches links p a b → Reaches links p b c → Reaches links p a c
   Reaches-trans {a} {b} {c} h k = record { path = h.path ++ k.path; leads = IsPath-append links p a h.path b k.path c h.leads k.leads }
-
-  pub AreMutual-sym : {a b : ℕ} → AreMutual links p a b → AreMutual links p b a
-  AreMutual-sym h = record { there = h.back; back = h.there }
-
-  pub AreMutual-trans : {a b c : ℕ} → AreMutual links p a b → AreMutual links p b c → AreMutual links p a c
-  AreMutual-trans h k = record { there = Reaches-trans h.there k.there; back = Reaches-trans k.back h.back }
 
   pub Reaches-weaker : {q : ℕ → Bool} → ((j : ℕ) → j < length links → p j ≡ true → q j ≡ true) → {a b : ℕ} → Reaches links p a b → Reaches links q a b
   Reaches-weaker {q} weaker {a} {b} h = record { path = h.path; leads = IsPath-weaker links p q weaker a h.path b h.leads }
@@ -84,3 +75,11 @@ module _ (d : Direction) (links : List Link) (p : ℕ → Bool) (starts : List �
   -- a set that has the starts, and with the near end of each link that passes its far end, has what is reached
   pub IsReached-closed : (S : ℕ → Type 0) → ((v : ℕ) → Contains starts v → S v) → ((j : ℕ) → j < length links → p j ≡ true → S (near_at d links j) → S (far_at d links j)) → (v : ℕ) → IsReached d links p starts v → S v
   IsReached-closed S begins on v h = LeadsOn-carries d links p S on h.start v h.leads (begins h.start h.among)
+
+-- what is reached from one start alone
+pub reached_from_one : (links : List Link) (p : ℕ → Bool) (from to : ℕ) → IsReached Forward links p (from ∷ []) to ↔ Reaches links p from to
+reached_from_one links p from to = (λ h. of_one h.start h.among h.leads, λ leads. record { start = from; among = (0, omega arith, refl); leads = leads })
+  where
+    of_one : (start : ℕ) → Contains (from ∷ []) start → Reaches links p start to → Reaches links p from to
+    of_one start (zero, lt, is) leads = subst (λ v. Reaches links p v to) (sym is) leads
+    of_one start (suc k, lt, is) leads = absurd (omega (arith, lt))

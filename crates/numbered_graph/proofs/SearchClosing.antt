@@ -15,8 +15,11 @@ first-rest [] start n h = h
 first-rest (x ∷ left) start n h = h
 
 module _ {links : List Link} {passes : ℕ → Bool} {nodes : ℕ} {s : Lists} (h : Searches links passes nodes s) (left : List ℕ) (start : ℕ) (cut : s.starts ≡ left ++ start ∷ []) (done : All (λ v. get_or s.places v 0 ≤ start) s.todo) (ranks : List ℕ) (closes : RanksFrom start (length s.path) (s.closed + 1) s.path s.ranks ranks) where
-  rising_cut : AllPairs (λ a b. a ≤ b) (left ++ start ∷ [])
-  rising_cut = subst (λ xs. AllPairs (λ a b. a ≤ b) xs) cut h.starts.rising
+  rising_cut : AllPairs (λ a b. a < b) (left ++ start ∷ [])
+  rising_cut = subst (λ xs. AllPairs (λ a b. a < b) xs) cut h.starts.rising
+
+  left_before : All (λ a. a < start) left
+  left_before = AllPairs-last (λ a b. a < b) left start rising_cut
 
   -- what holds of all starts, and of those that are left
   part : (P : ℕ → Type 0) → All P s.starts → All P left
@@ -26,13 +29,13 @@ module _ {links : List Link} {passes : ℕ → Bool} {nodes : ℕ} {s : Lists} (
   whole P all last = subst (All P) (sym cut) (All-push P left start all last)
 
   all_up : All (λ a. a ≤ start) s.starts
-  all_up = whole (λ a. a ≤ start) (AllPairs-last (λ a b. a ≤ b) left start rising_cut) (omega arith)
+  all_up = whole (λ a. a ≤ start) (All-weaker (λ a. a < start) (λ a. a ≤ start) (λ a lt. omega arith) left left_before) (omega arith)
 
   start_in : Contains s.starts start
   start_in = subst (λ xs. Contains xs start) (sym cut) (Contains-push left start)
 
-  start_within : start ≤ length s.path
-  start_within = All-contains (λ a. a ≤ length s.path) s.starts start h.starts.within start_in
+  start_within : start < length s.path
+  start_within = All-contains (λ a. a < length s.path) s.starts start h.starts.within start_in
 
   -- a node of the path from the start of the last knot on is open
   knot_open : (v i : ℕ) → i < length s.path → get_or s.path i 0 ≡ v → IsOpen s.places s.ranks v i
@@ -54,7 +57,7 @@ module _ {links : List Link} {passes : ℕ → Bool} {nodes : ℕ} {s : Lists} (
   on_path i lt = get_or-take start s.path i 0 lt
 
   size : length (take start s.path) ≡ start
-  size = length-take-le start s.path start_within
+  size = length-take-le start s.path (let z = start_within in omega arith)
 
   path_open : (i : ℕ) → i < length (take start s.path) → IsOpen s.places ranks (get_or (take start s.path) i 0) i
   path_open i lt =
@@ -124,8 +127,8 @@ module _ {links : List Link} {passes : ℕ → Bool} {nodes : ℕ} {s : Lists} (
     cursors = h.cursors;
     path = record { below = All-take (λ v. v < nodes) start s.path h.path.below; open_at = path_open; found = path_found; ranked_placed = ranked_placed' };
     starts = record {
-      rising = AllPairs-left (λ a b. a ≤ b) left (start ∷ []) rising_cut;
-      within = All-weaker (λ a. a ≤ start) (λ a. a ≤ length (take start s.path)) (λ a le. let z = size in omega arith) left (part (λ a. a ≤ start) all_up);
+      rising = AllPairs-left (λ a b. a < b) left (start ∷ []) rising_cut;
+      within = All-weaker (λ a. a < start) (λ a. a < length (take start s.path)) (λ a lt. let z = size in omega arith) left left_before;
       first = subst (λ n. get_or left 0 n ≡ 0) (sym size) (first-rest left start (length s.path) (subst (λ xs. get_or xs 0 (length s.path) ≡ 0) cut h.starts.first));
     };
     knotted = knotted';
@@ -136,6 +139,7 @@ module _ {links : List Link} {passes : ℕ → Bool} {nodes : ℕ} {s : Lists} (
       rising = h.todo.rising;
       all = λ v i o small. h.todo.all v i (open_before v i o).0 small;
     };
+    counted = let before = h.counted in let some = start_within in let z = size in omega arith;
   }
 
   pub Searches-closed : (path starts : List ℕ) (closed : ℕ) → path ≡ take start s.path → starts ≡ left → closed ≡ s.closed + 1 → Searches links passes nodes (record s { path = path; ranks = ranks; starts = starts; closed = closed })

@@ -1,13 +1,14 @@
 -- Before the first node, and after the last one.
-use Rattle.std.proofs.Common.{◌≡◌, ℕ, zero, suc, ◌<◌, ◌≤◌, Bool, List, [], length, get_or, replicate, refl, subst, ⊎_elim, arith}
+use Rattle.std.proofs.Common.{◌≡◌, ℕ, zero, suc, ◌<◌, ◌≤◌, Bool, eqb, List, [], length, get_or, replicate, refl, subst, ⊎_elim, arith}
 use Rattle.std.proofs.lemmas.Bool.{cases_lt}
 use Rattle.std.proofs.lemmas.List.{get_or_past, length-replicate}
+use Rattle.std.proofs.lemmas.List.Sums.{count_by-le-length}
 use Rattle.numbered_graph.specs.declared.link.Link.{Link}
 use Rattle.numbered_graph.specs.declared.direction.Direction.TheVariants.{Reverse}
 use Rattle.numbered_graph.specs.Links.{near_at}
 use Rattle.numbered_graph.specs.Chains.{IsNextLink}
 use Rattle.numbered_graph.specs.Ranks.{AreRanks}
-use Rattle.numbered_graph.specs.Searches.{Lists, IsOpen, Searches}
+use Rattle.numbered_graph.specs.Searches.{Lists, unplaced, IsOpen, Searches}
 use Rattle.numbered_graph.proofs.PathFacts.{IsPath-carries_back}
 
 abbrev pub zeros : ℕ → List ℕ
@@ -20,6 +21,12 @@ get_or-zeros (suc n) (suc v) = get_or-zeros n v
 
 none_open : (n v i : ℕ) → IsOpen (zeros n) (zeros n) v i → ⊥
 none_open n v i o = let placed = o.placed in let none = get_or-zeros n v in absurd (omega arith)
+
+none_placed : (n : ℕ) → unplaced (zeros n) ≤ n
+none_placed n =
+    let most : unplaced (zeros n) ≤ length (zeros n) = count_by-le-length (λ p. eqb p 0) (zeros n) in
+    let size : length (zeros n) ≡ n = length-replicate n 0 in
+    omega arith
 
 pub Searches-start : (links : List Link) (passes : ℕ → Bool) (nodes : ℕ) (first : List ℕ) → length first ≡ nodes → ((v : ℕ) → v < nodes → IsNextLink Reverse links v 0 (get_or first v 0)) → Searches links passes nodes (record { cursors = first; places = zeros nodes; ranks = zeros nodes; path = []; starts = []; todo = []; closed = 0 })
 Searches-start links passes nodes first sized firsts = record {
@@ -47,6 +54,7 @@ Searches-start links passes nodes first sized firsts = record {
     rising = λ i j d lt small. absurd (omega arith);
     all = λ v i o. absurd (none_open nodes v i o);
   };
+  counted = let all = none_placed nodes in omega arith;
 }
 
 module _ {links : List Link} {passes : ℕ → Bool} {nodes : ℕ} {s : Lists} (h : Searches links passes nodes s) (idle : s.starts ≡ []) where

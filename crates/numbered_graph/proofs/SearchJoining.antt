@@ -31,12 +31,13 @@ module _ {links : List Link} {passes : ℕ → Bool} {nodes : ℕ} {s : Lists} (
     cursors = h.cursors;
     path = h.path;
     starts = record {
-      rising = AllPairs-left (λ a b. a ≤ b) left joins.is_cut.ends (subst (λ xs. AllPairs (λ a b. a ≤ b) xs) joins.is_cut.cut h.starts.rising);
-      within = part (λ a. a ≤ length s.path) h.starts.within;
+      rising = AllPairs-left (λ a b. a < b) left joins.is_cut.ends (subst (λ xs. AllPairs (λ a b. a < b) xs) joins.is_cut.cut h.starts.rising);
+      within = part (λ a. a < length s.path) h.starts.within;
       first = first-left left joins.is_cut.ends (length s.path) p joins.is_cut.past (subst (λ xs. get_or xs 0 (length s.path) ≡ 0) joins.is_cut.cut h.starts.first);
     };
     knotted = knotted';
     followed = λ j i small ok o before. ⊎_elim (λ ranked. inl ranked) (λ k. inr (k.0, k.1, part (λ a. a ≤ i → a ≤ k.0) k.2)) (h.followed j i small ok o before);
     ranked = h.ranked;
     todo = h.todo;
+    counted = h.counted;
   }

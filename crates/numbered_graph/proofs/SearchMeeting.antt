@@ -32,7 +32,7 @@ module _ {links : List Link} {passes : ℕ → Bool} {nodes : ℕ} {s : Lists} (
         starts = let size = length_push s.starts (length s.path) in omega arith;
         todo = let size = length_push s.todo w in omega arith;
         still_open = to_new h w below new;
-        seen = λ i passed o. inr (length s.path, subst (λ v. IsOpen (opened s w).places s.ranks v (length s.path)) e (w_open h w below new), All-push (λ a. a ≤ i → a ≤ length s.path) s.starts (length s.path) (All-weaker (λ a. a ≤ length s.path) (λ a. a ≤ i → a ≤ length s.path) (λ a up le. up) s.starts h.starts.within) (λ le. omega arith));
+        seen = λ i passed o. inr (length s.path, subst (λ v. IsOpen (opened s w).places s.ranks v (length s.path)) e (w_open h w below new), All-push (λ a. a ≤ i → a ≤ length s.path) s.starts (length s.path) (All-weaker (λ a. a < length s.path) (λ a. a ≤ i → a ≤ length s.path) (λ a up le. omega arith) s.starts h.starts.within) (λ le. omega arith));
       }
 
     module _ (p : ℕ) (is_open : IsOpen s.places s.ranks w p) (left : List ℕ) (joins : JoinsAt p s.starts left) where

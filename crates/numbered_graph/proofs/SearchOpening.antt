@@ -1,16 +1,20 @@
 -- A new node is put at the end of the path, as a knot of its own.
-use Rattle.std.proofs.Common.{◌≡◌, ◌≢◌, ℕ, suc, ◌+◌, ◌<◌, ◌≤◌, Bool, true, List, [], ◌∷◌, ◌++◌, length, get_or, set, refl, sym, subst, ◌∙◌, inl, inr, ⊎_elim, Contains, AllPairs, arith}
-use Rattle.std.proofs.lemmas.Bool.{cases_eq, cases_lt}
+use Rattle.std.proofs.Common.{◌≡◌, ◌≢◌, ℕ, suc, ◌+◌, ◌<◌, ◌≤◌, Bool, true, cond, eqb, List, [], ◌∷◌, ◌++◌, length, get_or, set, refl, ap, sym, subst, ◌∙◌, inl, inr, ⊎_elim, Contains, AllPairs, arith}
+use Rattle.std.proofs.lemmas.Bool.{cases_eq, cases_lt, ne_eqb}
 use Rattle.std.proofs.lemmas.List.{get_or-set_same, get_or-set_other, length-set, length_push, get_or_append_left, get_or_push}
 use Rattle.std.proofs.lemmas.List.Elements.{All-push, All-weaker, All-contains, Contains-push, Contains-append_left}
 use Rattle.std.proofs.lemmas.List.Quantifiers.{all_pairs_push}
+use Rattle.std.proofs.lemmas.List.Sums.{sum_by-set}
 use Rattle.numbered_graph.specs.declared.link.Link.{Link}
 use Rattle.numbered_graph.specs.declared.direction.Direction.TheVariants.{Reverse}
 use Rattle.numbered_graph.specs.Links.{near_at, far_at}
 use Rattle.numbered_graph.specs.Paths.{Reaches}
-use Rattle.numbered_graph.specs.Searches.{Lists, opened, IsOpen, IsNoEarlier, IsSeen, Searches}
+use Rattle.numbered_graph.specs.Searches.{Lists, opened, unplaced, IsOpen, IsNoEarlier, IsSeen, Searches}
 use Rattle.numbered_graph.proofs.PathFacts.{Reaches-refl}
 use Rattle.numbered_graph.proofs.ListParts.{All-left}
+
+abbrev unplaced_at : ℕ → ℕ
+unplaced_at place = cond (eqb place 0) 1 0
 
 first-push : (starts : List ℕ) (n m : ℕ) → get_or starts 0 n ≡ 0 → get_or (starts ++ n ∷ []) 0 m ≡ 0
 first-push [] n m h = h
@@ -34,6 +38,14 @@ module _ {links : List Link} {passes : ℕ → Bool} {nodes : ℕ} {s : Lists} (
 
   pub w_open : IsOpen (set s.places w (length s.path + 1)) s.ranks w (length s.path)
   w_open = record { placed = there; unranked = ⊎_elim (λ ranked. absurd (let placed = h.path.ranked_placed w ranked in omega arith)) (λ none. omega arith) (cases_lt 0 (get_or s.ranks w 0)) }
+
+  -- it is one of those that were not put there
+  fewer_unplaced : unplaced (set s.places w (length s.path + 1)) + 1 ≡ unplaced s.places
+  fewer_unplaced =
+      let at : unplaced (set s.places w (length s.path + 1)) + unplaced_at (get_or s.places w 0) ≡ unplaced s.places + unplaced_at (length s.path + 1) = sum_by-set unplaced_at s.places w (length s.path + 1) 0 in_places in
+      let was : unplaced_at (get_or s.places w 0) ≡ 1 = ap unplaced_at new in
+      let is : unplaced_at (length s.path + 1) ≡ 0 = ap (λ b. cond b 1 0) (ne_eqb (length s.path + 1) 0 (λ e. absurd (omega arith))) in
+      omega arith
 
   -- what is open now is the new node, or was open before
   from_new : (P : ℕ → ℕ → Type 0) → P w (length s.path) → ((v i : ℕ) → IsOpen s.places s.ranks v i → P v i) → (v i : ℕ) → IsOpen (set s.places w (length s.path + 1)) s.ranks v i → P v i
@@ -116,8 +128,8 @@ module _ {links : List Link} {passes : ℕ → Bool} {nodes : ℕ} {s : Lists} (
       cursors = record { follows = h.cursors.follows; unmet = unmet' };
       path = record { below = All-push (λ v. v < nodes) s.path w h.path.below below; open_at = path_open; found = path_found; ranked_placed = ranked_placed' };
       starts = record {
-        rising = all_pairs_push (λ a b. a ≤ b) s.starts (length s.path) h.starts.rising h.starts.within;
-        within = All-push (λ a. a ≤ length (s.path ++ w ∷ [])) s.starts (length s.path) (All-weaker (λ a. a ≤ length s.path) (λ a. a ≤ length (s.path ++ w ∷ [])) (λ a le. let size = length_push s.path w in omega arith) s.starts h.starts.within) (let size = length_push s.path w in omega arith);
+        rising = all_pairs_push (λ a b. a < b) s.starts (length s.path) h.starts.rising h.starts.within;
+        within = All-push (λ a. a < length (s.path ++ w ∷ [])) s.starts (length s.path) (All-weaker (λ a. a < length s.path) (λ a. a < length (s.path ++ w ∷ [])) (λ a le. let size = length_push s.path w in omega arith) s.starts h.starts.within) (let size = length_push s.path w in omega arith);
         first = first-push s.starts (length s.path) (length (s.path ++ w ∷ [])) h.starts.first;
       };
       knotted = knotted';
@@ -128,4 +140,5 @@ module _ {links : List Link} {passes : ℕ → Bool} {nodes : ℕ} {s : Lists} (
         rising = all_pairs_push (λ u v. get_or (set s.places w (length s.path + 1)) u 0 ≤ get_or (set s.places w (length s.path + 1)) v 0) s.todo w todo_rising (λ k d lt. todo_last k d lt);
         all = from_new (λ v i. get_or s.cursors v 0 < length links → Contains (s.todo ++ w ∷ []) v) (λ _. Contains-push s.todo w) (λ v i o small. Contains-append_left s.todo (w ∷ []) v (h.todo.all v i o small));
       };
+      counted = let before = h.counted in let size = length_push s.path w in let fewer = fewer_unplaced in omega arith;
     }

@@ -50,6 +50,7 @@ module _ {links : List Link} {passes : ℕ → Bool} {nodes : ℕ} {s : Lists} (
         rising = h.todo.rising;
         all = λ u i o lt. ⊎_elim (λ e. subst (λ w. Contains s.todo w) (sym e) (h.todo.all v place is_open (omega arith))) (λ ne. h.todo.all u i o (subst (λ m. m < length links) (other u ne) lt)) (cases_eq u v);
       };
+      counted = h.counted;
     }
 
   -- the last node that may have links left has none
@@ -67,4 +68,5 @@ module _ {links : List Link} {passes : ℕ → Bool} {nodes : ℕ} {s : Lists} (
       rising = AllPairs-left (λ a b. get_or s.places a 0 ≤ get_or s.places b 0) rest (v ∷ []) (subst (λ xs. AllPairs (λ a b. get_or s.places a 0 ≤ get_or s.places b 0) xs) e h.todo.rising);
       all = λ u i o lt. ⊎_elim (λ inside. inside) (λ same. absurd (let small = subst (λ w. get_or s.cursors w 0 < length links) (sym same) lt in omega arith)) (Contains-push_cases rest v u (subst (λ xs. Contains xs u) e (h.todo.all u i o lt)));
     };
+    counted = h.counted;
   }

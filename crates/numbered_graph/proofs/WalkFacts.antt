@@ -1,7 +1,7 @@
 -- The steps of a walk: a node is included, a link is taken, a node is left, a link is answered.
-use Rattle.std.proofs.Common.{◌≡◌, ◌≢◌, ℕ, zero, suc, ◌+◌, ◌<◌, ◌≤◌, Bool, true, false, cond, ◌&&◌, ◌||◌, eqb, None, List, [], ◌∷◌, ◌++◌, length, get_or, set, replicate, refl, sym, subst, ap, ◌∙◌, ◌⊎◌, inl, inr, ⊎_elim, ◌↔◌, Contains, All, count_by, arith, true≢false}
+use Rattle.std.proofs.Common.{◌≡◌, ◌≢◌, ℕ, zero, suc, ◌+◌, ◌-◌, ◌<◌, ◌≤◌, Bool, true, false, cond, ◌&&◌, ◌||◌, eqb, None, Some, List, [], ◌∷◌, ◌++◌, length, get_or, set, replicate, refl, sym, subst, ap, ◌∙◌, ◌⊎◌, inl, inr, ⊎_elim, ◌↔◌, Contains, All, count_by, arith, true≢false}
 use Rattle.std.proofs.lemmas.Bool.{cases_eq, cases_lt, eq-eqb, eqb-true, or_cases, or_left, or_right, and_parts, and_from, cond_both}
-use Rattle.std.proofs.lemmas.List.{get_or-set_same, get_or-set_other, length-set, set-get_or, length_push, length-append, get_or_append_left, get_or_default, append-nil, map-append, length-map, length-replicate, get_or-replicate}
+use Rattle.std.proofs.lemmas.List.{get_or-set_same, get_or-set_other, length-set, length_push, length-append, get_or_append_left, get_or_default, append-nil, map-append, length-map, length-replicate, get_or-replicate}
 use Rattle.std.proofs.lemmas.List.Elements.{All-push, All-weaker, Contains-push, Contains-append_left, Contains-push_cases, All-contains, Contains-get_or}
 use Rattle.std.proofs.lemmas.List.Quantifiers.{all_pairs_push}
 use Rattle.std.proofs.lemmas.List.Folds.{list_any-append}
@@ -14,7 +14,7 @@ use Rattle.numbered_graph.specs.Links.{near_at, far_at}
 use Rattle.numbered_graph.specs.Chains.{IsNextLink}
 use Rattle.numbered_graph.specs.Paths.{any_link, IsReached}
 use Rattle.numbered_graph.specs.Sets.{has}
-use Rattle.numbered_graph.specs.Walks.{Shown, shown_links, taken_links, is_accepted, IsIncluded, IsShowing, IsDue, AreListed, AreTaken, AreFollowed}
+use Rattle.numbered_graph.specs.Walks.{Shown, WalkValue, shown_links, taken_links, opened_of, is_accepted, IsIncluded, IsShowing, IsDue, AreListed, AreTaken, AreFollowed}
 use Rattle.numbered_graph.proofs.SetFacts.{has-set, has-set_elim, count_by-set_new, count_by-lt, length-le_from_pairs}
 use Rattle.numbered_graph.proofs.PathFacts.{IsReached-start, IsReached-more, IsReached-weaker, IsReached-closed}
 
@@ -53,10 +53,6 @@ AreFollowed-none d links n = record {
   leads = λ v h. absurd (has-none n v h);
   closed = λ j lt h. absurd (true≢false (sym h));
 }
-
--- one that was reached is listed already
-pub set-same : (flags : List Bool) (v : ℕ) → has flags v ≡ true → set flags v true ≡ flags
-set-same flags v h = ap (set flags v) (sym h) ∙ set-get_or flags v false
 
 -- there is room for a node that was not reached
 pub length-listed-lt : {n : ℕ} {reached : List Bool} {order : List ℕ} → AreListed n reached order → (v : ℕ) → v < n → has reached v ≡ false → length order < n
@@ -232,6 +228,10 @@ AreFollowed-start {d} {links} {reached} starts more v e lt h =
 pub taken_after : (shown more : Shown) (c : ℕ) (b : Bool) → more ≡ shown ++ (c, b) ∷ [] → taken_links more None ≡ shown_links shown ++ c ∷ []
 taken_after shown more c b e = append-nil (shown_links more) ∙ ap shown_links e ∙ map-append (λ (s : ℕ × Bool). s.0) shown ((c, b) ∷ [])
 
+-- an answer takes no node from the work list
+pub opened-answered : (w : WalkValue) (c : ℕ) (b : Bool) → w.waiting ≡ Some c → opened_of (record w { waiting = None; shown = w.shown ++ (c, b) ∷ [] }) ≡ opened_of w
+opened-answered w c b waits = ap (λ (js : List ℕ). w.looked - length js) (taken_after w.shown (w.shown ++ (c, b) ∷ []) c b refl ∙ ap (taken_links w.shown) (sym waits))
+
 -- a link was taken and gets its answer
 module _ {d : Direction} {n : ℕ} {links : List Link} {reached : List Bool} {order cursors : List ℕ} {opened : ℕ} (shown : Shown) (c : ℕ) (h : AreTaken d n links reached order cursors opened (shown_links shown ++ c ∷ [])) where
   pub waiting_within : c < length links
@@ -257,21 +257,26 @@ module _ {d : Direction} {n : ℕ} {links : List Link} {reached : List Bool} {or
       grown : (rest : List ℕ) → AreTaken d n links wider (order ++ rest) cursors opened (taken_links more None)
       grown rest = subst (λ flags. AreTaken d n links flags (order ++ rest) cursors opened (taken_links more None)) (sym w) (AreTaken-wider (AreTaken-answered more b e) (set reached v true) rest (has-set reached v))
 
--- a walk whose answers are the flags of the links includes what the flagged links reach
-module _ {d : Direction} {links : List Link} {starts : List ℕ} {shown : Shown} (whole : IsShowing d links starts shown) (passes : List Bool) (answers : All (λ (s : ℕ × Bool). s.1 ≡ has passes s.0) shown) where
-  flagged : (j : ℕ) → is_accepted shown j ≡ true → has passes j ≡ true
-  flagged j h =
+-- a walk whose answers a test gives includes what the links that pass reach
+module _ (shown : Shown) (passes : ℕ → Bool) (answers : All (λ (s : ℕ × Bool). s.1 ≡ passes s.0) shown) where
+  passed : (j : ℕ) → is_accepted shown j ≡ true → passes j ≡ true
+  passed j h =
       let s = list_any_cases (λ (s : ℕ × Bool). eqb s.0 j && s.1) shown h in
       let parts = and_parts (eqb s.0.0 j) s.0.1 s.2 in
-      ap (has passes) (sym (eqb-true s.0.0 j parts.0)) ∙ sym (All-contains (λ (t : ℕ × Bool). t.1 ≡ has passes t.0) shown s.0 answers s.1) ∙ parts.1
+      ap passes (sym (eqb-true s.0.0 j parts.0)) ∙ sym (All-contains (λ (t : ℕ × Bool). t.1 ≡ passes t.0) shown s.0 answers s.1) ∙ parts.1
 
-  accepted : (j : ℕ) → has passes j ≡ true → Contains (shown_links shown) j → is_accepted shown j ≡ true
+  accepted : (j : ℕ) → passes j ≡ true → Contains (shown_links shown) j → is_accepted shown j ≡ true
   accepted j h inside =
       let s = Contains-map_cases (λ (t : ℕ × Bool). t.0) shown j inside in
-      list_any-from_Contains (λ (t : ℕ × Bool). eqb t.0 j && t.1) shown s.0 s.1 (and_from (eqb s.0.0 j) s.0.1 (eq-eqb s.0.0 j s.2) (All-contains (λ (t : ℕ × Bool). t.1 ≡ has passes t.0) shown s.0 answers s.1 ∙ ap (has passes) s.2 ∙ h))
+      list_any-from_Contains (λ (t : ℕ × Bool). eqb t.0 j && t.1) shown s.0 s.1 (and_from (eqb s.0.0 j) s.0.1 (eq-eqb s.0.0 j s.2) (All-contains (λ (t : ℕ × Bool). t.1 ≡ passes t.0) shown s.0 answers s.1 ∙ ap passes s.2 ∙ h))
 
-  pub included_by_flags : (v : ℕ) → IsIncluded d links starts shown v ↔ IsReached d links (has passes) starts v
-  included_by_flags v = (IsReached-weaker d links (is_accepted shown) starts (has passes) (λ j lt h. flagged j h) starts (λ u i. i) v, IsReached-closed d links (has passes) starts (IsIncluded d links starts shown) (IsReached-start d links (is_accepted shown) starts) (λ j lt h near. IsReached-more d links (is_accepted shown) starts j lt (accepted j h ((whole.each j).1 (lt, near))) near) v)
+  -- at any moment no more than that
+  pub included_reached : (d : Direction) (links : List Link) (starts : List ℕ) (v : ℕ) → IsIncluded d links starts shown v → IsReached d links passes starts v
+  included_reached d links starts v = IsReached-weaker d links (is_accepted shown) starts passes (λ j lt h. passed j h) starts (λ u i. i) v
+
+  -- all of it once no link is left
+  pub included_by_test : {d : Direction} {links : List Link} {starts : List ℕ} → IsShowing d links starts shown → (v : ℕ) → IsIncluded d links starts shown v ↔ IsReached d links passes starts v
+  included_by_test {d} {links} {starts} whole v = (included_reached d links starts v, IsReached-closed d links passes starts (IsIncluded d links starts shown) (IsReached-start d links (is_accepted shown) starts) (λ j lt h near. IsReached-more d links (is_accepted shown) starts j lt (accepted j h ((whole.each j).1 (lt, near))) near) v)
 
 -- flags that are all set let each link through
 pub reached_by_all : (d : Direction) (links : List Link) (starts : List ℕ) (v : ℕ) → IsReached d links (has (replicate (length links) true)) starts v ↔ IsReached d links any_link starts v

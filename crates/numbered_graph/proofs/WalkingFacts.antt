@@ -11,13 +11,12 @@ use Rattle.numbered_graph.proofs.SetFacts.{has-within}
 use Rattle.numbered_graph.proofs.WalkFacts.{length-listed-le, length-taken-le, AreTaken-passed, AreTaken-more, IsDue-at_cursor, IsShowing-at_end, waiting_room}
 
 module _ (w : Inside) (h : Stands w) where
+  pub opened_bound : w.opened ≤ w.graph.now.nodes
+  opened_bound = let opened = h.taken.within in let listed = length-listed-le h.listed in omega arith
+
   -- it took no more looks than there are nodes and links
   pub looked_bound : w.opened + length (taken_links w.shown.items w.waiting) ≤ w.graph.now.nodes + length w.graph.now.links
-  looked_bound =
-      let opened = h.taken.within in
-      let listed = length-listed-le h.listed in
-      let taken = length-taken-le h.taken in
-      omega arith
+  looked_bound = let opened = opened_bound in let taken = length-taken-le h.taken in omega arith
 
   module _ (idle : w.waiting ≡ None) where
     shown_all : taken_links w.shown.items w.waiting ≡ shown_links w.shown.items
@@ -73,11 +72,7 @@ module _ (w : Inside) (h : Stands w) where
         room_left = waiting_room w.shown.items number more_taken
 
         pub more_bound : w.opened + length (taken_links w.shown.items (Some number)) ≤ w.graph.now.nodes + length w.graph.now.links
-        more_bound =
-            let opened = h.taken.within in
-            let listed = length-listed-le h.listed in
-            let taken = length-taken-le more_taken in
-            omega arith
+        more_bound = let opened = opened_bound in let taken = length-taken-le more_taken in omega arith
 
         pub Stands-taken : (cursors : Vec ℕ Global) → cursors.items ≡ set w.cursors.items node next → Stands (record w { cursors = cursors; waiting = Some number })
         Stands-taken cursors e = record {

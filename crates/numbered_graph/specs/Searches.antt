@@ -1,5 +1,5 @@
 -- The search for components: against the links, by knots of a path.
-use Rattle.std.specs.Prelude.{◌≡◌, ◌≢◌, ℕ, suc, ◌+◌, ◌*◌, ◌-◌, ◌<◌, ◌≤◌, ◌⊎◌, Bool, true, List, [], ◌∷◌, ◌++◌, length, slice_set, slice_index, slice_index_or, Contains, All, AllPairs}
+use Rattle.std.specs.Prelude.{◌≡◌, ◌≢◌, ℕ, suc, ◌+◌, ◌*◌, ◌-◌, ◌<◌, ◌≤◌, ◌⊎◌, ◌==◌, Bool, true, List, [], ◌∷◌, ◌++◌, length, slice_set, slice_index, slice_index_or, Contains, All, AllPairs, count_by}
 use Rattle.std.specs.List.{sum_by}
 use Rattle.numbered_graph.specs.declared.link.Link.{Link}
 use Rattle.numbered_graph.specs.declared.direction.Direction.TheVariants.{Reverse}
@@ -26,12 +26,16 @@ lists_of s = record {
   path = s.path.items;
   starts = s.starts.items;
   todo = s.todo.items;
-  closed = length s.closed.items;
+  closed = s.closed;
 }
 
 -- how much is left to do
 abbrev pub work_left : List Link → Lists → ℕ
 work_left links s = 3 * sum_by (λ c. length links - c) s.cursors + (length s.todo + length s.starts)
+
+-- how many nodes were not put on the path
+abbrev pub unplaced : List ℕ → ℕ
+unplaced places = count_by (λ p. p == 0) places
 
 -- with a new node at the end of the path, as a knot of its own
 abbrev pub opened : Lists → ℕ → Lists
@@ -106,10 +110,10 @@ pub record HasPath (nodes : ℕ) (places ranks path : List ℕ) : Type 0 where
   pub found : (v i : ℕ) → IsOpen places ranks v i → (i < length path) × (slice_index path i ≡ v)
   pub ranked_placed : (v : ℕ) → 0 < slice_index ranks v → 0 < slice_index places v
 
--- knots start at rising places, the first at the beginning of the path
+-- knots start at rising places of the path, so that none is empty, the first at its beginning
 pub record HasStarts (path starts : List ℕ) : Type 0 where
-  pub rising : AllPairs (λ a b. a ≤ b) starts
-  pub within : All (λ s. s ≤ length path) starts
+  pub rising : AllPairs (λ a b. a < b) starts
+  pub within : All (λ s. s < length path) starts
   pub first : slice_index_or starts 0 (length path) ≡ 0
 
 -- the nodes of a knot lead to each other and to the nodes of the earlier knots
@@ -134,6 +138,10 @@ pub record HasTodo (links : List Link) (cursors places ranks todo : List ℕ) : 
   pub rising : AllPairs (λ u v. slice_index places u ≤ slice_index places v) todo
   pub all : (v i : ℕ) → IsOpen places ranks v i → slice_index cursors v < length links → Contains todo v
 
+-- no more knots are closed than nodes have left the path
+abbrev pub AreCounted : ℕ → Lists → Type 0
+AreCounted nodes s = s.closed + length s.path + unplaced s.places ≤ nodes
+
 pub record Searches (links : List Link) (passes : ℕ → Bool) (nodes : ℕ) (s : Lists) : Type 0 where
   pub sized : AreSized nodes s.cursors s.places s.ranks
   pub cursors : HasCursors links nodes s.cursors s.places
@@ -143,3 +151,4 @@ pub record Searches (links : List Link) (passes : ℕ → Bool) (nodes : ℕ) (s
   pub followed : AreFollowedBack links passes s.cursors s.places s.ranks s.starts
   pub ranked : AreRanked links passes s.ranks s.closed
   pub todo : HasTodo links s.cursors s.places s.ranks s.todo
+  pub counted : AreCounted nodes s

@@ -1,5 +1,5 @@
 -- Walks that ask of each link whether it is accepted.
-use Rattle.std.specs.Prelude.{◌≡◌, ◌≢◌, ◌↔◌, ℕ, ◌<◌, ◌≤◌, Bool, true, ◌&&◌, ◌==◌, List, ◌++◌, map, length, slice_index, Contains, All, AllPairs, Option, count_by}
+use Rattle.std.specs.Prelude.{◌≡◌, ◌≢◌, ◌↔◌, ℕ, ◌-◌, ◌<◌, ◌≤◌, Bool, true, ◌&&◌, ◌==◌, List, ◌++◌, map, length, slice_index, Contains, All, AllPairs, Option, count_by}
 use Rattle.std.specs.List.{list_any}
 use Rattle.std.specs.Option.{option_to_list}
 use Rattle.numbered_graph.specs.declared.link.Link.{Link}
@@ -35,7 +35,8 @@ pub record IsDue (d : Direction) (links : List Link) (starts : List ℕ) (shown 
   pub included : IsIncluded d links starts shown (near_at d links j)
   pub new : ¬ Contains (shown_links shown) j
 
--- what is seen of a walk: where it goes, what it showed, the link that was taken and not answered, the looks that it took
+-- what is seen of a walk: where it goes, what it showed, the link that was taken and not answered, the looks at its nodes
+-- and links
 pub record WalkValue : Type 0 where
   pub graph : GraphValue
   pub direction : Direction
@@ -47,6 +48,10 @@ pub record WalkValue : Type 0 where
 -- the links that were taken: those that were shown, and the one that waits for its answer
 abbrev pub taken_links : Shown → Option ℕ → List ℕ
 taken_links shown waiting = shown_links shown ++ option_to_list waiting
+
+-- how many nodes were taken from the work list: the looks but those at links
+abbrev pub opened_of : WalkValue → ℕ
+opened_of w = w.looked - length (taken_links w.shown w.waiting)
 
 -- the nodes that were reached, each once in the order in which they were reached
 pub record AreListed (nodes : ℕ) (reached : List Bool) (order : List ℕ) : Type 0 where

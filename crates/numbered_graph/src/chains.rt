@@ -1,8 +1,8 @@
 //! The links of each node, one after the other.
 
-ghost use Rattle.std.specs.Prelude.{◌≡◌, ◌<◌, length, IfOk};
-ghost use Rattle.numbered_graph.specs.Links.{AreWithin, near_at};
-ghost use Rattle.numbered_graph.specs.Chains.{IsNextLink, AreChains};
+ghost use Rattle.std.specs.Prelude.{◌<◌, IfOk};
+ghost use Rattle.numbered_graph.specs.Links.{AreWithin};
+ghost use Rattle.numbered_graph.specs.Chains.{AreChains};
 
 use crate::direction::Direction;
 use crate::link::Link;

@@ -15,7 +15,8 @@ use std::alloc::{AllocError, Global};
 
 /// What the walk knows: for each node the next link into it that is still to be followed, one more
 /// than its place on the path, and its rank (0: none yet); the path, the places at which its knots
-/// start, and the nodes on it that may have links left. The length of `closed` is the last rank.
+/// start, and the nodes on it that may have links left; how many knots were closed, which is the last
+/// rank.
 #[derive(Drop)]
 pub struct Search {
     cursors: Vec<usize>,
@@ -24,7 +25,7 @@ pub struct Search {
     path: Vec<usize>,
     starts: Vec<usize>,
     todo: Vec<usize>,
-    closed: Vec<usize>,
+    closed: usize,
 }
 
 /// For each node a number that rises along the links whose flag is set and is equal only within a
@@ -35,7 +36,8 @@ pub fn component_ranks(
     passes: &[bool],
 ) -> Result<Vec<usize>, AllocError>
     requires { length passes.now ≡ length graph.now.links }
-    ensures ranks { IfOk result (λ r. AreRanks graph.now.links (has passes.now) graph.now.nodes r.items) }
+    ensures ranks { IfOk result (λ r. AreRanks graph.now.links (has passes.now) graph.now.nodes
+        r.items) }
 {
     let nodes = graph.node_count();
     let mut search = Search {
@@ -45,7 +47,7 @@ pub fn component_ranks(
         path: Vec::new(alloc),
         starts: Vec::new(alloc),
         todo: Vec::new(alloc),
-        closed: Vec::new(alloc),
+        closed: 0,
     };
     for root in 0..nodes {
         explore(graph, passes, &mut search, root)?;
@@ -62,9 +64,11 @@ fn explore(
 ) -> Result<(), AllocError>
     requires root { root < graph.now.nodes }
     requires passes { length passes.now ≡ length graph.now.links }
-    requires searches { Searches graph.now.links (has passes.now) graph.now.nodes (lists_of search.old) }
+    requires searches { Searches graph.now.links (has passes.now) graph.now.nodes
+        (lists_of search.old) }
     requires idle { search.old.starts.items ≡ [] }
-    ensures searches { OnOk result (Searches graph.now.links (has passes.now) graph.now.nodes (lists_of search.new)) }
+    ensures searches { OnOk result (Searches graph.now.links (has passes.now) graph.now.nodes
+        (lists_of search.new)) }
     ensures idle { OnOk result (search.new.starts.items ≡ []) }
     ensures placed { OnOk result (0 < slice_index search.new.places.items root) }
     ensures kept { OnOk result (KeepsPlaced (lists_of search.old) (lists_of search.new)) }
@@ -82,10 +86,13 @@ fn explore(
 // Follows a link into a node of the last knot, or closes that knot.
 fn step(graph: &Graph, passes: &[bool], search: &mut Search) -> Result<(), AllocError>
     requires passes { length passes.now ≡ length graph.now.links }
-    requires searches { Searches graph.now.links (has passes.now) graph.now.nodes (lists_of search.old) }
+    requires searches { Searches graph.now.links (has passes.now) graph.now.nodes
+        (lists_of search.old) }
     requires knot { 0 < length search.old.starts.items }
-    ensures searches { OnOk result (Searches graph.now.links (has passes.now) graph.now.nodes (lists_of search.new)) }
-    ensures less { OnOk result (work_left graph.now.links (lists_of search.new) < work_left graph.now.links (lists_of search.old)) }
+    ensures searches { OnOk result (Searches graph.now.links (has passes.now) graph.now.nodes
+        (lists_of search.new)) }
+    ensures less { OnOk result (work_left graph.now.links (lists_of search.new)
+        < work_left graph.now.links (lists_of search.old)) }
     ensures kept { OnOk result (KeepsPlaced (lists_of search.old) (lists_of search.new)) }
 {
     let start = search.starts[search.starts.len() - 1];
@@ -95,14 +102,9 @@ fn step(graph: &Graph, passes: &[bool], search: &mut Search) -> Result<(), Alloc
             Ok(())
         }
         None => {
-            search.closed.push(start)?;
             search.starts.truncate(search.starts.len() - 1);
-            close(
-                &mut search.path,
-                &mut search.ranks,
-                start,
-                search.closed.len(),
-            );
+            search.closed += 1;
+            close(&mut search.path, &mut search.ranks, start, search.closed);
             Ok(())
         }
     }
@@ -111,9 +113,12 @@ fn step(graph: &Graph, passes: &[bool], search: &mut Search) -> Result<(), Alloc
 // The last of the nodes that may have links left, if it stands on the path at `start` or later.
 fn last_past(search: &Search, start: usize) -> Option<usize>
     requires within { All (λ v. v < length search.now.places.items) search.now.todo.items }
-    requires rising { AllPairs (λ u v. slice_index search.now.places.items u ≤ slice_index search.now.places.items v) search.now.todo.items }
-    ensures some { IfSome result (λ v. (rest : List ℕ) × (search.now.todo.items ≡ rest ++ v ∷ []) × (start < slice_index search.now.places.items v)) }
-    ensures none { IfNone result (All (λ v. slice_index search.now.places.items v ≤ start) search.now.todo.items) }
+    requires rising { AllPairs (λ u v. slice_index search.now.places.items u
+        ≤ slice_index search.now.places.items v) search.now.todo.items }
+    ensures some { IfSome result (λ v. (rest : List ℕ) × (search.now.todo.items ≡ rest ++ v ∷ [])
+        × (start < slice_index search.now.places.items v)) }
+    ensures none { IfNone result (All (λ v. slice_index search.now.places.items v ≤ start)
+        search.now.todo.items) }
 {
     let count = search.todo.len();
     if count == 0 {
@@ -135,11 +140,14 @@ fn follow(
     node: usize,
 ) -> Result<(), AllocError>
     requires passes { length passes.now ≡ length graph.now.links }
-    requires searches { Searches graph.now.links (has passes.now) graph.now.nodes (lists_of search.old) }
+    requires searches { Searches graph.now.links (has passes.now) graph.now.nodes
+        (lists_of search.old) }
     requires last { (rest : List ℕ) × (search.old.todo.items ≡ rest ++ node ∷ []) }
     requires knot { IsInLastKnot (lists_of search.old) node }
-    ensures searches { OnOk result (Searches graph.now.links (has passes.now) graph.now.nodes (lists_of search.new)) }
-    ensures less { OnOk result (work_left graph.now.links (lists_of search.new) < work_left graph.now.links (lists_of search.old)) }
+    ensures searches { OnOk result (Searches graph.now.links (has passes.now) graph.now.nodes
+        (lists_of search.new)) }
+    ensures less { OnOk result (work_left graph.now.links (lists_of search.new)
+        < work_left graph.now.links (lists_of search.old)) }
     ensures kept { OnOk result (KeepsPlaced (lists_of search.old) (lists_of search.new)) }
 {
     let number = search.cursors[node];
@@ -162,10 +170,13 @@ fn meet(
 ) -> Result<(), AllocError>
     requires number { number < length graph.now.links }
     requires passes { length passes.now ≡ length graph.now.links }
-    requires searches { Searches graph.now.links (has passes.now) graph.now.nodes (lists_of search.old) }
+    requires searches { Searches graph.now.links (has passes.now) graph.now.nodes
+        (lists_of search.old) }
     requires knot { IsInLastKnot (lists_of search.old) (near_at Reverse graph.now.links number) }
-    ensures searches { OnOk result (Searches graph.now.links (has passes.now) graph.now.nodes (lists_of search.new)) }
-    ensures met { OnOk result (Meets graph.now.links (has passes.now) number (lists_of search.old) (lists_of search.new)) }
+    ensures searches { OnOk result (Searches graph.now.links (has passes.now) graph.now.nodes
+        (lists_of search.new)) }
+    ensures met { OnOk result (Meets graph.now.links (has passes.now) number (lists_of search.old)
+        (lists_of search.new)) }
     ensures kept { OnOk result (KeepsPlaced (lists_of search.old) (lists_of search.new)) }
 {
     let far = graph.far(Direction::Reverse, number);
@@ -198,7 +209,7 @@ fn open(search: &mut Search, node: usize) -> Result<(), AllocError>
 
 // Makes one knot of those from the one that holds the place on.
 fn join(starts: &mut Vec<usize>, place: usize)
-    requires { AllPairs (λ a b. a ≤ b) starts.old.items }
+    requires { AllPairs (λ a b. a < b) starts.old.items }
     ensures { JoinsAt place starts.old.items starts.new.items }
 {
     while starts.len() > 0 && starts[starts.len() - 1] > place {
@@ -211,7 +222,8 @@ fn close(path: &mut Vec<usize>, ranks: &mut Vec<usize>, start: usize, rank: usiz
     requires start { start ≤ length path.old.items }
     requires within { All (λ v. v < length ranks.old.items) path.old.items }
     ensures path { path.new.items ≡ take start path.old.items }
-    ensures ranks { RanksFrom start (length path.old.items) rank path.old.items ranks.old.items ranks.new.items }
+    ensures ranks { RanksFrom start (length path.old.items) rank path.old.items ranks.old.items
+        ranks.new.items }
 {
     for place in start..path.len() {
         ranks[path[place]] = rank;

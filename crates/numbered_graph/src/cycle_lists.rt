@@ -21,8 +21,10 @@ pub fn cycles(
     graph: &Graph,
     direction: Direction,
 ) -> Result<Vec<Vec<usize>>, AllocError>
-    ensures cycles { IfOk result (λ cs. AreCycles direction graph.now.links (map (λ c. c.items) cs.items)) }
-    ensures within { IfOk result (λ cs. (v : ℕ) → Contains (flat_map (λ c. c) (map (λ c. c.items) cs.items)) v → v < graph.now.nodes) }
+    ensures cycles { IfOk result (λ cs. AreCycles direction graph.now.links
+        (map (λ c. c.items) cs.items)) }
+    ensures within { IfOk result (λ cs. (v : ℕ)
+        → Contains (flat_map (λ c. c) (map (λ c. c.items) cs.items)) v → v < graph.now.nodes) }
 {
     let all = flags_of(alloc, true, graph.links().len())?;
     let ranks = component_ranks(alloc, graph, &all)?;
@@ -30,8 +32,7 @@ pub fn cycles(
     let order = in_order(alloc, &keys, &keys)?;
     let levels = levels_of(alloc, graph, &keys)?;
     let members = on_levels(alloc, &order, &keys, &levels)?;
-    let cycles = runs_of(alloc, &members, &keys)?;
-    Ok(cycles)
+    runs_of(alloc, &members, &keys)
 }
 
 /// The components that have two or more nodes or a link from a node to itself, in the order of a
@@ -41,22 +42,26 @@ pub fn listed_cycles(
     graph: &Graph,
     listing: &[usize],
 ) -> Result<Vec<Vec<usize>>, AllocError>
-    requires { (firm : ℕ → Bool) × IsListing graph.now.links firm (λ v. nat_lt v graph.now.nodes) listing.now }
-    ensures cycles { IfOk result (λ cs. AreCycles Forward graph.now.links (map (λ c. c.items) cs.items)) }
-    ensures listed { IfOk result (λ cs. AreInListingOrder listing.now (map (λ c. c.items) cs.items)) }
-    ensures within { IfOk result (λ cs. (v : ℕ) → Contains (flat_map (λ c. c) (map (λ c. c.items) cs.items)) v → v < graph.now.nodes) }
+    requires { (firm : ℕ → Bool) × IsListing graph.now.links firm (λ v. nat_lt v graph.now.nodes)
+        listing.now }
+    ensures cycles { IfOk result (λ cs. AreCycles Forward graph.now.links
+        (map (λ c. c.items) cs.items)) }
+    ensures listed { IfOk result (λ cs. AreInListingOrder listing.now
+        (map (λ c. c.items) cs.items)) }
+    ensures within { IfOk result (λ cs. (v : ℕ)
+        → Contains (flat_map (λ c. c) (map (λ c. c.items) cs.items)) v → v < graph.now.nodes) }
 {
     let all = flags_of(alloc, true, graph.links().len())?;
     let ranks = component_ranks(alloc, graph, &all)?;
     let levels = levels_of(alloc, graph, &ranks)?;
     let members = on_levels(alloc, listing, &ranks, &levels)?;
-    let cycles = runs_of(alloc, &members, &ranks)?;
-    Ok(cycles)
+    runs_of(alloc, &members, &ranks)
 }
 
 // Numbers that rise along links in the direction.
 fn keys_of(alloc: Global, ranks: &[usize], direction: Direction) -> Result<Vec<usize>, AllocError>
-    ensures { IfOk result (λ keys. (top : ℕ) × All (λ r. r ≤ top) ranks.now × (keys.items ≡ map (key_of direction top) ranks.now)) }
+    ensures { IfOk result (λ keys. (top : ℕ) × All (λ r. r ≤ top) ranks.now
+        × (keys.items ≡ map (key_of direction top) ranks.now)) }
 {
     let top = highest(ranks);
     let mut keys = Vec::new(alloc);
@@ -79,7 +84,8 @@ fn key_of(direction: Direction, top: usize, rank: usize) -> usize
 // A flag for each key: whether a link joins two nodes of it.
 fn levels_of(alloc: Global, graph: &Graph, keys: &[usize]) -> Result<Vec<bool>, AllocError>
     requires { length keys.now ≡ graph.now.nodes }
-    ensures levels { IfOk result (λ flags. AreLevels graph.now.links keys.now (length graph.now.links) flags.items) }
+    ensures levels { IfOk result (λ flags. AreLevels graph.now.links keys.now
+        (length graph.now.links) flags.items) }
     ensures sized { IfOk result (λ flags. All (λ k. k < length flags.items) keys.now) }
 {
     let Some(count) = highest(keys).checked_add(1) else {
@@ -106,7 +112,8 @@ fn on_levels(
 ) -> Result<Vec<usize>, AllocError>
     requires order { All (λ v. v < length keys.now) order.now }
     requires levels { All (λ k. k < length levels.now) keys.now }
-    ensures { IfOk result (λ xs. xs.items ≡ filter (λ v. has levels.now (slice_index keys.now v)) order.now) }
+    ensures { IfOk result (λ xs. xs.items
+        ≡ filter (λ v. has levels.now (slice_index keys.now v)) order.now) }
 {
     let mut members = Vec::new(alloc);
     for node in order {
@@ -119,7 +126,8 @@ fn on_levels(
 fn runs_of(alloc: Global, nodes: &[usize], keys: &[usize]) -> Result<Vec<Vec<usize>>, AllocError>
     requires within { All (λ v. v < length keys.now) nodes.now }
     requires together { AreKeysTogether keys.now nodes.now }
-    ensures whole { IfOk result (λ cs. flat_map (λ c. c) (map (λ c. c.items) cs.items) ≡ nodes.now) }
+    ensures whole { IfOk result (λ cs. flat_map (λ c. c) (map (λ c. c.items) cs.items)
+        ≡ nodes.now) }
     ensures runs { IfOk result (λ cs. AreRuns keys.now (map (λ c. c.items) cs.items)) }
 {
     let mut runs = Vec::new(alloc);

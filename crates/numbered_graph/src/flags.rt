@@ -1,6 +1,7 @@
 //! A flag for each of several things, and lists of those whose flag is set.
 
 ghost use Rattle.std.specs.Prelude.{◌≡◌, ◌≤◌, ◌++◌, ◌∷◌, [], All, IfOk, OnOk, replicate, if◌then◌else◌};
+ghost use Rattle.numbered_graph.specs.Sets.{has};
 
 use std::alloc::{AllocError, Global};
 
@@ -11,9 +12,17 @@ pub fn flags_of(alloc: Global, flag: bool, count: usize) -> Result<Vec<bool>, Al
     vec![in alloc; flag; count]
 }
 
+/// Whether the flag at the place is set. Past the last flag none is.
+pub fn is_set(flags: &[bool], place: usize) -> bool
+    ensures { result ≡ has flags.now place }
+{
+    place < flags.len() && flags[place]
+}
+
 /// Puts the number at the end of the list where the flag is set.
 pub fn push_if(numbers: &mut Vec<usize>, number: usize, flag: bool) -> Result<(), AllocError>
-    ensures { OnOk result (numbers.new.items ≡ (if flag then numbers.old.items ++ number ∷ [] else numbers.old.items)) }
+    ensures { OnOk result (numbers.new.items
+        ≡ (if flag then numbers.old.items ++ number ∷ [] else numbers.old.items)) }
 {
     if flag {
         numbers.push(number)?;

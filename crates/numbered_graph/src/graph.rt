@@ -85,7 +85,8 @@ impl Graph {
         direction: Direction,
     ) -> Result<Vec<usize>, AllocError>
         ensures sized { IfOk result (λ r. length r.items ≡ self.now.nodes) }
-        ensures each { IfOk result (λ r. (v : ℕ) → v < self.now.nodes → IsNextLink direction self.now.links v 0 (slice_index r.items v)) }
+        ensures each { IfOk result (λ r. (v : ℕ) → v < self.now.nodes
+            → IsNextLink direction self.now.links v 0 (slice_index r.items v)) }
     {
         match direction {
             Direction::Forward => Vec::from_slice(alloc, &self.leaving.first),
@@ -96,8 +97,10 @@ impl Graph {
     /// The first link that is followed from the node.
     pub fn first_link(&self, direction: Direction, node: usize) -> Option<usize>
         requires { node < self.now.nodes }
-        ensures some { IfSome result (λ j. (j < length self.now.links) × IsNextLink direction self.now.links node 0 j) }
-        ensures none { IfNone result (IsNextLink direction self.now.links node 0 (length self.now.links)) }
+        ensures some { IfSome result (λ j. (j < length self.now.links)
+            × IsNextLink direction self.now.links node 0 j) }
+        ensures none { IfNone result (IsNextLink direction self.now.links node 0
+            (length self.now.links)) }
     {
         let number = self.first_of(direction, node);
         if number < self.links.len() {
@@ -110,8 +113,11 @@ impl Graph {
     /// The next link that is followed from the same node.
     pub fn next_link(&self, direction: Direction, number: usize) -> Option<usize>
         requires { number < length self.now.links }
-        ensures some { IfSome result (λ j. (j < length self.now.links) × IsNextLink direction self.now.links (near_at direction self.now.links number) (suc number) j) }
-        ensures none { IfNone result (IsNextLink direction self.now.links (near_at direction self.now.links number) (suc number) (length self.now.links)) }
+        ensures some { IfSome result (λ j. (j < length self.now.links)
+            × IsNextLink direction self.now.links (near_at direction self.now.links number)
+            (suc number) j) }
+        ensures none { IfNone result (IsNextLink direction self.now.links
+            (near_at direction self.now.links number) (suc number) (length self.now.links)) }
     {
         let next = self.next_of(direction, number);
         if next < self.links.len() {
@@ -133,7 +139,8 @@ impl Graph {
 
     pub(crate) fn next_of(&self, direction: Direction, number: usize) -> usize
         requires { number < length self.now.links }
-        ensures { IsNextLink direction self.now.links (near_at direction self.now.links number) (suc number) result }
+        ensures { IsNextLink direction self.now.links (near_at direction self.now.links number)
+            (suc number) result }
     {
         match direction {
             Direction::Forward => self.leaving.next[number],

@@ -1,4 +1,8 @@
 //! Walks, components and orders over graphs whose nodes are numbers.
+//!
+//! Begin with `specs/Paths.antt`, then `walk.rt`; `specs/Listings.antt` has the order of listings. The
+//! search in `components.rt` and all that is private may be changed freely; both graphs stand on the
+//! public clauses.
 #![tactic(auto)]
 
 mod chains;
@@ -26,7 +30,7 @@ pub use crate::listed::Listed;
 pub use crate::listings::{listed_members, listing};
 pub use crate::looks::Looks;
 pub use crate::node_set::NodeSet;
-pub use crate::reaching::{reach, reach_counted, reach_over, reach_over_counted};
+pub use crate::reaching::{leads_to, reach, reach_counted, reach_over, reach_over_counted};
 pub use crate::roots::{links_inside, root_nodes};
 pub use crate::uncounted::take_uncounted;
 pub use crate::walk::Walk;

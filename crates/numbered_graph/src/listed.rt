@@ -21,10 +21,12 @@ pub struct Listed<'a> {
 impl<'a> Listed<'a> {
     /// Those of the listing's nodes that are in the set.
     pub fn new(listing: &'a [usize], members: &'a NodeSet, direction: Direction) -> Listed<'a>
-        ensures listed { listed_left result ≡ in_direction direction (filter (has members.entry.now) listing.entry.now) }
+        ensures listed { listed_left result ≡ in_direction direction
+            (filter (has members.entry.now) listing.entry.now) }
         ensures listing { (links : List Link) (firm all : ℕ → Bool) →
             IsListing links firm all listing.entry.now
-            → IsListing links firm (λ v. all v && has members.entry.now v) (filter (has members.entry.now) listing.entry.now) }
+            → IsListing links firm (λ v. all v && has members.entry.now v)
+            (filter (has members.entry.now) listing.entry.now) }
     {
         Listed {
             listing,
@@ -36,7 +38,8 @@ impl<'a> Listed<'a> {
 
 // The first member in a listing, and what follows it.
 fn first_member<'a>(listing: &'a [usize], members: &NodeSet) -> Option<(usize, &'a [usize])>
-    ensures { MatchOption result (filter (has members.now) listing.entry.now ≡ []) (λ p. filter (has members.now) listing.entry.now ≡ p.0 ∷ filter (has members.now) p.1.now) }
+    ensures { MatchOption result (filter (has members.now) listing.entry.now ≡ [])
+        (λ p. filter (has members.now) listing.entry.now ≡ p.0 ∷ filter (has members.now) p.1.now) }
 {
     let mut left = listing;
     while let Some((node, others)) = left.split_first() {
@@ -50,7 +53,9 @@ fn first_member<'a>(listing: &'a [usize], members: &NodeSet) -> Option<(usize, &
 
 // The last member in a listing, and what stands before it.
 fn last_member<'a>(listing: &'a [usize], members: &NodeSet) -> Option<(usize, &'a [usize])>
-    ensures { MatchOption result (filter (has members.now) listing.entry.now ≡ []) (λ p. filter (has members.now) listing.entry.now ≡ filter (has members.now) p.1.now ++ p.0 ∷ []) }
+    ensures { MatchOption result (filter (has members.now) listing.entry.now ≡ [])
+        (λ p. filter (has members.now) listing.entry.now
+        ≡ filter (has members.now) p.1.now ++ p.0 ∷ []) }
 {
     let mut left = listing;
     while let Some((node, others)) = left.split_last() {

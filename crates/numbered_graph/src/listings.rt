@@ -25,13 +25,13 @@ pub struct Place {
 /// links, up to one sort of the nodes.
 pub fn listing(alloc: Global, graph: &Graph, firm: &[bool]) -> Result<Vec<usize>, AllocError>
     requires { length firm.now ≡ length graph.now.links }
-    ensures listing { IfOk result (λ xs. IsListing graph.now.links (has firm.now) (λ v. nat_lt v graph.now.nodes) xs.items) }
+    ensures listing { IfOk result (λ xs. IsListing graph.now.links (has firm.now)
+        (λ v. nat_lt v graph.now.nodes) xs.items) }
 {
     let all = flags_of(alloc, true, graph.links().len())?;
     let ranks = component_ranks(alloc, graph, &all)?;
     let firm_ranks = component_ranks(alloc, graph, firm)?;
-    let order = in_order(alloc, &ranks, &firm_ranks)?;
-    Ok(order)
+    in_order(alloc, &ranks, &firm_ranks)
 }
 
 /// The nodes of a listing that are in the set, in its order: a listing of them.
@@ -66,13 +66,13 @@ pub(crate) fn in_order(
 {
     let mut places = places_of(alloc, ranks, firm_ranks)?;
     places.sort_unstable();
-    let order = nodes_of(alloc, &places)?;
-    Ok(order)
+    nodes_of(alloc, &places)
 }
 
 fn places_of(alloc: Global, ranks: &[usize], firm_ranks: &[usize]) -> Result<Vec<Place>, AllocError>
     requires { length firm_ranks.now ≡ length ranks.now }
-    ensures { IfOk result (λ v. v.items ≡ map (place_of ranks.now firm_ranks.now) (numbers_below (length ranks.now))) }
+    ensures { IfOk result (λ v. v.items
+        ≡ map (place_of ranks.now firm_ranks.now) (numbers_below (length ranks.now))) }
 {
     let mut places = Vec::new(alloc);
     for node in 0..ranks.len() {

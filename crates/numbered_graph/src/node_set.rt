@@ -4,7 +4,7 @@ ghost use Rattle.std.specs.Prelude.{◌≡◌, ◌⊎◌, ℕ, ◌<◌, ◌&&◌
 ghost use Rattle.numbered_graph.specs.Listings.{numbers_below};
 ghost use Rattle.numbered_graph.specs.Sets.{has, differs, joined};
 
-use crate::flags::flags_of;
+use crate::flags::{flags_of, is_set};
 use std::alloc::{AllocError, Global};
 use std::marker::Model;
 
@@ -64,7 +64,8 @@ impl NodeSet {
     pub fn insert(&mut self, node: usize)
         requires { node < length self.old }
         ensures sized { length self.new ≡ length self.old }
-        ensures members { (v : ℕ) → IsTrue (has self.new v) ↔ (IsTrue (has self.old v) ⊎ (v ≡ node)) }
+        ensures members { (v : ℕ) → IsTrue (has self.new v)
+            ↔ (IsTrue (has self.old v) ⊎ (v ≡ node)) }
     {
         self.flags[node] = true;
     }
@@ -79,7 +80,7 @@ impl NodeSet {
     pub fn contains(&self, node: usize) -> bool
         ensures member { result ≡ has self.now node }
     {
-        node < self.flags.len() && self.flags[node]
+        is_set(&self.flags, node)
     }
 
     /// The number of nodes that could be in the set.
@@ -98,7 +99,8 @@ impl NodeSet {
 
     /// The nodes in the set, ascending.
     pub fn members(&self, alloc: Global) -> Result<Vec<usize>, AllocError>
-        ensures members { IfOk result (λ v. v.items ≡ filter (has self.now) (numbers_below (length self.now))) }
+        ensures members { IfOk result (λ v. v.items
+            ≡ filter (has self.now) (numbers_below (length self.now))) }
         ensures ascending { IfOk result (λ v. AllPairs (λ x y. x < y) v.items) }
         ensures each { IfOk result (λ v. (x : ℕ) → Contains v.items x ↔ IsTrue (has self.now x)) }
         ensures within { IfOk result (λ v. All (λ x. x < length self.now) v.items) }
@@ -110,7 +112,8 @@ impl NodeSet {
     pub fn union(&self, alloc: Global, other: &NodeSet) -> Result<NodeSet, AllocError>
         requires { length other.now ≡ length self.now }
         ensures sized { IfOk result (λ s. length s ≡ length self.now) }
-        ensures members { IfOk result (λ s. (v : ℕ) → has s v ≡ (has self.now v || has other.now v)) }
+        ensures members { IfOk result (λ s. (v : ℕ)
+            → has s v ≡ (has self.now v || has other.now v)) }
     {
         let flags = join_flags(alloc, Operation::Union, &self.flags, &other.flags)?;
         Ok(NodeSet { flags })
@@ -120,7 +123,8 @@ impl NodeSet {
     pub fn intersection(&self, alloc: Global, other: &NodeSet) -> Result<NodeSet, AllocError>
         requires { length other.now ≡ length self.now }
         ensures sized { IfOk result (λ s. length s ≡ length self.now) }
-        ensures members { IfOk result (λ s. (v : ℕ) → has s v ≡ (has self.now v && has other.now v)) }
+        ensures members { IfOk result (λ s. (v : ℕ)
+            → has s v ≡ (has self.now v && has other.now v)) }
     {
         let flags = join_flags(alloc, Operation::Intersection, &self.flags, &other.flags)?;
         Ok(NodeSet { flags })
@@ -130,7 +134,8 @@ impl NodeSet {
     pub fn difference(&self, alloc: Global, other: &NodeSet) -> Result<NodeSet, AllocError>
         requires { length other.now ≡ length self.now }
         ensures sized { IfOk result (λ s. length s ≡ length self.now) }
-        ensures members { IfOk result (λ s. (v : ℕ) → has s v ≡ (has self.now v && not (has other.now v))) }
+        ensures members { IfOk result (λ s. (v : ℕ)
+            → has s v ≡ (has self.now v && not (has other.now v))) }
     {
         let flags = join_flags(alloc, Operation::Difference, &self.flags, &other.flags)?;
         Ok(NodeSet { flags })
@@ -144,7 +149,8 @@ impl NodeSet {
     ) -> Result<NodeSet, AllocError>
         requires { length other.now ≡ length self.now }
         ensures sized { IfOk result (λ s. length s ≡ length self.now) }
-        ensures members { IfOk result (λ s. (v : ℕ) → has s v ≡ differs (has self.now v) (has other.now v)) }
+        ensures members { IfOk result (λ s. (v : ℕ)
+            → has s v ≡ differs (has self.now v) (has other.now v)) }
     {
         let flags = join_flags(
             alloc,
@@ -157,7 +163,8 @@ impl NodeSet {
 }
 
 fn set_nodes(alloc: Global, flags: &[bool]) -> Result<Vec<usize>, AllocError>
-    ensures members { IfOk result (λ v. v.items ≡ filter (has flags.now) (numbers_below (length flags.now))) }
+    ensures members { IfOk result (λ v. v.items
+        ≡ filter (has flags.now) (numbers_below (length flags.now))) }
     ensures ascending { IfOk result (λ v. AllPairs (λ x y. x < y) v.items) }
     ensures each { IfOk result (λ v. (x : ℕ) → Contains v.items x ↔ IsTrue (has flags.now x)) }
     ensures within { IfOk result (λ v. All (λ x. x < length flags.now) v.items) }
@@ -179,7 +186,8 @@ fn join_flags(
 ) -> Result<Vec<bool>, AllocError>
     requires { length b.now ≡ length a.now }
     ensures sized { IfOk result (λ v. length v.items ≡ length a.now) }
-    ensures each { IfOk result (λ v. (k : ℕ) → has v.items k ≡ joined operation (has a.now k) (has b.now k)) }
+    ensures each { IfOk result (λ v. (k : ℕ)
+        → has v.items k ≡ joined operation (has a.now k) (has b.now k)) }
 {
     let mut flags = Vec::new(alloc);
     for k in 0..a.len() {

@@ -1,9 +1,7 @@
 //! Links inside a set of nodes, and the nodes at which they begin.
 
-ghost use Rattle.std.specs.Prelude.{◌≡◌, ℕ, ◌+◌, ◌<◌, ◌≤◌, ◌&&◌, not, ◌↔◌, true, length, slice_index, filter, All, AllPairs, Contains, IsTrue, IfOk};
+ghost use Rattle.std.specs.Prelude.{◌≡◌, ℕ, ◌<◌, ◌&&◌, not, ◌↔◌, true, length, slice_index, filter, All, AllPairs, Contains, IsTrue, IfOk};
 ghost use Rattle.numbered_graph.specs.Listings.{numbers_below};
-ghost use Rattle.numbered_graph.specs.Paths.{any_link};
-ghost use Rattle.numbered_graph.specs.Ranks.{AreRanks};
 ghost use Rattle.numbered_graph.specs.Roots.{is_inside, IsRoot, AreEntered};
 ghost use Rattle.numbered_graph.specs.Sets.{has};
 
@@ -16,7 +14,8 @@ use std::alloc::{AllocError, Global};
 
 /// The numbers of the links whose ends are both in the set, ascending.
 pub fn links_inside(alloc: Global, graph: &Graph, set: &NodeSet) -> Result<Vec<usize>, AllocError>
-    ensures inside { IfOk result (λ js. js.items ≡ filter (is_inside graph.now.links set.now) (numbers_below (length graph.now.links))) }
+    ensures inside { IfOk result (λ js. js.items
+        ≡ filter (is_inside graph.now.links set.now) (numbers_below (length graph.now.links))) }
     ensures within { IfOk result (λ js. All (λ j. j < length graph.now.links) js.items) }
 {
     let mut inside = Vec::new(alloc);
@@ -44,20 +43,14 @@ pub fn root_nodes(
 ) -> Result<Vec<usize>, AllocError>
     requires { length set.now ≡ graph.now.nodes }
     ensures ascending { IfOk result (λ xs. AllPairs (λ x y. x < y) xs.items) }
-    ensures each { IfOk result (λ xs. (v : ℕ) → Contains xs.items v ↔ (IsTrue (has set.now v) × IsRoot direction graph.now.links set.now v)) }
+    ensures each { IfOk result (λ xs. (v : ℕ) → Contains xs.items v
+        ↔ (IsTrue (has set.now v) × IsRoot direction graph.now.links set.now v)) }
     ensures within { IfOk result (λ xs. All (λ v. v < graph.now.nodes) xs.items) }
 {
     let all = flags_of(alloc, true, graph.links().len())?;
     let ranks = component_ranks(alloc, graph, &all)?;
     let entered = entered_ranks(alloc, graph, &ranks, set, direction)?;
-    let roots = not_entered(alloc, &ranks, set, &entered)?;
-    Ok(roots)
-}
-
-fn stays_root(set: &NodeSet, node: usize, is_entered: bool) -> bool
-    ensures { result ≡ (has set.now node && not is_entered) }
-{
-    set.contains(node) && !is_entered
+    not_entered(alloc, &ranks, set, &entered)
 }
 
 // A flag for each rank: whether a link inside the set leads to it from another rank.
@@ -69,7 +62,8 @@ fn entered_ranks(
     direction: Direction,
 ) -> Result<Vec<bool>, AllocError>
     requires { length ranks.now ≡ graph.now.nodes }
-    ensures entered { IfOk result (λ flags. AreEntered direction graph.now.links ranks.now set.now (length graph.now.links) flags.items) }
+    ensures entered { IfOk result (λ flags. AreEntered direction graph.now.links ranks.now set.now
+        (length graph.now.links) flags.items) }
     ensures sized { IfOk result (λ flags. All (λ r. r < length flags.items) ranks.now) }
 {
     let Some(count) = highest(ranks).checked_add(1) else {
@@ -95,12 +89,17 @@ fn not_entered(
     entered: &[bool],
 ) -> Result<Vec<usize>, AllocError>
     requires { All (λ r. r < length entered.now) ranks.now }
-    ensures { IfOk result (λ xs. xs.items ≡ filter (λ v. has set.now v && not (has entered.now (slice_index ranks.now v))) (numbers_below (length ranks.now))) }
+    ensures { IfOk result (λ xs. xs.items
+        ≡ filter (λ v. has set.now v && not (has entered.now (slice_index ranks.now v)))
+        (numbers_below (length ranks.now))) }
 {
     let mut nodes = Vec::new(alloc);
     for node in 0..ranks.len() {
-        let is_entered = entered[ranks[node]];
-        push_if(&mut nodes, node, stays_root(set, node, is_entered))?;
+        push_if(
+            &mut nodes,
+            node,
+            set.contains(node) && !entered[ranks[node]],
+        )?;
     }
     Ok(nodes)
 }

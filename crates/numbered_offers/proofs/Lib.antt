@@ -3,7 +3,6 @@ pub mod RunFacts
 pub mod LeastFacts
 pub mod LinkFacts
 pub mod KeepFacts
-pub mod WalkingFacts
 pub mod FlagFacts
 pub mod MadeFacts
 pub mod StepFacts

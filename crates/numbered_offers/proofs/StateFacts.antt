@@ -3,7 +3,7 @@ use Rattle.std.proofs.Common.{◌≡◌, ℕ, ◌<◌, ◌≤◌, List, length, 
 use Rattle.std.specs.Option.{is_some}
 use Rattle.numbered_graph.specs.Graphs.{GraphValue}
 use Rattle.numbered_graph.specs.Walks as walks
-use Rattle.numbered_graph.specs.Walks.{WalkValue, Shown}
+use Rattle.numbered_graph.specs.Walks.{WalkValue, Shown, opened_of}
 use Rattle.numbered_offers.specs.declared.state.State.{State}
 use Rattle.numbered_offers.specs.Graphs.{all_links}
 use Rattle.numbered_offers.specs.Keeping.{Keeps, run_of}
@@ -13,7 +13,7 @@ pub none_of : {X : Type 0} (r : Option X) → is_some r ≡ false → r ≡ None
 none_of None h = refl
 none_of (Some x) h = absurd (true≢false h)
 
-module _ (s : State) (walk : WalkValue) (link : ℕ) (graph : walk.graph ≡ s.walk.graph) (direction : walk.direction ≡ s.walk.direction) (starts : walk.starts ≡ s.walk.starts) (shown : walk.shown ≡ s.walk.shown) (bound : walk.looked ≤ walk.graph.nodes) where
+module _ (s : State) (walk : WalkValue) (link : ℕ) (graph : walk.graph ≡ s.walk.graph) (direction : walk.direction ≡ s.walk.direction) (starts : walk.starts ≡ s.walk.starts) (shown : walk.shown ≡ s.walk.shown) (bound : opened_of walk ≤ walk.graph.nodes) where
   walk_stands : Stands s → Stands (record s { walk = walk; link = link })
   walk_stands h = record {
     near = h.near;
@@ -23,7 +23,7 @@ module _ (s : State) (walk : WalkValue) (link : ℕ) (graph : walk.graph ≡ s.w
     keeps = subst (λ (x : List ℕ). Keeps s.direction (edges_of s) x walk.shown (run_of s.asked.items) h.near h.dep) (sym starts) (subst (λ (x : Shown). Keeps s.direction (edges_of s) s.walk.starts x (run_of s.asked.items) h.near h.dep) (sym shown) h.keeps);
     counted = subst (λ (x : Shown). length s.asked.items ≤ length x) (sym shown) h.counted;
     room = h.room;
-    bound = subst (λ (g : GraphValue). walk.looked ≤ g.nodes) (graph ∙ h.graph) bound;
+    bound = subst (λ (g : GraphValue). opened_of walk ≤ g.nodes) (graph ∙ h.graph) bound;
   }
 
   -- no link is left

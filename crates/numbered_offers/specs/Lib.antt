@@ -3,7 +3,6 @@ pub mod Runs
 pub mod Least
 pub mod Dues
 pub mod Graphs
-pub mod LinkWalks
 pub mod Keeping
 pub mod Counts
 pub mod States

@@ -1,7 +1,7 @@
 -- What is seen of a walk over offers, and what it keeps.
 use Rattle.std.specs.Prelude.{◌≡◌, ℕ, Bool, true, List, length, Option, Some, None}
 use Rattle.numbered_graph.specs.declared.direction.Direction.{Direction}
-use Rattle.numbered_graph.specs.Walks.{IsShowing}
+use Rattle.numbered_graph.specs.Walks.{IsShowing, opened_of}
 use Rattle.numbered_offers.specs.declared.due.Due.{Due}
 use Rattle.numbered_offers.specs.declared.offer_walk.OfferWalk.TheInside.{Inside}
 use Rattle.numbered_offers.specs.Graphs.{OfferGraphValue, all_links}
@@ -30,7 +30,7 @@ seen w = record {
   waiting = w.waiting;
   ended = w.ended;
   passed = length w.state.walk.shown;
-  looked = w.state.walk.looked;
+  looked = opened_of w.state.walk;
 }
 
 pub record IsSound (w : Inside) : Type 0 where

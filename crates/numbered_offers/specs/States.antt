@@ -23,7 +23,7 @@ pub record Stands (s : State) : Type 0 where
   pub keeps : Keeps s.direction (edges_of s) s.walk.starts s.walk.shown (run_of s.asked.items) near dep
   pub counted : length s.asked.items ≤ length s.walk.shown
   pub room : length (all_links (edges_of s)) ≤ vec_capacity s.asked
-  pub bound : s.walk.looked ≤ s.graph.now.nodes
+  pub bound : walks.opened_of s.walk ≤ s.graph.now.nodes
 
 -- between two links
 pub record Rests (s : State) : Type 0 where

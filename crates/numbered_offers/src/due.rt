@@ -1,6 +1,6 @@
 //! What is offered at once when an edge is met: one offer, or both halves of a weak edge.
 
-ghost use Rattle.std.specs.Prelude.{◌≡◌, ℕ, Bool, ◌&&◌, ◌==◌};
+ghost use Rattle.std.specs.Prelude.{◌≡◌, ◌&&◌, ◌==◌};
 ghost use Rattle.numbered_offers.specs.Counts.{flag_for};
 ghost use Rattle.numbered_offers.specs.Edges.{has_offer, waits, halves_sort};
 ghost use Rattle.numbered_offers.specs.Dues.{asks, accepted_of};
@@ -34,7 +34,8 @@ pub(crate) fn is_taken(due: Option<Due>, first: bool, second: bool) -> bool
 // What an edge offers when its near end is reached: `whole` its unsplit offer or required half,
 // `optional` its optional half, where these wait for nothing more.
 pub(crate) fn due_of_edge(edge: Edge, number: usize, whole: bool, optional: bool) -> Option<Due>
-    ensures due { (o : Offer) → asks result o ≡ ((number == o.edge) && (has_offer edge.sort o.kind && flag_for o.kind whole optional)) }
+    ensures due { (o : Offer) → asks result o
+        ≡ ((number == o.edge) && (has_offer edge.sort o.kind && flag_for o.kind whole optional)) }
 {
     match edge.sort {
         EdgeSort::Unconditional => None,
@@ -48,7 +49,8 @@ pub(crate) fn due_of_edge(edge: Edge, number: usize, whole: bool, optional: bool
 }
 
 fn due_of_unsplit(number: usize, flag: bool) -> Option<Due>
-    ensures due { (o : Offer) → asks result o ≡ ((number == o.edge) && (has_offer Conditional o.kind && flag)) }
+    ensures due { (o : Offer) → asks result o
+        ≡ ((number == o.edge) && (has_offer Conditional o.kind && flag)) }
 {
     if flag {
         Some(Due::One(Offer {
@@ -61,7 +63,8 @@ fn due_of_unsplit(number: usize, flag: bool) -> Option<Due>
 }
 
 fn due_of_halves(number: usize, required: bool, optional: bool) -> Option<Due>
-    ensures due { (o : Offer) → asks result o ≡ ((number == o.edge) && has_offer (halves_sort required optional) o.kind) }
+    ensures due { (o : Offer) → asks result o
+        ≡ ((number == o.edge) && has_offer (halves_sort required optional) o.kind) }
 {
     match (required, optional) {
         (false, false) => None,
@@ -80,7 +83,8 @@ fn due_of_halves(number: usize, required: bool, optional: bool) -> Option<Due>
 // What an edge with an optional half offers when the node for which that half waits is reached: the
 // half, if it waits for nothing more.
 pub(crate) fn due_of_half(number: usize, direction: Direction, flag: bool) -> Option<Due>
-    ensures due { (o : Offer) → asks result o ≡ ((number == o.edge) && (waits direction o.kind && flag)) }
+    ensures due { (o : Offer) → asks result o
+        ≡ ((number == o.edge) && (waits direction o.kind && flag)) }
 {
     match (direction, flag) {
         (Direction::Forward, true) => Some(Due::One(Offer {

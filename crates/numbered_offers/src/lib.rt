@@ -1,11 +1,13 @@
-//! Walks over graphs whose edges are offered to somebody who accepts or refuses them, some only where
-//! a third node is reached too.
+//! Walks over graphs whose edges are offered to somebody who accepts or refuses them, some only where a
+//! third node is reached too.
+//!
+//! Begin with `specs/Runs.antt`, then `offer_walk.rt`. What is due next (`due.rt`, `state.rt`) is
+//! private; the feature graph and its laws stand on the clauses of `OfferWalk`.
 #![tactic(auto)]
 
 mod due;
 mod edge;
 pub mod laws;
-mod link_walk;
 mod offer;
 mod offer_graph;
 mod offer_walk;

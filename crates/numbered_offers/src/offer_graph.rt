@@ -1,7 +1,7 @@
 //! Graphs of offers: nodes, and edges that are offered.
 
 ghost use Rattle.std.specs.Prelude.{◌≡◌, ◌<◌, ◌++◌, ◌∷◌, [], length, All, IfOk, OnOk, if◌then◌else◌};
-ghost use Rattle.numbered_offers.specs.Edges.{AreEdgesWithin, edge_at, edge_links, is_free_at};
+ghost use Rattle.numbered_offers.specs.Edges.{AreEdgesWithin, edge_links};
 ghost use Rattle.numbered_offers.specs.Graphs.{all_links, dep_links, halves_of};
 
 use crate::edge::Edge;
@@ -85,7 +85,8 @@ fn halves_in(alloc: Global, edges: &[Edge]) -> Result<Vec<usize>, AllocError>
 }
 
 fn push_if(numbers: &mut Vec<usize>, number: usize, flag: bool) -> Result<(), AllocError>
-    ensures { OnOk result (numbers.new.items ≡ (if flag then numbers.old.items ++ number ∷ [] else numbers.old.items)) }
+    ensures { OnOk result (numbers.new.items
+        ≡ (if flag then numbers.old.items ++ number ∷ [] else numbers.old.items)) }
 {
     if flag {
         numbers.push(number)?;

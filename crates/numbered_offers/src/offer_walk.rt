@@ -45,7 +45,16 @@ impl<'g> OfferWalk<'g> {
         direction: Direction,
     ) -> Result<OfferWalk<'g>, AllocError>
         requires { All (λ v. v < graph.now.nodes) starts.now }
-        ensures started { IfOk result (λ w. w ≡ record { graph = graph.now; direction = direction; starts = starts.now; run = []; waiting = None; ended = false; passed = 0; looked = 0 }) }
+        ensures started { IfOk result (λ w. w ≡ record {
+          graph = graph.now;
+          direction = direction;
+          starts = starts.now;
+          run = [];
+          waiting = None;
+          ended = false;
+          passed = 0;
+          looked = 0;
+        }) }
     {
         let state = started(alloc, graph, starts, direction)?;
         Ok(OfferWalk {
@@ -59,11 +68,19 @@ impl<'g> OfferWalk<'g> {
     /// optional one; none once every offer that is due was made.
     pub fn take<L: Ledger>(&mut self, looks: &mut Looks<L>) -> Option<Due>
         requires { self.old.waiting ≡ None }
-        ensures due { IfSome result (λ due. (o : Offer) → asks (Some due) o ≡ true → IsDue self.old.direction self.old.graph.edges self.old.starts self.old.run o) }
-        ensures all { IfNone result (IsLegalRun self.old.direction self.old.graph.edges self.old.starts self.old.run) }
-        ensures kept { self.new ≡ record self.old { waiting = result; ended = is_none result; passed = self.new.passed; looked = self.new.looked } }
+        ensures due { IfSome result (λ due. (o : Offer) → asks (Some due) o ≡ true
+            → IsDue self.old.direction self.old.graph.edges self.old.starts self.old.run o) }
+        ensures all { IfNone result (IsLegalRun self.old.direction self.old.graph.edges
+            self.old.starts self.old.run) }
+        ensures kept { self.new ≡ record self.old {
+          waiting = result;
+          ended = is_none result;
+          passed = self.new.passed;
+          looked = self.new.looked;
+        } }
         ensures rises { self.old.passed ≤ self.new.passed }
-        ensures room { IfSome result (λ _. self.new.passed < length self.new.graph.edges + count_by is_weak self.new.graph.edges) }
+        ensures room { IfSome result (λ _. self.new.passed
+            < length self.new.graph.edges + count_by is_weak self.new.graph.edges) }
         ensures looks { looks.new + self.old.looked ≡ looks.old + self.new.looked }
         ensures bound { self.new.looked ≤ self.new.graph.nodes }
     {
@@ -77,7 +94,12 @@ impl<'g> OfferWalk<'g> {
     /// required one by the first and the optional one by the second.
     pub fn answer(&mut self, due: Due, first: bool, second: bool)
         requires { self.old.waiting ≡ Some due }
-        ensures answered { self.new ≡ record self.old { waiting = None; ended = false; run = self.old.run ++ asked_of (Some due) first second; passed = suc self.old.passed } }
+        ensures answered { self.new ≡ record self.old {
+          waiting = None;
+          ended = false;
+          run = self.old.run ++ asked_of (Some due) first second;
+          passed = suc self.old.passed;
+        } }
     {
         settle(&mut self.state, Some(due), first, second);
         self.waiting = None;
@@ -87,7 +109,9 @@ impl<'g> OfferWalk<'g> {
     /// Once no offer was left, the nodes that edges which are crossed lead to from the starts.
     pub fn into_included(self) -> NodeSet
         ensures sized { length result ≡ self.entry.graph.nodes }
-        ensures included { self.entry.ended ≡ true → (v : ℕ) → IsTrue (has result v) ↔ IsReachedBy self.entry.direction self.entry.graph.edges self.entry.starts self.entry.run v }
+        ensures included { self.entry.ended ≡ true → (v : ℕ) → IsTrue (has result v)
+            ↔ IsReachedBy self.entry.direction self.entry.graph.edges self.entry.starts
+            self.entry.run v }
     {
         self.state.walk.into_included()
     }

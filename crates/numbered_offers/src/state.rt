@@ -1,7 +1,7 @@
 //! The walk over the links of a graph of offers, the counts of premises, and what was asked.
 
-ghost use Rattle.std.specs.Prelude.{◌≡◌, ℕ, suc, ◌+◌, ◌<◌, ◌≤◌, ◌++◌, ◌∷◌, ◌||◌, [], true, All, replicate, length, Some, None, IfSome, IfNone, IfOk, vec_len, vec_capacity};
-ghost use Rattle.numbered_graph.specs.Walks.{IsShowing};
+ghost use Rattle.std.specs.Prelude.{◌≡◌, suc, ◌+◌, ◌<◌, ◌≤◌, ◌++◌, ◌||◌, [], true, All, length, Some, None, IfSome, IfNone, IfOk, vec_len, vec_capacity};
+ghost use Rattle.numbered_graph.specs.Walks.{IsShowing, opened_of};
 ghost use Rattle.numbered_offers.specs.declared.offer.Offer.{Offer};
 ghost use Rattle.numbered_offers.specs.declared.offer.OfferKind.TheVariants.{Optional};
 ghost use Rattle.numbered_offers.specs.Counts.{AreOpen, count_at, lowered, optional_premises, whole_after, half_after, optional_after, is_due_at};
@@ -12,9 +12,8 @@ ghost use Rattle.numbered_offers.specs.Keeping.{half_at, is_free_link, run_of};
 ghost use Rattle.numbered_offers.specs.States.{Rests, Meets, WaitsFor, IsSameWalk};
 
 use crate::due::{Due, due_of_edge, due_of_half, is_taken};
-use crate::link_walk::LinkWalk;
 use crate::offer_graph::OfferGraph;
-use numbered_graph::{Direction, Looks};
+use numbered_graph::{Direction, Looks, Walk};
 use std::alloc::{AllocError, Global};
 use std::sync::ledger::Ledger;
 
@@ -32,18 +31,11 @@ pub struct Asked {
 pub struct State<'g> {
     pub graph: &'g OfferGraph,
     pub direction: Direction,
-    pub walk: LinkWalk<'g>,
+    pub walk: Walk<'g>,
     pub link: usize,
     pub whole_open: Vec<u8>,
     pub optional_open: Vec<u8>,
     pub asked: Vec<Asked>,
-}
-
-// So many counts, all alike.
-fn counts_of(alloc: Global, premises: u8, count: usize) -> Result<Vec<u8>, AllocError>
-    ensures { IfOk result (λ v. v.items ≡ replicate count premises) }
-{
-    vec![in alloc; premises; count]
 }
 
 // How many premises an optional half has: forward it waits for its dependency's node too.
@@ -67,14 +59,15 @@ pub(crate) fn started<'g>(
     ensures rests { IfOk result Rests }
     ensures graph { IfOk result (λ s. s.graph.now ≡ graph.now) }
     ensures direction { IfOk result (λ s. s.direction ≡ direction) }
-    ensures walk { IfOk result (λ s. (s.walk.starts ≡ starts.now) × (s.walk.shown ≡ []) × (s.walk.looked ≡ 0)) }
+    ensures walk { IfOk result (λ s. (s.walk.starts ≡ starts.now) × (s.walk.shown ≡ [])
+        × (opened_of s.walk ≡ 0)) }
     ensures asked { IfOk result (λ s. s.asked.items ≡ []) }
 {
     let edges = graph.edges().len();
-    let whole_open = counts_of(alloc, 1, edges)?;
-    let optional_open = counts_of(alloc, premises_of_optional(direction), edges)?;
+    let whole_open = vec![in alloc; 1; edges]?;
+    let optional_open = vec![in alloc; premises_of_optional(direction); edges]?;
     let asked = Vec::with_capacity(alloc, graph.graph().links().len())?;
-    let walk = LinkWalk::new(alloc, graph.graph(), starts, direction)?;
+    let walk = Walk::new(alloc, graph.graph(), starts, direction)?;
     Ok(State {
         graph,
         direction,
@@ -111,7 +104,8 @@ fn meet_half(graph: &OfferGraph, direction: Direction, optional: &mut Vec<u8>, n
     requires behind { length graph.now.edges ≤ number }
     requires number { number < length (all_links graph.now.edges) }
     requires sized { length optional.old.items ≡ length graph.now.edges }
-    requires open { waits direction Optional ≡ true → 0 < count_at optional.old.items (half_at graph.now.edges number) }
+    requires open { waits direction Optional ≡ true
+        → 0 < count_at optional.old.items (half_at graph.now.edges number) }
     ensures { optional.new.items ≡ half_after direction graph.now.edges number optional.old.items }
 {
     match direction {
@@ -136,7 +130,8 @@ fn meet(
     requires optional_sized { length optional.old.items ≡ length graph.now.edges }
     requires open { AreOpen direction graph.now.edges number whole.old.items optional.old.items }
     ensures whole { whole.new.items ≡ whole_after graph.now.edges number whole.old.items }
-    ensures optional { optional.new.items ≡ optional_after direction graph.now.edges number optional.old.items }
+    ensures optional { optional.new.items ≡ optional_after direction graph.now.edges number
+        optional.old.items }
 {
     if number < graph.edges().len() {
         lower(whole, number);
@@ -157,7 +152,8 @@ fn due_at(
     requires number { number < length (all_links graph.now.edges) }
     requires whole_sized { length whole.now ≡ length graph.now.edges }
     requires optional_sized { length optional.now ≡ length graph.now.edges }
-    ensures due { (o : Offer) → asks result o ≡ is_due_at direction graph.now.edges whole.now optional.now number o }
+    ensures due { (o : Offer) → asks result o
+        ≡ is_due_at direction graph.now.edges whole.now optional.now number o }
 {
     let edges = graph.edges();
     if number < edges.len() {
@@ -199,15 +195,7 @@ fn meet_link(state: &mut State<'_>, number: usize) -> Option<Due>
     )
 }
 
-// Whether the link is that of an edge that is crossed always.
-fn is_free(graph: &OfferGraph, number: usize) -> bool
-    ensures { result ≡ is_free_link graph.now.edges number }
-{
-    let edges = graph.edges();
-    number < edges.len() && edges[number].is_free()
-}
-
-// Whether the walk follows the link.
+// Whether the walk follows the link: that of an edge that is crossed always, or of an accepted offer.
 fn is_accepted(
     graph: &OfferGraph,
     number: usize,
@@ -217,15 +205,8 @@ fn is_accepted(
 ) -> bool
     ensures { result ≡ (is_free_link graph.now.edges number || accepted_of due first second) }
 {
-    is_free(graph, number) || is_taken(due, first, second)
-}
-
-fn push_within(asked: &mut Vec<Asked>, item: Asked)
-    requires { vec_len asked.old < vec_capacity asked.old }
-    ensures items { asked.new.items ≡ asked.old.items ++ item ∷ [] }
-    ensures capacity { vec_capacity asked.old ≤ vec_capacity asked.new }
-{
-    let _ = asked.push(item);
+    let edges = graph.edges();
+    (number < edges.len() && edges[number].is_free()) || is_taken(due, first, second)
 }
 
 // Puts what was asked at the end of a list that has room for it.
@@ -236,7 +217,7 @@ fn note(asked: &mut Vec<Asked>, due: Option<Due>, first: bool, second: bool)
     ensures capacity { vec_capacity asked.old ≤ vec_capacity asked.new }
 {
     if let Some(due) = due {
-        push_within(asked, Asked { due, first, second });
+        let _ = asked.push(Asked { due, first, second });
     }
 }
 
@@ -244,10 +225,11 @@ fn note(asked: &mut Vec<Asked>, due: Option<Due>, first: bool, second: bool)
 pub(crate) fn settle(state: &mut State<'_>, due: Option<Due>, first: bool, second: bool)
     requires waits { WaitsFor state.old due }
     ensures rests { Rests state.new }
-    ensures run { run_of state.new.asked.items ≡ run_of state.old.asked.items ++ asked_of due first second }
+    ensures run { run_of state.new.asked.items
+        ≡ run_of state.old.asked.items ++ asked_of due first second }
     ensures walk { IsSameWalk state.old state.new }
     ensures shown { length state.new.walk.shown ≡ suc (length state.old.walk.shown) }
-    ensures looked { state.new.walk.looked ≡ state.old.walk.looked }
+    ensures opened { opened_of state.new.walk ≡ opened_of state.old.walk }
 {
     let number = state.link;
     let accepted = is_accepted(state.graph, number, due, first, second);
@@ -260,14 +242,15 @@ pub(crate) fn next_due<L: Ledger>(state: &mut State<'_>, looks: &mut Looks<L>) -
     requires rests { Rests state.old }
     ensures waits { IfSome result (λ due. WaitsFor state.new (Some due)) }
     ensures rests { IfNone result (Rests state.new) }
-    ensures all { IfNone result (IsShowing state.new.direction (all_links state.new.graph.now.edges) state.new.walk.starts state.new.walk.shown) }
+    ensures all { IfNone result (IsShowing state.new.direction (all_links state.new.graph.now.edges)
+        state.new.walk.starts state.new.walk.shown) }
     ensures run { run_of state.new.asked.items ≡ run_of state.old.asked.items }
     ensures walk { IsSameWalk state.old state.new }
     ensures shown { length state.old.walk.shown ≤ length state.new.walk.shown }
-    ensures looks { looks.new + state.old.walk.looked ≡ looks.old + state.new.walk.looked }
-    ensures bound { state.new.walk.looked ≤ state.new.graph.now.nodes }
+    ensures looks { looks.new + opened_of state.old.walk ≡ looks.old + opened_of state.new.walk }
+    ensures bound { opened_of state.new.walk ≤ state.new.graph.now.nodes }
 {
-    while let Some(number) = state.walk.take(looks) {
+    while let Some(number) = state.walk.take_counting_nodes(looks) {
         let due = meet_link(state, number);
         if due.is_some() {
             return due;

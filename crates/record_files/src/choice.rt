@@ -41,7 +41,8 @@ fn choice_of(alloc: Global, value: &Value<'_>) -> Result<FeatureChoice, ReadErro
 }
 
 fn standard_at(value: &Value<'_>) -> Result<Standard, ReadError>
-    ensures { Gives (λ s. s) result (otherwise Standard.Default standard_of key.Standard (seen value.now)) }
+    ensures { Gives (λ s. s) result (otherwise Standard.Default standard_of key.Standard
+        (seen value.now)) }
 {
     let Some(value) = given(value, Key::Standard) else {
         return Ok(Standard::Default);

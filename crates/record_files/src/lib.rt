@@ -1,6 +1,10 @@
 //! The files of a workspace: its record, a choice of features, a table of a platform, an account and
 //! listings of tests. Each is JSON, and is read whole or refused with the first fault;
 //! `docs/FORMATS.md` has their keys.
+//!
+//! Begin with `specs/Files.antt`, then `record.rt`. How a value is gone through is private. The keys,
+//! the shapes and which fault comes first are public, and the checker's program stands on no more than
+//! this and the rules: keep it lean.
 
 #![tactic(auto)]
 

@@ -76,7 +76,8 @@ fn line_of(alloc: Global, value: &Value<'_>) -> Result<LineRecord, ReadError>
 }
 
 fn line_kind_at(value: &Value<'_>) -> Result<LineKind, ReadError>
-    ensures { Gives (λ k. k) result (otherwise LineKind.Normal line_kind_of key.Kind (seen value.now)) }
+    ensures { Gives (λ k. k) result (otherwise LineKind.Normal line_kind_of key.Kind
+        (seen value.now)) }
 {
     let Some(value) = given(value, Key::Kind) else {
         return Ok(LineKind::Normal);

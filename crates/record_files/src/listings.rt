@@ -35,7 +35,8 @@ fn listings_of(
     alloc: Global,
     members: &Lent<'_, '_>,
 ) -> Result<BTreeMap<String, Vec<String>>, ReadError>
-    ensures { Gives (λ m. map listing m.entries) result (each_listing (lent_members members.now.entries)) }
+    ensures { Gives (λ m. map listing m.entries) result
+        (each_listing (lent_members members.now.entries)) }
 {
     let mut listings = BTreeMap::new(alloc);
     for (id, value) in members.iter() {

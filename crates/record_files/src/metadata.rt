@@ -23,7 +23,8 @@ pub(crate) fn metadata_at(
     alloc: Global,
     value: &json::Value<'_>,
 ) -> Result<Option<String>, ReadError>
-    ensures { Gives (option_map string_bytes) result (optional_json_at key.Metadata (seen value.now)) }
+    ensures { Gives (option_map string_bytes) result
+        (optional_json_at key.Metadata (seen value.now)) }
 {
     match given(value, Key::Metadata) {
         None => Ok(None),

@@ -106,7 +106,8 @@ fn is_object(value: &Value<'_>) -> bool
 }
 
 fn each_text(alloc: Global, values: &[Value<'_>]) -> Result<Option<Vec<String>>, AllocError>
-    ensures { IfOk result (λ o. option_map (λ v. map string_bytes v.items) o ≡ each_text (seen_items values.now)) }
+    ensures { IfOk result (λ o. option_map (λ v. map string_bytes v.items) o
+        ≡ each_text (seen_items values.now)) }
 {
     let mut texts = Vec::with_capacity(alloc, values.len())?;
     for value in values {
@@ -120,7 +121,8 @@ fn each_text(alloc: Global, values: &[Value<'_>]) -> Result<Option<Vec<String>>,
 
 /// The texts of a list, if the value is one.
 pub(crate) fn as_texts(alloc: Global, value: &Value<'_>) -> Result<Option<Vec<String>>, AllocError>
-    ensures { IfOk result (λ o. option_map (λ v. map string_bytes v.items) o ≡ as_texts (seen value.now)) }
+    ensures { IfOk result (λ o. option_map (λ v. map string_bytes v.items) o
+        ≡ as_texts (seen value.now)) }
 {
     match as_array(value) {
         None => Ok(None),
@@ -148,7 +150,8 @@ pub(crate) fn optional_texts_at(
     value: &Value<'_>,
     key: Key,
 ) -> Result<Option<Vec<String>>, ReadError>
-    ensures { Gives (option_map (λ v. map string_bytes v.items)) result (optional_texts_at key (seen value.now)) }
+    ensures { Gives (option_map (λ v. map string_bytes v.items)) result
+        (optional_texts_at key (seen value.now)) }
 {
     match given(value, key) {
         None => Ok(None),

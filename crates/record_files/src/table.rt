@@ -44,7 +44,8 @@ fn table_of(alloc: Global, value: &Value<'_>) -> Result<PlatformTable, ReadError
 }
 
 fn answers_at(alloc: Global, value: &Value<'_>) -> Result<IndexMap<String, bool>, ReadError>
-    ensures gives { Gives (λ m. map entry_of m.entries) result (otherwise [] answers_of key.Answers (seen value.now)) }
+    ensures gives { Gives (λ m. map entry_of m.entries) result
+        (otherwise [] answers_of key.Answers (seen value.now)) }
     ensures ascending { IfOk result (λ m. IsAscending (map entry_of m.entries)) }
 {
     let Some(value) = given(value, Key::Answers) else {
@@ -57,7 +58,8 @@ fn answers_at(alloc: Global, value: &Value<'_>) -> Result<IndexMap<String, bool>
 }
 
 fn answers_of(alloc: Global, members: &Lent<'_, '_>) -> Result<IndexMap<String, bool>, ReadError>
-    ensures gives { Gives (λ m. map entry_of m.entries) result (each_answer (lent_members members.now.entries)) }
+    ensures gives { Gives (λ m. map entry_of m.entries) result
+        (each_answer (lent_members members.now.entries)) }
     ensures ascending { IfOk result (λ m. IsAscending (map entry_of m.entries)) }
 {
     let mut answers = IndexMap::new(alloc);

@@ -9,3 +9,4 @@ pub mod MapFacts
 pub mod NameFacts
 pub mod Depths
 pub mod WrittenFacts
+pub mod LineFacts

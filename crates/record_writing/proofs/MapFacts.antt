@@ -15,7 +15,7 @@ use Rattle.record_writing.proofs.Found.{each_text_of}
 
 module _ {A : Type 0} (written : A → Data) where
   -- the members of entries
-  abbrev members_for : List (Text × A) → Members
+  abbrev pub members_for : List (Text × A) → Members
   members_for [] = no_members
   members_for (e ∷ es) = member e.0 (written e.1) (members_for es)
 
@@ -28,7 +28,8 @@ module _ {A : Type 0} (written : A → Data) where
   put_in name x [] = refl
   put_in name x (e ∷ es) = ap (λ more. match_ordering (text_cmp name e.0) (member name (written x) (member e.0 (written e.1) (members_for es))) (member e.0 (written x) (members_for es)) (member e.0 (written e.1) more)) (put_in name x es) ∙ either (text_cmp name e.0) ((name, x) ∷ e ∷ es) ((e.0, x) ∷ es) (e ∷ with_entry name x es)
 
-  put_each : (es found : List (Text × A)) → put_all (map (λ e. (e.0, written e.1)) es) (members_for found) ≡ members_for (with_entries es found)
+  -- what is put in one after another, by name
+  pub put_each : (es found : List (Text × A)) → put_all (map (λ e. (e.0, written e.1)) es) (members_for found) ≡ members_for (with_entries es found)
   put_each [] found = refl
   put_each (e ∷ es) found = ap (put_all (map (λ e. (e.0, written e.1)) es)) (put_in e.0 e.1 found) ∙ put_each es (with_entry e.0 e.1 found)
 

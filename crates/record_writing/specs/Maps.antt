@@ -1,6 +1,7 @@
 -- What is written for tables and listings: objects by names of their own.
-use Rattle.std.specs.Prelude.{List, [], ◌∷◌, Bool, codes, map}
+use Rattle.std.specs.Prelude.{List, [], ◌∷◌, ◌++◌, Bool, codes, map}
 use Rattle.serde_json.specs.Data.{Data, boolean}
+use Rattle.serde_json.specs.Written.{compact_text}
 use Rattle.workspace_record.specs.Records.{Text}
 use Rattle.record_writing.specs.Members.{object_of, texts_data}
 
@@ -26,3 +27,7 @@ listing_member e = (e.0, texts_data e.1)
 -- listings
 abbrev pub listings_data : List (Text × List Text) → Data
 listings_data listings = object_of (map listing_member listings)
+
+-- listings as `serde_json` writes them compactly, and a line feed
+abbrev pub listings_line : List (Text × List Text) → Text
+listings_line listings = compact_text (listings_data listings) ++ codes "\n"

@@ -14,7 +14,8 @@ use workspace_record::{Feature, FeatureChoice, Label, Standard};
 /// The file of a choice, in one line. It tells features by the words of Cargo's command line: a feature that
 /// is called as an optional dependency is told there is read as that.
 pub fn choice_text(alloc: Global, choice: &FeatureChoice) -> Result<String, AllocError>
-    ensures reads { IfOk result (λ text. Reads choice_file (string_bytes text) (Ok (as_named choice.now))) }
+    ensures reads { IfOk result (λ text. Reads choice_file (string_bytes text)
+        (Ok (as_named choice.now))) }
 {
     let value = choice_value(alloc, choice)?;
     value.to_string(alloc)

@@ -43,7 +43,8 @@ pub(crate) fn object_of(
     alloc: Global,
     members: &[(&str, Member<'_>)],
 ) -> Result<Map<String, Value>, AllocError>
-    ensures { IfOk result (λ m. members_view m.entries ≡ put_all (members_data members.now) no_members) }
+    ensures { IfOk result (λ m. members_view m.entries
+        ≡ put_all (members_data members.now) no_members) }
 {
     with_members(alloc, Map::new(alloc), members)
 }
@@ -54,7 +55,8 @@ pub(crate) fn with_members(
     mut object: Map<String, Value>,
     members: &[(&str, Member<'_>)],
 ) -> Result<Map<String, Value>, AllocError>
-    ensures { IfOk result (λ m. members_view m.entries ≡ put_all (members_data members.now) (members_view object.entries)) }
+    ensures { IfOk result (λ m. members_view m.entries
+        ≡ put_all (members_data members.now) (members_view object.entries)) }
 {
     for (key, member) in members {
         put(&mut object, alloc, key, value_of(alloc, *member)?)?;
@@ -69,7 +71,8 @@ pub(crate) fn with_member(
     key: &str,
     value: Value,
 ) -> Result<Map<String, Value>, AllocError>
-    ensures { IfOk result (λ m. members_view m.entries ≡ put key.now (view value) (members_view object.entries)) }
+    ensures { IfOk result (λ m. members_view m.entries
+        ≡ put key.now (view value) (members_view object.entries)) }
 {
     put(&mut object, alloc, key, value)?;
     Ok(object)

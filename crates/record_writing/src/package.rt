@@ -32,7 +32,8 @@ impl Written for PackageRecord {
 
 /// An object with the details of a package; none of its metadata is written.
 fn details_of(alloc: Global, info: &PackageInfo) -> Result<Map<String, Value>, AllocError>
-    ensures { IfOk result (λ m. members_view m.entries ≡ put_all (details_members info.now) no_members) }
+    ensures { IfOk result (λ m. members_view m.entries
+        ≡ put_all (details_members info.now) no_members) }
 {
     let members = [
         ("source", Member::OptionalText(&info.source)),

@@ -14,7 +14,8 @@ use workspace_record::WorkspaceRecord;
 /// The file of a record, in one line, with the keys of each object in the order of their bytes. The
 /// metadata of packages and of the workspace are left out.
 pub fn record_text(alloc: Global, record: &WorkspaceRecord) -> Result<String, AllocError>
-    ensures reads { IfOk result (λ text. Reads record_file (string_bytes text) (Ok (without_metadata «record».now))) }
+    ensures reads { IfOk result (λ text. Reads record_file (string_bytes text)
+        (Ok (without_metadata «record».now))) }
 {
     let value = record_value(alloc, record)?;
     value.to_string(alloc)

@@ -23,7 +23,8 @@ pub fn table_text(alloc: Global, table: &PlatformTable) -> Result<String, AllocE
 }
 
 fn table_value(alloc: Global, table: &PlatformTable) -> Result<Value, AllocError>
-    ensures value { IfOk result (λ v. view v ≡ table_data (answered table.now) table.now.unknown_counts) }
+    ensures value { IfOk result (λ v. view v
+        ≡ table_data (answered table.now) table.now.unknown_counts) }
     ensures unique { IfOk result (λ _. IsUnique string_eq table.now.answers) }
 {
     let members = [("unknown_counts", Member::Flag(table.unknown_counts))];
@@ -36,7 +37,8 @@ fn answers_object(
     alloc: Global,
     answers: &IndexMap<String, bool>,
 ) -> Result<Map<String, Value>, AllocError>
-    ensures members { IfOk result (λ m. members_view m.entries ≡ put_all (map answer_member (map entry_of answers.now.entries)) no_members) }
+    ensures members { IfOk result (λ m. members_view m.entries
+        ≡ put_all (map answer_member (map entry_of answers.now.entries)) no_members) }
     ensures unique { IfOk result (λ _. IsUnique string_eq answers.now) }
 {
     let mut object = Map::new(alloc);

@@ -1,8 +1,7 @@
 //! Graphs of the records that rows are run on.
 
 use guppy_package_graph::{PackageGraph, PackageGraphError};
-use row_program::{Row, RowFault};
-use row_records::record_under;
+use row_program::{Row, RowFault, record_under};
 use std::alloc::Global;
 
 /// The package graph of the record under `record`, or why there is none.

@@ -2,20 +2,20 @@
 use Rattle.std.specs.Prelude.{◌≡◌, List, Option, Result, String, Vec, map}
 use Rattle.std.specs.Global.{Global}
 use Rattle.workspace_record.specs.Records.{Text}
-use Rattle.test_lister.specs.Listers.{Shown}
-use Rattle.feature_questions.specs.Switching.{AnswersOrRefuses, IsServed}
-use Rattle.feature_reasons.specs.SourceViews.{sourced_view}
-use Rattle.feature_reasons.specs.Sources.{sourced_rules}
-use Rattle.feature_reasons.specs.declared.sourced_rule.SourcedRule.{SourcedRule}
-use Rattle.record_checks.specs.declared.select_error.SelectError.{SelectError}
-use Rattle.selection_reasons.specs.Explaining.{Explains}
-use Rattle.selection_making.specs.Selecting.{Answers, ListsAsked}
-use Rattle.selection_making.specs.Selections.{Selected}
-use Rattle.selection_making.specs.declared.asked_binaries.AskedBinaries.{AskedBinaries}
-use Rattle.selection_making.specs.declared.asked_binaries.AskedBinaries.TheVariants.{LetThrough}
-use Rattle.selection_reasons.specs.declared.reason.Reason.{Reason}
-use Rattle.question_files.specs.declared.inputs.FeatureQuestion.{FeatureQuestion}
-use Rattle.question_filters.specs.declared.scope.LinkScope.{LinkScope}
+use Rattle.nextest_binaries.specs.Listers.{Shown}
+use Rattle.test_select_features.specs.Switching.{AnswersOrRefuses, IsServed}
+use Rattle.feature_account_making.specs.SourceViews.{sourced_view}
+use Rattle.feature_account_making.specs.Sources.{sourced_rules}
+use Rattle.feature_account_making.specs.declared.sourced_rule.SourcedRule.{SourcedRule}
+use Rattle.test_select_checks.specs.declared.select_error.SelectError.{SelectError}
+use Rattle.test_select_tests.specs.Explaining.{Explains}
+use Rattle.test_select_tests.specs.Selecting.{Answers, ListsAsked}
+use Rattle.test_select_tests.specs.Selections.{Selected}
+use Rattle.test_select_tests.specs.declared.asked_binaries.AskedBinaries.{AskedBinaries}
+use Rattle.test_select_tests.specs.declared.asked_binaries.AskedBinaries.TheVariants.{LetThrough}
+use Rattle.test_select_tests.specs.declared.reason.Reason.{Reason}
+use Rattle.test_select_files.specs.declared.inputs.FeatureQuestion.{FeatureQuestion}
+use Rattle.test_select_tests.specs.declared.scope.LinkScope.{LinkScope}
 
 -- a selection by the record, the choice and the table that were read, over the links of the scope
 abbrev pub AnswersQuestion : FeatureQuestion → LinkScope → List Text → AskedBinaries → Shown → Result Selected SelectError → Shown → Type 0

@@ -7,10 +7,10 @@ use crate::command_line::is_readable;
 use crate::failure::Failure;
 use crate::readable::print_entries;
 use clap::ArgMatches;
-use feature_questions::{account_shared, write_account};
-use question_files::{FeatureQuestion, FileSource, feature_question, named_files};
 use std::alloc::Global;
 use std::io::Write;
+use test_select_features::{account_shared, write_account};
+use test_select_files::{FeatureQuestion, FileSource, feature_question, named_files};
 
 /// Prints the account of what is on.
 pub(crate) fn print_account<'a, O: Write>(

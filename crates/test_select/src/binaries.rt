@@ -8,12 +8,11 @@ use crate::command_line::{asked_binaries, filters_in, link_scope};
 use crate::failure::Failure;
 use crate::order::write_order;
 use clap::ArgMatches;
-use question_files::{FeatureQuestion, FileSource, feature_question, named_files};
-use question_filters::LinkScope;
-use record_checks::SelectError;
-use selection_making::{AskedBinaries, binaries_to_ask_shared};
 use std::alloc::Global;
 use std::io::Write;
+use test_select_checks::SelectError;
+use test_select_files::{FeatureQuestion, FileSource, feature_question, named_files};
+use test_select_tests::{AskedBinaries, LinkScope, binaries_to_ask_shared};
 
 /// Prints a line for the id of each binary that `tests` would ask for its tests.
 pub(crate) fn print_binaries<'a, O: Write>(

@@ -1,14 +1,16 @@
 //! The command line, as `clap` reads it.
 
-use clap::{Arg, ArgAction, ArgMatches, Command};
-use question_files::{
-    CHECK_HELP, account_option, choice_option, file_option, record_option, required, table_option,
-};
-use question_filters::LinkScope;
-use selection_making::AskedBinaries;
-use std::alloc::{AllocError, Global};
+ghost use Rattle.std.specs.Prelude.{◌≡◌, IfErr};
+ghost use Rattle.test_select.specs.Failures.{status_of};
 
-/// The program's command, with a subcommand for each thing that it does.
+use crate::failure::Failure;
+use clap::{Arg, ArgMatches, Command};
+use std::alloc::{AllocError, Global};
+use test_select_files::{ACCOUNT, CHECK_HELP, CHOICE, RECORD, Shape, TABLE, Word, required};
+use test_select_tests::{AskedBinaries, LinkScope, Partition};
+
+/// The program's command, with a subcommand for each thing that it does. The table of subcommands names
+/// its words, and does not hold them: a value that is written out is gone through wherever it is used.
 pub(crate) fn command<'a>(alloc: Global) -> Result<Command<'a>, AllocError> {
     let mut command = program(alloc)?;
     for subcommand in &SUBCOMMANDS {
@@ -42,7 +44,7 @@ struct Subcommand {
     name: &'static str,
     about: &'static str,
     help: &'static str,
-    words: &'static [Word],
+    words: &'static [Taken],
 }
 
 impl Subcommand {
@@ -58,19 +60,21 @@ impl Subcommand {
 }
 
 /// The subcommands, in the order of the help.
-const SUBCOMMANDS: [Subcommand; 9] = [
+const SUBCOMMANDS: [Subcommand; 10] = [
     Subcommand {
         name: "tests",
         about: "Prints the tests that run",
         help: TESTS_HELP,
         words: &[
-            Word::Record,
-            Word::Listings,
-            Word::Choice,
-            Word::Table,
-            Word::Declared,
-            Word::Plain,
-            Word::Filter,
+            Taken::Record,
+            Taken::Listings,
+            Taken::Choice,
+            Taken::Table,
+            Taken::Declared,
+            Taken::Plain,
+            Taken::Partition,
+            Taken::Format,
+            Taken::Filters,
         ],
     },
     Subcommand {
@@ -78,188 +82,219 @@ const SUBCOMMANDS: [Subcommand; 9] = [
         about: "Prints the test binaries that are to be built and asked for their tests",
         help: BINARIES_HELP,
         words: &[
-            Word::Record,
-            Word::Choice,
-            Word::Table,
-            Word::Declared,
-            Word::Plain,
-            Word::Filter,
+            Taken::Record,
+            Taken::Choice,
+            Taken::Table,
+            Taken::Declared,
+            Taken::Plain,
+            Taken::Filters,
         ],
+    },
+    Subcommand {
+        name: "changed",
+        about: "Prints a filter for the tests that changed files may turn out otherwise",
+        help: CHANGED_HELP,
+        words: &[Taken::Record, Taken::Ignore, Taken::Paths, Taken::Path],
     },
     Subcommand {
         name: "why",
         about: "Prints whether and why a test is chosen, or a binary asked",
         help: WHY_HELP,
         words: &[
-            Word::Record,
-            Word::Listings,
-            Word::Choice,
-            Word::Table,
-            Word::Declared,
-            Word::FilterOption,
-            Word::Binary,
-            Word::Test,
+            Taken::Record,
+            Taken::Listings,
+            Taken::Choice,
+            Taken::Table,
+            Taken::Declared,
+            Taken::FilterOptions,
+            Taken::Binary,
+            Taken::Test,
         ],
     },
     Subcommand {
         name: "account",
         about: "Prints an account of the features that are on",
         help: ACCOUNT_HELP,
-        words: &[Word::Record, Word::Choice, Word::Table, Word::Readable],
+        words: &[Taken::Record, Taken::Choice, Taken::Table, Taken::Readable],
     },
     Subcommand {
         name: "check",
         about: "Checks an account of the features that are on, or an explanation of one",
         help: CHECK_HELP,
-        words: &[Word::Record, Word::Choice, Word::Table, Word::Account],
+        words: &[Taken::Record, Taken::Choice, Taken::Table, Taken::Account],
     },
     Subcommand {
         name: "explain",
         about: "Prints why a feature is on",
         help: EXPLAIN_HELP,
         words: &[
-            Word::Record,
-            Word::Choice,
-            Word::Table,
-            Word::Readable,
-            Word::Package,
-            Word::Feature,
+            Taken::Record,
+            Taken::Choice,
+            Taken::Table,
+            Taken::Readable,
+            Taken::Package,
+            Taken::Feature,
         ],
     },
     Subcommand {
         name: "order",
         about: "Prints the packages that are on, dependencies first",
         help: ORDER_HELP,
-        words: &[Word::Record, Word::Choice, Word::Table],
+        words: &[Taken::Record, Taken::Choice, Taken::Table],
     },
     Subcommand {
         name: "features",
         about: "Prints the features that are on",
         help: FEATURES_HELP,
-        words: &[Word::Record, Word::Choice, Word::Table],
+        words: &[Taken::Record, Taken::Choice, Taken::Table],
     },
     Subcommand {
         name: "rules",
         about: "Prints the rules by which features are on",
         help: RULES_HELP,
-        words: &[Word::Record, Word::Choice, Word::Table],
+        words: &[Taken::Record, Taken::Choice, Taken::Table],
     },
 ];
 
 /// A word that a subcommand takes.
 #[derive(Clone, Copy)]
-enum Word {
+enum Taken {
     Record,
     Listings,
     Choice,
     Table,
-    Account,
-    Readable,
-    Package,
-    Feature,
     Declared,
     Plain,
-    Filter,
-    FilterOption,
+    Partition,
+    Format,
+    Filters,
+    FilterOptions,
     Binary,
     Test,
+    Readable,
+    Account,
+    Package,
+    Feature,
+    Ignore,
+    Paths,
+    Path,
 }
 
-impl Word {
+impl Taken {
     fn argument<'a>(self, alloc: Global) -> Arg<'a> {
         match self {
-            Word::Record => record_option(alloc),
-            Word::Listings => listings_option(alloc),
-            Word::Choice => choice_option(alloc),
-            Word::Table => table_option(alloc),
-            Word::Account => account_option(alloc),
-            Word::Readable => readable_flag(alloc),
-            Word::Package => package_argument(alloc),
-            Word::Feature => feature_argument(alloc),
-            Word::Declared => declared_flag(alloc),
-            Word::Plain => plain_flag(alloc),
-            Word::Filter => filter_words(alloc),
-            Word::FilterOption => filter_option(alloc),
-            Word::Binary => binary_argument(alloc),
-            Word::Test => test_argument(alloc),
+            Taken::Record => RECORD.argument(alloc),
+            Taken::Listings => LISTINGS.argument(alloc),
+            Taken::Choice => CHOICE.argument(alloc),
+            Taken::Table => TABLE.argument(alloc),
+            Taken::Declared => DECLARED.argument(alloc),
+            Taken::Plain => PLAIN.argument(alloc),
+            Taken::Partition => PARTITION.argument(alloc),
+            Taken::Format => FORMAT.argument(alloc),
+            Taken::Filters => FILTERS.argument(alloc),
+            Taken::FilterOptions => FILTER_OPTIONS.argument(alloc),
+            Taken::Binary => BINARY.argument(alloc),
+            Taken::Test => TEST.argument(alloc),
+            Taken::Readable => READABLE.argument(alloc),
+            Taken::Account => ACCOUNT.argument(alloc),
+            Taken::Package => PACKAGE.argument(alloc),
+            Taken::Feature => FEATURE.argument(alloc),
+            Taken::Ignore => IGNORE.argument(alloc),
+            Taken::Paths => PATHS.argument(alloc),
+            Taken::Path => PATH.argument(alloc),
         }
     }
 }
 
-fn listings_option<'a>(alloc: Global) -> Arg<'a> {
-    file_option(alloc, "listings").required(true).help(
-        "The names of the tests in each test binary, under the binary's id, as JSON",
-    )
-}
+const LISTINGS: Word = Word {
+    name: "listings",
+    shape: Shape::Option("FILE"),
+    help: "The names of the tests in each test binary, under the binary's id, as JSON",
+};
 
-fn readable_flag<'a>(alloc: Global) -> Arg<'a> {
-    Arg::new(alloc, "readable")
-        .long("readable")
-        .action(ArgAction::SetTrue)
-        .help("Prints a line for people in place of each number")
-}
+const READABLE: Word = Word {
+    name: "readable",
+    shape: Shape::Flag,
+    help: "Prints a line for people in place of each number",
+};
 
-fn package_argument<'a>(alloc: Global) -> Arg<'a> {
-    Arg::new(alloc, "package")
-        .value_name("PACKAGE")
-        .required(true)
-        .action(ArgAction::Set)
-        .help("The id of the feature's package")
-}
+const PACKAGE: Word = Word {
+    name: "package",
+    shape: Shape::Place("PACKAGE"),
+    help: "The id of the feature's package",
+};
 
-fn feature_argument<'a>(alloc: Global) -> Arg<'a> {
-    Arg::new(alloc, "feature")
-        .value_name("FEATURE")
-        .action(ArgAction::Set)
-        .help(
-            "The feature, by name, or an optional dependency, as `dep:NAME` [default: the package]",
-        )
-}
+const FEATURE: Word = Word {
+    name: "feature",
+    shape: Shape::MaybePlace("FEATURE"),
+    help: "The feature, by name, or an optional dependency, as `dep:NAME` [default: the package]",
+};
 
-fn declared_flag<'a>(alloc: Global) -> Arg<'a> {
-    Arg::new(alloc, "declared")
-        .long("declared")
-        .action(ArgAction::SetTrue)
-        .help("Follows all links in deps(..) and rdeps(..), also those that are off")
-}
+const DECLARED: Word = Word {
+    name: "declared",
+    shape: Shape::Flag,
+    help: "Follows all links in deps(..) and rdeps(..), also those that are off",
+};
 
-fn plain_flag<'a>(alloc: Global) -> Arg<'a> {
-    Arg::new(alloc, "plain")
-        .long("plain")
-        .action(ArgAction::SetTrue)
-        .help("Asks each available binary for its tests, also where no filter can hold")
-}
+const PLAIN: Word = Word {
+    name: "plain",
+    shape: Shape::Flag,
+    help: "Asks each available binary for its tests, also where no filter can hold",
+};
 
-fn filter_words<'a>(alloc: Global) -> Arg<'a> {
-    Arg::new(alloc, "filter")
-        .value_name("FILTER")
-        .num_args(0..)
-        .action(ArgAction::Append)
-        .help("Which tests are wanted: those of which one filter holds [default: all]")
-}
+const IGNORE: Word = Word {
+    name: "ignore",
+    shape: Shape::Options("GLOB"),
+    help: "A glob, as in filters; paths that it takes are passed over. The option may stand several times",
+};
 
-fn filter_option<'a>(alloc: Global) -> Arg<'a> {
-    Arg::new(alloc, "filter")
-        .short('E')
-        .value_name("FILTER")
-        .action(ArgAction::Append)
-        .help("A filter, as for `tests`; the option may stand several times [default: all tests]")
-}
+const PATHS: Word = Word {
+    name: "paths",
+    shape: Shape::MaybeOption("FILE"),
+    help: "A file with a path on each line, as `git diff --name-only` prints them",
+};
 
-fn binary_argument<'a>(alloc: Global) -> Arg<'a> {
-    Arg::new(alloc, "binary")
-        .value_name("ID")
-        .required(true)
-        .action(ArgAction::Set)
-        .help("The id of the test binary")
-}
+const PATH: Word = Word {
+    name: "path",
+    shape: Shape::Rest("PATH"),
+    help: "A changed file, by its path from the workspace's root",
+};
 
-fn test_argument<'a>(alloc: Global) -> Arg<'a> {
-    Arg::new(alloc, "test")
-        .value_name("TEST")
-        .action(ArgAction::Set)
-        .help("The name of a test of the binary [default: the binary itself]")
-}
+const PARTITION: Word = Word {
+    name: "partition",
+    shape: Shape::MaybeOption("count:M/N"),
+    help: "Prints part M of N parts of equal size, from 1 to N [default: all tests]",
+};
+
+const FORMAT: Word = Word {
+    name: "format",
+    shape: Shape::Choice("FORMAT", &["lines", "json"]),
+    help: "Prints a line for each test, or one object as JSON [default: lines]",
+};
+
+const FILTERS: Word = Word {
+    name: "filter",
+    shape: Shape::Rest("FILTER"),
+    help: "Which tests are wanted: those of which one filter holds [default: all]",
+};
+
+const FILTER_OPTIONS: Word = Word {
+    name: "filter",
+    shape: Shape::Letters('E', "FILTER"),
+    help: "A filter, as for `tests`; the option may stand several times [default: all tests]",
+};
+
+const BINARY: Word = Word {
+    name: "binary",
+    shape: Shape::Place("ID"),
+    help: "The id of the test binary",
+};
+
+const TEST: Word = Word {
+    name: "test",
+    shape: Shape::MaybePlace("TEST"),
+    help: "The name of a test of the binary [default: the binary itself]",
+};
 
 /// The file that the command line names for the listings.
 pub(crate) fn listings_file<'a>(asked: &ArgMatches<'a>) -> &'a str {
@@ -309,6 +344,44 @@ pub(crate) fn asked_binaries(asked: &ArgMatches<'_>) -> AskedBinaries {
     }
 }
 
+/// The globs whose paths the command line has passed over.
+pub(crate) fn ignored_words<'m, 'a: 'm>(asked: &'m ArgMatches<'a>) -> &'m [&'a str] {
+    asked.get_strs("ignore").unwrap_or_default()
+}
+
+/// The file of paths that the command line names, if it names one.
+pub(crate) fn paths_file<'a>(asked: &ArgMatches<'a>) -> Option<&'a str> {
+    asked.get_str("paths")
+}
+
+/// The paths of the command line, in its order.
+pub(crate) fn path_words<'m, 'a: 'm>(asked: &'m ArgMatches<'a>) -> &'m [&'a str] {
+    asked.get_strs("path").unwrap_or_default()
+}
+
+/// Refuses a command line whose word for a part of the tests is none.
+pub(crate) fn refuse_bad_partition<'a>(matches: &ArgMatches<'a>) -> Result<(), Failure<'a>>
+    ensures { IfErr result (λ f. status_of f ≡ 2) }
+{
+    let Some((_, asked)) = matches.subcommand() else {
+        return Ok(());
+    };
+    match asked.get_str("partition") {
+        Some(text) if Partition::from_text(text).is_none() => Err(Failure::BadPartition(text)),
+        _ => Ok(()),
+    }
+}
+
+/// The part of the chosen tests that the command line asks for, if it asks for one.
+pub(crate) fn partition_in(asked: &ArgMatches<'_>) -> Option<Partition> {
+    Partition::from_text(asked.get_str("partition")?)
+}
+
+/// Whether the command line wants JSON.
+pub(crate) fn is_json(asked: &ArgMatches<'_>) -> bool {
+    asked.get_str("format") == Some("json")
+}
+
 /// The filter texts of the command line, in its order.
 pub(crate) fn filters_in<'m, 'a: 'm>(asked: &'m ArgMatches<'a>) -> &'m [&'a str] {
     asked.get_strs("filter").unwrap_or_default()
@@ -336,7 +409,10 @@ and groups have to match some; a kind that no target has, as kind(foo), chooses 
 only in binaries whose required features are on, and where the default filter holds.
 
 Output: a line for each test, with the id of its binary, a space and its name. The lines ascend by
-binary and then name, and none stands there twice. Where no test runs there is no line.
+binary and then name, and none stands there twice. Where no test runs there is no line. With
+--partition count:M/N there are just the lines whose place, from 0, is M - 1 modulo N, so that N
+machines run each test once. With --format json there is one object: under each id, ascending, the
+names of its tests, ascending.
 
 Exit status: 0 if the tests are printed, also if there are none; 1 if a file, the record, the
 choice, a filter or a listing is refused, or the output cannot be written, with the reasons on
@@ -353,6 +429,20 @@ those of `tests`, whose help lists them.
 Exit status: 0 if the binaries are printed, also if there are none; 1 if a file, the record, the
 choice or a filter is refused, or the output cannot be written, with the reasons on standard error;
 2 for a bad command line.";
+
+const CHANGED_HELP: &str =
+    "Output: one line, a filter as `tests` takes it. A path belongs to the packages with the longest folder
+in which it lies: members, by their paths in the workspace, and packages of no registry whose folder is
+below the workspace's root, if members reach them by declared links. The filter is
+  rdeps(=NAME) | ..   for each name of such a package, ascending
+  all()               where a path lies in no such folder, as Cargo.lock, or its package has no name
+  none()              where there is no path, or each is passed over
+Packages of one name are both meant. Parts of a path that are empty or `.` count for nothing. A test that
+the filter does not take stands in a package that does not depend on a changed one.
+
+Exit status: 0 if the filter is printed; 1 if a file, the record, a glob or a path is refused, or the
+output cannot be written, with the reasons on standard error: a path may not begin with `/` nor have a
+part `..`; 2 for a bad command line.";
 
 const WHY_HELP: &str =
     "Output: one line. With TEST it says whether and why that test of the binary is chosen:

@@ -8,11 +8,11 @@ use crate::command_line::{feature_word, is_readable, package_word};
 use crate::failure::Failure;
 use crate::readable::print_entries;
 use clap::ArgMatches;
-use feature_questions::{explain_shared, write_explanation};
-use question_files::{FeatureQuestion, FileSource, RunFailure, feature_question, named_files};
 use record_files::label_of;
 use std::alloc::{AllocError, Global};
 use std::io::{self, Write};
+use test_select_features::{explain_shared, write_explanation};
+use test_select_files::{FeatureQuestion, FileSource, RunFailure, feature_question, named_files};
 use workspace_record::Feature;
 
 /// Prints the explanation of the feature that the command line names, or that it is not on.
@@ -54,7 +54,10 @@ fn print_explanation_of<'a, O: Write>(
 
 /// The feature of the package with this id that a choice names by this text.
 fn feature_named(alloc: Global, package_id: &str, text: &str) -> Result<Feature, AllocError>
-    ensures { IfOk result (λ f. f ≡ record { package_id = package_id.now; label = label_of text.now }) }
+    ensures { IfOk result (λ f. f ≡ record {
+      package_id = package_id.now;
+      label = label_of text.now;
+    }) }
 {
     let package = String::from_str(alloc, package_id)?;
     let label = label_of(alloc, text)?;

@@ -1,15 +1,16 @@
 //! Why a run of the program ends early.
 
 ghost use Rattle.std.specs.Prelude.{◌≡◌};
-ghost use Rattle.question_files.specs.declared.run_failure.RunFailure.TheVariants.{CannotWrite, Memory};
+ghost use Rattle.test_select_files.specs.declared.run_failure.RunFailure.TheVariants.{CannotWrite, Memory};
 ghost use Rattle.test_select.specs.Failures.{status_of};
 ghost use Rattle.test_select.specs.declared.failure.Failure.TheVariants.{Refused, Run};
 
-use feature_questions::WriteAccountError;
-use question_files::RunFailure;
-use record_checks::SelectError;
+use nextest_filter_syntax::GlobError;
 use std::alloc::{AllocError, AllocFailed};
 use std::{fmt, io};
+use test_select_checks::SelectError;
+use test_select_features::WriteAccountError;
+use test_select_files::RunFailure;
 
 /// Why a run of the program ends early.
 #[derive(Drop)]
@@ -19,6 +20,14 @@ pub(crate) enum Failure<'a> {
     Run(RunFailure<'a>),
     /// The record, the choice, a filter text or a listing is refused.
     Refused(SelectError),
+    /// The command line names no part of the tests.
+    BadPartition(&'a str),
+    /// The file with this name is not UTF-8.
+    NotText(&'a str),
+    /// The text is no glob.
+    BadGlob(&'a str, GlobError),
+    /// The path is absolute, or steps up.
+    NotBelow(String),
 }
 
 impl Failure<'_> {
@@ -28,7 +37,8 @@ impl Failure<'_> {
     {
         match self {
             Failure::Run(failure) => failure.status(),
-            Failure::Refused(_) => 1,
+            Failure::BadPartition(_) => 2,
+            _ => 1,
         }
     }
 }
@@ -39,8 +49,23 @@ impl fmt::Display for Failure<'_> {
         match self {
             Failure::Run(failure) => write!(f, "{failure}"),
             Failure::Refused(error) => writeln!(f, "{error}"),
+            Failure::BadPartition(text) => write_bad_partition(f, text),
+            Failure::NotText(name) => writeln!(f, "{name}: not UTF-8"),
+            Failure::BadGlob(text, error) => writeln!(f, "ignore {text}: {error}"),
+            Failure::NotBelow(path) => {
+                writeln!(f, "path {path}: not below the workspace's root")
+            }
         }
     }
+}
+
+/// As `clap` tells of a value that it does not take.
+fn write_bad_partition<W: fmt::Write>(f: &mut fmt::Formatter<W>, text: &str) -> fmt::Result {
+    writeln!(
+        f,
+        "error: invalid value '{text}' for '--partition <count:M/N>': M is from 1 to N"
+    )?;
+    f.write_str("\nFor more information, try '--help'.\n")
 }
 
 impl<'a> From<RunFailure<'a>> for Failure<'a> {

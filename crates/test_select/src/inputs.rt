@@ -1,15 +1,15 @@
 //! The files of a selection, read one by one.
 
 ghost use Rattle.std.specs.Prelude.{◌≡◌, IfErr};
-ghost use Rattle.question_files.specs.Failures.{status_of};
+ghost use Rattle.test_select_files.specs.Failures.{status_of};
 
-use question_files::{
-    FeatureQuestion, FileSource, QuestionFiles, RunFailure, accepted, bytes_in, feature_question,
-};
+use nextest_binaries::{FileLister, Listing};
 use record_files::read_listings;
 use std::alloc::Global;
 use std::collections::BTreeMap;
-use test_lister::{FileLister, Listing};
+use test_select_files::{
+    FeatureQuestion, FileSource, QuestionFiles, RunFailure, accepted, bytes_in, feature_question,
+};
 
 /// What the commands `tests` and `why` work on.
 pub(crate) struct TestsInputs {

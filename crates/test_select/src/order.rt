@@ -7,15 +7,16 @@ ghost use Rattle.test_select.specs.Orders.{order_line};
 
 use crate::failure::Failure;
 use clap::ArgMatches;
-use feature_questions::package_order_shared;
 use list_facts::write_pieces;
-use question_files::{FileSource, feature_question, named_files};
 use std::alloc::Global;
 use std::io::{self, Write};
+use test_select_features::package_order_shared;
+use test_select_files::{FileSource, feature_question, named_files};
 
 /// Writes a line for each id. After a fault of the writer what was written is a beginning of this.
 pub fn write_order<W: Write>(ids: &[String], writer: &mut W) -> io::Result<()>
-    ensures writes { Writes (W.contents writer.old) (W.contents writer.new) result (flat_map (λ id. order_line (string_bytes id)) ids.now) }
+    ensures writes { Writes (W.contents writer.old) (W.contents writer.new) result
+        (flat_map (λ id. order_line (string_bytes id)) ids.now) }
 {
     for id in ids {
         write_id(id, writer)?;

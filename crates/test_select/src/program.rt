@@ -5,7 +5,8 @@ ghost use Rattle.test_select.specs.Failures.{status_of};
 
 use crate::accounts::print_account;
 use crate::binaries::print_binaries;
-use crate::command_line::command;
+use crate::changes::print_changed;
+use crate::command_line::{command, refuse_bad_partition};
 use crate::explanations::print_explanation;
 use crate::failure::Failure;
 use crate::order::print_order;
@@ -13,23 +14,28 @@ use crate::readable::{print_features, print_rules};
 use crate::reasons::print_why;
 use crate::selections::print_tests;
 use clap::ArgMatches;
-use question_files::{FileSource, print_verdict};
 use std::alloc::Global;
 use std::convert::AsStr;
 use std::io::Write;
+use test_select_files::{FileSource, print_verdict};
 
 /// Runs the program on a command line, whose first word is the program's name, and answers the
 /// status that it ends with: 0 if all was done, 1 if something was refused or failed, and 2 for a
 /// bad command line.
 ///
-/// `test_select tests --record F --listings F [--choice F] [--table F] [--declared] [--plain] [FILTER]...`
-/// reads and decodes the record, the choice, the table and the listings, one by one and in this order,
-/// then selects, and writes the report to `out`. Without a choice the default features are on. Without a
+/// `test_select tests --record F --listings F [--choice F] [--table F] [--declared] [--plain]
+/// [--partition count:M/N] [--format lines|json] [FILTER]...` reads and decodes the record, the choice, the
+/// table and the listings, one by one and in this order, then selects, and writes the report to `out`, or
+/// of N parts of its lines the part M, or their tests by binary as JSON. Without a choice the default features are on. Without a
 /// table nothing is known of the platform, and what is unknown counts. Links that are on are followed,
 /// with `--declared` all links. With `--plain` each available binary is asked for.
 ///
 /// `test_select binaries --record F [--choice F] [--table F] [--declared] [--plain] [FILTER]...` reads the
 /// same files but the listings, and writes the ids of the binaries that `tests` would ask for their tests.
+///
+/// `test_select changed --record F [--ignore GLOB].. [--paths F] [PATH]..` reads the record and the file of
+/// paths, and writes a filter text for the tests of the packages to which the paths belong, and of all that
+/// depends on them.
 ///
 /// `test_select why --record F --listings F [--choice F] [--table F] [--declared] [-E FILTER].. ID [TEST]`
 /// reads the same files, and writes a line that says whether and why that test of the binary ID is chosen
@@ -77,7 +83,10 @@ fn try_run<'a, S: AsStr, O: Write>(
     ensures { IfErr result (λ f. status_of f ≡ 2 → O.contents out.new ≡ O.contents out.old) }
 {
     match command(alloc)?.try_get_matches_from(words) {
-        Ok(matches) => carry_out(alloc, &matches, files, out)?,
+        Ok(matches) => {
+            refuse_bad_partition(&matches)?;
+            carry_out(alloc, &matches, files, out)?;
+        }
         Err(shown) if !shown.use_stderr() => write!(out, "{shown}")?,
         Err(error) => return Err(Failure::from(error)),
     }
@@ -90,6 +99,7 @@ fn try_run<'a, S: AsStr, O: Write>(
 enum Task {
     Tests,
     Binaries,
+    Changed,
     Why,
     Account,
     Check,
@@ -105,6 +115,7 @@ fn task_named(name: &str) -> Task {
     match name {
         "tests" => Task::Tests,
         "binaries" => Task::Binaries,
+        "changed" => Task::Changed,
         "why" => Task::Why,
         "account" => Task::Account,
         "check" => Task::Check,
@@ -131,6 +142,7 @@ fn carry_out<'a, O: Write>(
     match task_named(name) {
         Task::Tests => print_tests(alloc, asked, files, out),
         Task::Binaries => print_binaries(alloc, asked, files, out),
+        Task::Changed => print_changed(alloc, asked, files, out),
         Task::Why => print_why(alloc, asked, files, out),
         Task::Account => print_account(alloc, asked, files, out),
         Task::Check => Ok(print_verdict(alloc, asked, files, out)?),

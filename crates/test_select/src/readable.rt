@@ -6,12 +6,14 @@ ghost use Rattle.test_select.specs.Runs.{ListsRules};
 
 use crate::failure::Failure;
 use clap::ArgMatches;
-use feature_questions::{features_on_shared, shared_question};
-use feature_reasons::{SourcedRule, sourced_rules, write_entries, write_features, write_rules};
-use question_files::{FeatureQuestion, FileSource, feature_question, named_files};
-use record_checks::SelectError;
+use feature_account_making::{
+    SourcedRule, sourced_rules, write_entries, write_features, write_rules,
+};
 use std::alloc::Global;
 use std::io::Write;
+use test_select_checks::SelectError;
+use test_select_features::{features_on_shared, shared_question};
+use test_select_files::{FeatureQuestion, FileSource, feature_question, named_files};
 
 /// Prints a line for each feature that is on.
 pub(crate) fn print_features<'a, O: Write>(

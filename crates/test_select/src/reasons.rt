@@ -8,13 +8,12 @@ use crate::command_line::{binary_word, filters_in, link_scope, listings_file, te
 use crate::failure::Failure;
 use crate::inputs::tests_inputs;
 use clap::ArgMatches;
-use question_files::{FeatureQuestion, FileSource, RunFailure, named_files};
-use question_filters::LinkScope;
-use record_checks::SelectError;
-use selection_reasons::{Reason, why_shared};
+use nextest_binaries::TestLister;
 use std::alloc::Global;
 use std::io::{self, Write};
-use test_lister::TestLister;
+use test_select_checks::SelectError;
+use test_select_files::{FeatureQuestion, FileSource, RunFailure, named_files};
+use test_select_tests::{LinkScope, Reason, why_shared};
 
 /// Prints why the test that the command line names is chosen or not; where it names none, why the
 /// binary is asked or not.
@@ -49,7 +48,8 @@ fn reason_of<'a>(
     test: Option<&str>,
     lister: &mut dyn TestLister,
 ) -> Result<Reason<'a>, SelectError>
-    ensures { ExplainsQuestion question.entry.now scope (map (λ t. t.now) texts.now) id.entry.now (option_map (λ t. t.now) test.entry) (shown lister.old) result (shown lister.new) }
+    ensures { ExplainsQuestion question.entry.now scope (map (λ t. t.now) texts.now) id.entry.now
+        (option_map (λ t. t.now) test.entry) (shown lister.old) result (shown lister.new) }
 {
     let (record, choice, table) = (&question.record, &question.choice, &question.table);
     why_shared(alloc, record, choice, table, scope, texts, id, test, lister)

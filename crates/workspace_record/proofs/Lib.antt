@@ -1,1 +1,4 @@
 pub mod TableFacts
+pub mod PackageFacts
+pub mod LinkFacts
+pub mod TextFacts

@@ -7,3 +7,7 @@ pub mod Features
 pub mod LabelView
 pub mod Choices
 pub mod Tables
+pub mod Packages
+pub mod TextSets
+pub mod LinkNames
+pub mod Indices

@@ -116,7 +116,10 @@ impl Feature {
 
     /// The feature that a package's manifest names.
     pub fn named(alloc: Global, package_id: &str, name: &str) -> Result<Feature, AllocError>
-        ensures { IfOk result (λ f. f ≡ record { package_id = package_id.now; label = Named name.now }) }
+        ensures { IfOk result (λ f. f ≡ record {
+          package_id = package_id.now;
+          label = Named name.now;
+        }) }
     {
         let package = String::from_str(alloc, package_id)?;
         let label = Label::Named(String::from_str(alloc, name)?);
@@ -125,7 +128,10 @@ impl Feature {
 
     /// The feature of a package that stands for one of its optional dependencies.
     pub fn dep(alloc: Global, package_id: &str, name: &str) -> Result<Feature, AllocError>
-        ensures { IfOk result (λ f. f ≡ record { package_id = package_id.now; label = Dep name.now }) }
+        ensures { IfOk result (λ f. f ≡ record {
+          package_id = package_id.now;
+          label = Dep name.now;
+        }) }
     {
         let package = String::from_str(alloc, package_id)?;
         let label = Label::Dep(String::from_str(alloc, name)?);

@@ -1,5 +1,12 @@
 //! Plain records of a Cargo workspace: its packages with their features and targets, the links among
-//! them, the features that are asked for, and what is known of a platform.
+//! them, the features that are asked for, and what is known of a platform. Beside them stands what is
+//! found in a record at once: packages by id, members, the features of a package by name, and links by
+//! the names that packages give them.
+//!
+//! Begin with `specs/Records.antt`, then `workspace.rt` and `package.rt`; `record_index.rt` finds
+//! things. How an index keeps what it finds is private; fields, their order and equality are what
+//! files, graphs and rules stand on.
+
 #![tactic(auto)]
 
 mod choice;
@@ -8,8 +15,13 @@ mod kinds;
 mod label;
 mod link;
 mod link_lines;
+mod link_names;
 mod package;
+mod package_index;
+mod packages_by_id;
+mod record_index;
 mod target;
+mod text_sets;
 mod texts;
 mod workspace;
 
@@ -18,6 +30,9 @@ pub use crate::feature::Feature;
 pub use crate::kinds::{LineKind, Standard, TargetKind};
 pub use crate::label::Label;
 pub use crate::link::{LineRecord, LinkRecord, copy_links};
+pub use crate::link_names::LentLink;
 pub use crate::package::{FeatureRecord, PackageInfo, PackageRecord, copy_packages};
+pub use crate::package_index::PackageIndex;
+pub use crate::record_index::RecordIndex;
 pub use crate::target::{TargetInfo, TargetRecord};
 pub use crate::workspace::{GroupRecord, MemberRecord, WorkspaceInfo, WorkspaceRecord};

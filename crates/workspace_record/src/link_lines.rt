@@ -12,7 +12,10 @@ impl LinkRecord {
     pub fn copy_some(&self, alloc: Global, places: &[usize]) -> Result<LinkRecord, AllocError>
         requires in_range { All (λ i. i < length self.now.lines) places.now }
         requires ascending { IsStrictlyIncreasing places.now }
-        ensures { IfOk result (λ l. l ≡ record self.now { lines = lines_at self.now.lines places.now }) }
+        ensures { IfOk result (λ l. l ≡ record self.now {
+          lines = lines_at self.now.lines
+              places.now;
+        }) }
     {
         let lines = copy_lines_at(alloc, &self.lines, places)?;
         let mut link = self.copy_without_lines(alloc)?;

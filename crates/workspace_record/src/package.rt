@@ -229,7 +229,14 @@ fn copy_info(alloc: Global, from: &PackageInfo, to: &mut PackageInfo) -> Result<
 }
 
 fn copy_origin(alloc: Global, from: &PackageInfo, to: &mut PackageInfo) -> Result<(), AllocError>
-    ensures { OnOk result (to.new ≡ record to.old { source = from.now.source; path = from.now.path; manifest_path = from.now.manifest_path; edition = from.now.edition; rust_version = from.now.rust_version; publish = from.now.publish }) }
+    ensures { OnOk result (to.new ≡ record to.old {
+      source = from.now.source;
+      path = from.now.path;
+      manifest_path = from.now.manifest_path;
+      edition = from.now.edition;
+      rust_version = from.now.rust_version;
+      publish = from.now.publish;
+    }) }
 {
     replace_text(alloc, &from.source, &mut to.source)?;
     replace_text(alloc, &from.path, &mut to.path)?;
@@ -245,7 +252,14 @@ fn copy_description(
     from: &PackageInfo,
     to: &mut PackageInfo,
 ) -> Result<(), AllocError>
-    ensures { OnOk result (to.new ≡ record to.old { authors = from.now.authors; description = from.now.description; license = from.now.license; license_file = from.now.license_file; categories = from.now.categories; keywords = from.now.keywords }) }
+    ensures { OnOk result (to.new ≡ record to.old {
+      authors = from.now.authors;
+      description = from.now.description;
+      license = from.now.license;
+      license_file = from.now.license_file;
+      categories = from.now.categories;
+      keywords = from.now.keywords;
+    }) }
 {
     to.authors = copy_texts(alloc, &from.authors)?;
     replace_text(alloc, &from.description, &mut to.description)?;
@@ -257,7 +271,15 @@ fn copy_description(
 }
 
 fn copy_addresses(alloc: Global, from: &PackageInfo, to: &mut PackageInfo) -> Result<(), AllocError>
-    ensures { OnOk result (to.new ≡ record to.old { readme = from.now.readme; repository = from.now.repository; homepage = from.now.homepage; documentation = from.now.documentation; links = from.now.links; default_run = from.now.default_run; metadata = from.now.metadata }) }
+    ensures { OnOk result (to.new ≡ record to.old {
+      readme = from.now.readme;
+      repository = from.now.repository;
+      homepage = from.now.homepage;
+      documentation = from.now.documentation;
+      links = from.now.links;
+      default_run = from.now.default_run;
+      metadata = from.now.metadata;
+    }) }
 {
     replace_text(alloc, &from.readme, &mut to.readme)?;
     replace_text(alloc, &from.repository, &mut to.repository)?;

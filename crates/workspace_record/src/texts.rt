@@ -36,7 +36,8 @@ pub(crate) fn same_texts(a: &[String], b: &[String]) -> bool
 }
 
 pub(crate) fn same_text(a: &Option<String>, b: &Option<String>) -> bool
-    ensures { result ≡ option_eq text_eq (option_map string_bytes a.now) (option_map string_bytes b.now) }
+    ensures { result ≡ option_eq text_eq (option_map string_bytes a.now)
+        (option_map string_bytes b.now) }
 {
     match (a, b) {
         (None, None) => true,
@@ -49,7 +50,8 @@ pub(crate) fn copy_text_list(
     alloc: Global,
     texts: &Option<Vec<String>>,
 ) -> Result<Option<Vec<String>>, AllocError>
-    ensures { IfOk result (λ t. option_map (λ v. map string_bytes v.items) t ≡ option_map (λ v. map string_bytes v.items) texts.now) }
+    ensures { IfOk result (λ t. option_map (λ v. map string_bytes v.items) t
+        ≡ option_map (λ v. map string_bytes v.items) texts.now) }
 {
     match texts {
         None => Ok(None),
@@ -58,7 +60,9 @@ pub(crate) fn copy_text_list(
 }
 
 pub(crate) fn same_text_list(a: &Option<Vec<String>>, b: &Option<Vec<String>>) -> bool
-    ensures { result ≡ option_eq (pointwise text_eq) (option_map (λ v. map string_bytes v.items) a.now) (option_map (λ v. map string_bytes v.items) b.now) }
+    ensures { result ≡ option_eq (pointwise text_eq)
+        (option_map (λ v. map string_bytes v.items) a.now)
+        (option_map (λ v. map string_bytes v.items) b.now) }
 {
     match (a, b) {
         (None, None) => true,

@@ -136,14 +136,16 @@ impl WorkspaceInfo {
 
     /// The package ids of the members, in order.
     pub fn member_ids<'a>(&'a self, alloc: Global) -> Result<Vec<&'a str>, AllocError>
-        ensures { IfOk result (λ v. map (λ t. t.now) v.items ≡ map (λ m. m.package_id) self.entry.now.members) }
+        ensures { IfOk result (λ v. map (λ t. t.now) v.items
+            ≡ map (λ m. m.package_id) self.entry.now.members) }
     {
         package_ids(alloc, &self.members)
     }
 }
 
 fn package_ids<'a>(alloc: Global, members: &'a [MemberRecord]) -> Result<Vec<&'a str>, AllocError>
-    ensures { IfOk result (λ v. map (λ t. t.now) v.items ≡ map (λ m. m.package_id) members.entry.now) }
+    ensures { IfOk result (λ v. map (λ t. t.now) v.items
+        ≡ map (λ m. m.package_id) members.entry.now) }
 {
     let mut ids: Vec<&'a str> = Vec::with_capacity(alloc, members.len())?;
     for member in members {

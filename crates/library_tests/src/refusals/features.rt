@@ -1,7 +1,7 @@
 //! Feature graphs, their resolves and their filters.
 
 use crate::refusals::packages::{id_of, packages};
-use crate::refusals::turns::{Refusal, Wanting, answered, refuse_in_turn};
+use crate::refusals::turns::{AllocatingCall, Refusal, answered, refuse_in_turn};
 use crate::workspace::debugged;
 use guppy_feature_graph::{
     ConditionalLink, FeatureGraph, FeatureGraphData, FeatureId, FeatureLinkContext,
@@ -26,7 +26,7 @@ struct Builds<'g> {
     packages: &'g PackageGraph,
 }
 
-impl Wanting for Builds<'_> {
+impl AllocatingCall for Builds<'_> {
     fn answer(&mut self, alloc: Global) -> Result<String, Refusal> {
         let data = FeatureGraphData::build(alloc, self.packages)?;
         Ok(format!(in alloc; "{}", data.feature_count())?)
@@ -71,7 +71,7 @@ struct Resolves<'g, 's> {
     app: &'s PackageId,
 }
 
-impl Wanting for Resolves<'_, '_> {
+impl AllocatingCall for Resolves<'_, '_> {
     fn answer(&mut self, alloc: Global) -> Result<String, Refusal> {
         let starts = [
             FeatureId::named(self.app, "fast"),
@@ -116,7 +116,7 @@ struct Filters<'g, 's> {
     all: &'s FeatureSet<'g>,
 }
 
-impl Wanting for Filters<'_, '_> {
+impl AllocatingCall for Filters<'_, '_> {
     fn answer(&mut self, alloc: Global) -> Result<String, Refusal> {
         let named = self.all.filter(
             alloc,

@@ -1,6 +1,6 @@
 //! The readers of the five files.
 
-use crate::refusals::turns::{Refusal, Wanting, answered, refuse_in_turn};
+use crate::refusals::turns::{AllocatingCall, Refusal, answered, refuse_in_turn};
 use crate::workspace::{ACCOUNT, CHOICE, LISTINGS, RECORD, TABLE};
 use std::alloc::Global;
 use test_select::{ReadError, read_account, read_choice, read_listings, read_record, read_table};
@@ -21,7 +21,7 @@ struct Reads<'a> {
     bytes: &'a [u8],
 }
 
-impl Wanting for Reads<'_> {
+impl AllocatingCall for Reads<'_> {
     fn answer(&mut self, alloc: Global) -> Result<String, Refusal> {
         let bytes = self.bytes;
         let read = match self.kind {

@@ -1,7 +1,7 @@
 //! Filters that are parsed, compiled and asked.
 
 use crate::refusals::packages::{id_of, packages};
-use crate::refusals::turns::{Refusal, Wanting, printed, refuse_in_turn};
+use crate::refusals::turns::{AllocatingCall, Refusal, printed, refuse_in_turn};
 use crate::workspace::debugged;
 use guppy_package_graph::{PackageGraph, PackageId};
 use nextest_filtering::errors::{FiltersetError, ParseExprError};
@@ -18,7 +18,7 @@ const FILTER: &str = r"test(/^o[a-z]+\d?$/) & (package(ap*) + deps(=app) - kind(
 #[derive(Drop)]
 struct Parses;
 
-impl Wanting for Parses {
+impl AllocatingCall for Parses {
     fn answer(&mut self, alloc: Global) -> Result<String, Refusal> {
         let parsed = ParsedExpr::parse(alloc, FILTER);
         printed(alloc, parsed, ParseExprError::Memory)
@@ -37,7 +37,7 @@ struct Knows<'g> {
     graph: &'g PackageGraph,
 }
 
-impl Wanting for Knows<'_> {
+impl AllocatingCall for Knows<'_> {
     fn answer(&mut self, alloc: Global) -> Result<String, Refusal> {
         let all = self.graph.resolve_all(alloc)?;
         ParseContext::with_packages(alloc, self.graph, &all)?;
@@ -57,7 +57,7 @@ struct Compiles<'g, 'c> {
     cx: &'c ParseContext<'g>,
 }
 
-impl Wanting for Compiles<'_, '_> {
+impl AllocatingCall for Compiles<'_, '_> {
     fn answer(&mut self, alloc: Global) -> Result<String, Refusal> {
         let compiled = compile_filter(alloc, self.cx)?;
         Ok(String::from_str(alloc, compiled.filter.input.as_str())?)
@@ -134,7 +134,7 @@ struct Asks<'f, 'c> {
     cx: &'c EvalContext<'c>,
 }
 
-impl Wanting for Asks<'_, '_> {
+impl AllocatingCall for Asks<'_, '_> {
     fn answer(&mut self, alloc: Global) -> Result<String, Refusal> {
         let binary_query = self.parts.query();
         let known = self.filter.matches_binary(alloc, &binary_query, self.cx)?;

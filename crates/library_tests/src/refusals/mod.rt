@@ -4,9 +4,9 @@
 mod features;
 mod files;
 pub(crate) mod filters;
+mod memory_budget;
 mod packages;
 mod programs;
-mod purse;
 mod questions;
 mod selections;
 mod turns;

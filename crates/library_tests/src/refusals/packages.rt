@@ -3,7 +3,7 @@
 ghost use Rattle.std.specs.Prelude.{◌≡◌};
 ghost use Rattle.guppy_package_table.specs.Tables.{ids_of};
 
-use crate::refusals::turns::{Refusal, Wanting, answered, refuse_in_turn};
+use crate::refusals::turns::{AllocatingCall, Refusal, answered, refuse_in_turn};
 use crate::workspace::{CHOICE, RECORD, debugged, question_of};
 use guppy_package_graph::{
     DependencyDirection, Error, PackageGraph, PackageGraphError, PackageId, PackageLink,
@@ -44,7 +44,7 @@ struct Builds<'r> {
     record: &'r WorkspaceRecord,
 }
 
-impl Wanting for Builds<'_> {
+impl AllocatingCall for Builds<'_> {
     fn answer(&mut self, alloc: Global) -> Result<String, Refusal> {
         let copy = self.record.copy(alloc)?;
         let graph = answered(graph_of(alloc, copy), PackageGraphError::Memory)?;
@@ -83,7 +83,7 @@ struct Makes<'g, 'h, 's, 't> {
     one: &'t PackageSet<'h>,
 }
 
-impl Wanting for Makes<'_, '_, '_, '_> {
+impl AllocatingCall for Makes<'_, '_, '_, '_> {
     fn answer(&mut self, alloc: Global) -> Result<String, Refusal> {
         if !self.all.same_packages(self.one) {
             return Err(Refusal::Other);
@@ -182,7 +182,7 @@ struct Resolves<'g> {
     start: &'g PackageId,
 }
 
-impl Wanting for Resolves<'_> {
+impl AllocatingCall for Resolves<'_> {
     fn answer(&mut self, alloc: Global) -> Result<String, Refusal> {
         let mut visitor = Counts { shown: 0 };
         let query = answered(

@@ -1,7 +1,7 @@
 //! Runs of the program with each of its subcommands.
 
 use crate::files::Files;
-use crate::refusals::turns::{Refusal, Wanting, refuse_in_turn};
+use crate::refusals::turns::{AllocatingCall, Refusal, refuse_in_turn};
 use crate::runs::RUNS;
 use std::alloc::Global;
 use test_select::run;
@@ -13,7 +13,7 @@ struct Runs<'a, 'b> {
     err: Vec<u8>,
 }
 
-impl Wanting for Runs<'_, '_> {
+impl AllocatingCall for Runs<'_, '_> {
     fn answer(&mut self, alloc: Global) -> Result<String, Refusal> {
         self.out.clear();
         self.err.clear();

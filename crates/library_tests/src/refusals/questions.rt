@@ -1,6 +1,6 @@
 //! Rules, what is on, accounts, explanations and orders, and the checks of records and accounts.
 
-use crate::refusals::turns::{Refusal, Wanting, answered, refuse_in_turn, told};
+use crate::refusals::turns::{AllocatingCall, Refusal, answered, refuse_in_turn, told};
 use crate::workspace::{CHOICE, Question, RECORD, debugged, question_of, simd};
 use std::alloc::{AllocError, Global};
 use test_select::{
@@ -30,7 +30,7 @@ struct Asks<'q, 'f> {
     goal: &'f Feature,
 }
 
-impl Wanting for Asks<'_, '_> {
+impl AllocatingCall for Asks<'_, '_> {
     fn answer(&mut self, alloc: Global) -> Result<String, Refusal> {
         let question = self.question;
         let (record, choice, table) = (&question.record, &question.choice, &question.table);

@@ -1,7 +1,7 @@
 //! Selections, and graphs that are switched on.
 
 use crate::refusals::packages::packages;
-use crate::refusals::turns::{Refusal, Wanting, answered, refuse_in_turn};
+use crate::refusals::turns::{AllocatingCall, Refusal, answered, refuse_in_turn};
 use crate::workspace::{CHOICE, IDS, LISTINGS, Question, RECORD, debugged, question_of, selected};
 use guppy_package_graph::PackageGraph;
 use std::alloc::{AllocError, Global};
@@ -18,7 +18,7 @@ struct Switches<'w> {
     table: &'w PlatformTable,
 }
 
-impl Wanting for Switches<'_> {
+impl AllocatingCall for Switches<'_> {
     fn answer(&mut self, alloc: Global) -> Result<String, Refusal> {
         let graph = switched_on(alloc, self.graph, self.on, self.table)?;
         Ok(format!(in alloc; "{}", graph.link_count())?)
@@ -44,7 +44,7 @@ struct Selects<'q> {
 
 const TEXTS: [&str; 2] = ["test(/^[ot]/) & package(ap*)", "deps(=app) - test(=two)"];
 
-impl Wanting for Selects<'_> {
+impl AllocatingCall for Selects<'_> {
     fn answer(&mut self, alloc: Global) -> Result<String, Refusal> {
         let listings = answered(read_listings(alloc, LISTINGS), ReadError::Memory)?;
         let mut lister = FileLister::new(alloc, listings)?;

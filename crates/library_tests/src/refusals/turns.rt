@@ -1,12 +1,12 @@
 //! Runs that are left a little more memory each time.
 
-use crate::refusals::purse::Purse;
+use crate::refusals::memory_budget::MemoryBudget;
 use std::alloc::{AllocError, Global};
 use std::fmt::{Debug, Display};
 use std::process::Abort;
 
 /// A call whose requests for memory are refused in turn.
-pub(crate) trait Wanting {
+pub(crate) trait AllocatingCall {
     /// Makes the call, and tells its answer as a text.
     fn answer(&mut self, alloc: Global) -> Result<String, Refusal>;
 }
@@ -28,17 +28,17 @@ const STEP: usize = 16;
 
 /// Leaves a run no memory at first, and each time a little more, until it is not refused. Each run before is
 /// refused for want of memory, and the last one answers what is wanted.
-pub(crate) fn refuse_in_turn<W: Wanting>(
+pub(crate) fn refuse_in_turn<W: AllocatingCall>(
     rt: &impl Abort,
     alloc: Global,
     run: &mut W,
     wanted: &str,
 ) {
-    let mut purse = Purse::new(alloc).expect(rt, "a purse");
+    let mut budget = MemoryBudget::new(alloc).expect(rt, "a budget");
     for turn in 0..TURNS {
-        let for_good = purse.leave(turn.saturating_mul(STEP)).expect(rt, "room");
+        let for_good = budget.leave(turn.saturating_mul(STEP)).expect(rt, "room");
         let answer = run.answer(alloc);
-        purse.let_go(for_good);
+        budget.let_go(for_good);
         match answer {
             Ok(text) => {
                 assert_eq!(rt; text.as_str(), wanted);

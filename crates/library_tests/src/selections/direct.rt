@@ -12,7 +12,7 @@ use std::alloc::{AllocError, Global};
 use std::process::Abort;
 use test_select::{
     FileLister, GroupTable, LinkScope, RecordError, RecordFilters, WorkspaceRecord, account,
-    binaries_to_ask, context_over, declared_graph, read_listings, record_filters, rules, why,
+    binaries_to_ask, declared_graph, filter_context, read_listings, record_filters, rules, why,
 };
 
 #[test]
@@ -57,7 +57,7 @@ fn binaries_before_they_are_built(rt: HostRuntime) {
 /// The filters of a record, compiled over its own graph.
 fn filters_of(alloc: Global, record: &WorkspaceRecord) -> Result<RecordFilters, RecordError> {
     let graph = declared_graph(alloc, record)?;
-    let cx = context_over(alloc, &graph, &graph, &[])?;
+    let cx = filter_context(alloc, &graph, &graph, &[])?;
     record_filters(alloc, record, &cx)
 }
 

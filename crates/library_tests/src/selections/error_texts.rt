@@ -1,9 +1,9 @@
 //! What errors print that no row shows.
 
+use nextest_binaries::AskError;
 use std::alloc::Global;
 use std::fmt::Display;
 use std::process::Abort;
-use test_lister::AskError;
 use test_select::{
     BuildPlatform, ListFault, ListingFault, ParseSingleError, ReadError, RecordError, SelectError,
     SourceSpan,

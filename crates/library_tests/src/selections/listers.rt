@@ -2,7 +2,7 @@
 
 ghost use Rattle.std.specs.Prelude.{◌≡◌, ◌<◌, ◌++◌, ◌∷◌, [], ◌⊎◌, OnOk, OnErr, IfOk, codes};
 ghost use Rattle.list_facts.specs.Texts.{texts};
-ghost use Rattle.test_lister.specs.Listers.{largest};
+ghost use Rattle.nextest_binaries.specs.Listers.{largest};
 
 use crate::workspace::{CHOICE, IDS, Question, RECORD, question_of, selected};
 use std::alloc::Global;
@@ -59,7 +59,8 @@ fn one_test(
 ) -> Result<Listing, ListFault>
     ensures asks { OnOk result (texts asked.new.items ≡ texts asked.old.items ++ id.now ∷ []) }
     ensures answers { IfOk result (λ v. (failures < largest) × (texts v.items ≡ codes "t" ∷ [])) }
-    ensures fails { OnErr result ((texts asked.new.items ≡ texts asked.old.items) ⊎ (texts asked.new.items ≡ texts asked.old.items ++ id.now ∷ [])) }
+    ensures fails { OnErr result ((texts asked.new.items ≡ texts asked.old.items)
+        ⊎ (texts asked.new.items ≡ texts asked.old.items ++ id.now ∷ [])) }
 {
     let place = asked.len();
     asked.push(String::from_str(alloc, id)?)?;

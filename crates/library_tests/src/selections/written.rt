@@ -2,7 +2,7 @@
 
 use crate::selections::writers::SlowWriter;
 use crate::workspace::{question_of, selected, simd};
-use feature_reasons::write_features;
+use feature_account_making::write_features;
 use std::alloc::Global;
 use std::io::{self, ErrorKind};
 use std::process::Abort;

@@ -1,11 +1,9 @@
 use crate::files::made::{tell_made, tell_refused, tell_whole};
-use cargo_cfg::spec_holds;
-use cargo_choice::FeatureWords;
 use cargo_files::{
-    Refusal, add_listing, choice_file, listings_file, nextest_listings, record_file, settings_file,
-    table_file, tests_printed,
+    FeatureWords, Refusal, add_listing, choice_file, listings_file, nextest_listings, record_file,
+    settings_file, spec_holds, table_file, tests_printed,
 };
-use cargo_record::Wanted;
+use cargo_record::RequestedMembers;
 use record_files::read_record;
 use record_writing::record_text;
 use row_program::{Answers, Row, RowFault, RowRunner, file_text};
@@ -106,13 +104,13 @@ fn reads_back(alloc: Global, text: &str) -> bool {
     }
 }
 
-fn wanted_by<'m>(workspace: bool, names: &'m [&'m str]) -> Wanted<'m> {
+fn wanted_by<'m>(workspace: bool, names: &'m [&'m str]) -> RequestedMembers<'m> {
     if workspace {
-        Wanted::Workspace
+        RequestedMembers::Workspace
     } else if names.is_empty() {
-        Wanted::Default
+        RequestedMembers::Default
     } else {
-        Wanted::Named(names)
+        RequestedMembers::Named(names)
     }
 }
 

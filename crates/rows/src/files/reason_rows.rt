@@ -1,13 +1,12 @@
-use feature_reasons::{
+use feature_account_making::{
     SourcedRule, account, explanation, on_features, sourced_rules, write_entries, write_features,
     write_rules,
 };
-use question_files::{FeatureQuestion, verdict_line, verdict_on};
 use record_files::label_of;
-use row_program::{Answers, Row, RowFault, RowRunner};
-use row_records::{account_in, choice_in, record_in, table_in};
+use row_program::{Answers, Row, RowFault, RowRunner, account_in, choice_in, record_in, table_in};
 use std::alloc::Global;
 use std::rc::Rc;
+use test_select_files::{FeatureQuestion, verdict_line, verdict_on};
 use workspace_record::Feature;
 
 /// Rows of what is on, by which rules and why, as lines. A row's `files` are `record.json`, and where it

@@ -1,9 +1,9 @@
 use Rattle.std.proofs.Common.{◌≡◌, ap, ◌∙◌, subst, sym}
 use Rattle.workspace_record.specs.Records.{Workspace}
-use Rattle.cargo_cfg.specs.TableAnswers.{IsRefusal, specs_of}
+use Rattle.cargo_files.specs.TableAnswers.{IsRefusal, specs_of}
 use Rattle.cargo_files.specs.Refused.{RefusesLinks}
 use Rattle.cargo_files.proofs.MadeFacts.{made_table}
-use Rattle.cargo_files.proofs.SpecFacts.{refuses_file}
+use Rattle.cargo_files.proofs.LinkSpecFacts.{refuses_file}
 use Rattle.cargo_files.proofs.conversions.table_file.Goals as goal
 
 pub returns-in_ok-text-in-Ok : goal.returns-in_ok-text-in-Ok

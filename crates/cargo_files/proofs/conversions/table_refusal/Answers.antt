@@ -1,8 +1,8 @@
 use Rattle.std.proofs.Common.{◌≡◌, find, string_bytes, subst}
 use Rattle.std.specs.Option.{IfSome}
-use Rattle.cargo_cfg.specs.TableAnswers.{IsRefusal, specs_of}
+use Rattle.cargo_files.specs.TableAnswers.{IsRefusal, specs_of}
 use Rattle.cargo_files.specs.Refused.{has_spec}
-use Rattle.cargo_files.proofs.SpecFacts.{no_answer}
+use Rattle.cargo_files.proofs.LinkSpecFacts.{no_answer}
 use Rattle.cargo_files.proofs.conversions.table_refusal.Goals as goal
 
 pub returns : goal.returns

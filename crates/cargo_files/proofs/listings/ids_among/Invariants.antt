@@ -1,5 +1,5 @@
 use Rattle.std.proofs.Common.{◌≡◌, map, string_bytes, take}
-use Rattle.record_rules.specs.BinaryView.{binary_view}
+use Rattle.test_select_rules.specs.BinaryView.{binary_view}
 use Rattle.cargo_files.proofs.listings.ids_among.Given as goal
 
 abbrev pub invariant-loop-binary : goal.invariant-loop-binary

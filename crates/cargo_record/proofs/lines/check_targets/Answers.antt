@@ -1,5 +1,5 @@
 use Rattle.std.proofs.Common.{◌≡◌, true, Contains, subst, sym, ◌∙◌}
-use Rattle.record_index.specs.Packages.{is_member}
+use Rattle.workspace_record.specs.Packages.{is_member}
 use Rattle.std.proofs.lemmas.Result.{IfErr-weaker, IfOk-weaker}
 use Rattle.std.specs.List.{list_all}
 use Rattle.cargo_record.specs.Kept.{requires_own}

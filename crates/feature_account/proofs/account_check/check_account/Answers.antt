@@ -2,7 +2,7 @@ use Rattle.std.proofs.Common.{ap, subst, ◌∙◌}
 use Rattle.std.specs.Result.{IfOk}
 use Rattle.workspace_record.specs.Records.{Workspace}
 use Rattle.feature_account.specs.Accounts.{IsVerdict}
-use Rattle.feature_rules.specs.RuleList.{rule_list}
+use Rattle.feature_account_rules.specs.RuleList.{rule_list}
 use Rattle.feature_account.proofs.AccountFacts.{accepted_if_ok}
 use Rattle.feature_account.proofs.account_check.check_account.Goals as goal
 

@@ -1,6 +1,6 @@
 use Rattle.std.proofs.Common.{subst, sym, take_all, ◌∙◌}
-use Rattle.feature_rules.specs.Closed.{IsClosed}
-use Rattle.feature_rules.specs.Found.{found_set}
+use Rattle.feature_account_rules.specs.Closed.{IsClosed}
+use Rattle.feature_account_rules.specs.Found.{found_set}
 use Rattle.feature_account.proofs.AccountFacts.{closed_more, first_open_at}
 use Rattle.feature_account.proofs.account_check.first_open.Goals as goal
 

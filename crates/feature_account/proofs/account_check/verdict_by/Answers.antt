@@ -1,7 +1,7 @@
 use Rattle.std.proofs.Common.{◌≡◌, IfNone, subst}
 use Rattle.feature_account.specs.Accounts.{concludes, IsSound}
-use Rattle.feature_rules.specs.Closed.{IsClosed}
-use Rattle.feature_rules.specs.Found.{found_set}
+use Rattle.feature_account_rules.specs.Closed.{IsClosed}
+use Rattle.feature_account_rules.specs.Found.{found_set}
 use Rattle.feature_account.proofs.account_check.verdict_by.Goals as goal
 
 pub returns-in-None-first_open : goal.returns-in-None-first_open

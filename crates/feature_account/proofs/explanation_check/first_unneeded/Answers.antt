@@ -1,7 +1,7 @@
 use Rattle.std.proofs.Common.{◌≡◌, ◌+◌, ◌-◌, ◌<◌, ◌||◌, ap, length, drop, inl, inr, sym, ◌∙◌, subst, arith}
 use Rattle.workspace_record.specs.Features.{FeatureValue}
-use Rattle.feature_rules.specs.Closed.{is_premise}
-use Rattle.feature_rules.specs.Found.{found_set}
+use Rattle.feature_account_rules.specs.Closed.{is_premise}
+use Rattle.feature_account_rules.specs.Found.{found_set}
 use Rattle.feature_account.proofs.ExplanationFacts.{UsedFrom, number_known, used_step, unused_step}
 use Rattle.feature_account.proofs.explanation_check.first_unneeded.Goals as goal
 use Rattle.feature_account.proofs.explanation_check.first_unneeded.Goals.{then-place-entries+then-not-contains, else-place-entries, else-place-entries-via-then-place-entries+else-not-contains, else-place-entries-via-else-place-entries}

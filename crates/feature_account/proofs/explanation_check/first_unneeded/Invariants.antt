@@ -1,5 +1,5 @@
 use Rattle.std.proofs.Common.{drop}
-use Rattle.feature_rules.specs.Found.{found_set}
+use Rattle.feature_account_rules.specs.Found.{found_set}
 use Rattle.feature_account.proofs.ExplanationFacts.{UsedFrom}
 use Rattle.feature_account.proofs.explanation_check.first_unneeded.Given as goal
 

@@ -2,8 +2,8 @@ use Rattle.std.proofs.Common.{◌<◌, ◌≤◌, ◌||◌, false, ap, length, g
 use Rattle.std.proofs.lemmas.List.{take_all}
 use Rattle.std.proofs.lemmas.Option.{slice_get-get_or, slice_get_read}
 use Rattle.workspace_record.specs.Features.{feature_eq}
-use Rattle.feature_rules.specs.Closed.{has_premises}
-use Rattle.feature_rules.specs.Found.{found_set}
+use Rattle.feature_account_rules.specs.Closed.{has_premises}
+use Rattle.feature_account_rules.specs.Found.{found_set}
 use Rattle.feature_account.proofs.AccountFacts.{begins, repeated_at, unsupported_at, reads_on, sound_at_end, found_at_end}
 use Rattle.feature_account.proofs.soundness.first_fault.Goals as goal
 

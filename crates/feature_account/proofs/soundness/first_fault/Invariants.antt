@@ -1,4 +1,4 @@
-use Rattle.feature_rules.specs.Found.{found_set}
+use Rattle.feature_account_rules.specs.Found.{found_set}
 use Rattle.feature_account.proofs.AccountFacts.{SoFar}
 use Rattle.feature_account.proofs.soundness.first_fault.Given as goal
 

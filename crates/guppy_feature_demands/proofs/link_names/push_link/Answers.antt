@@ -11,7 +11,7 @@ use Rattle.guppy_feature_demands.specs.LinkNames.{key_eq, keys_equivalence}
 use Rattle.guppy_feature_demands.specs.Numbered.{is_named_link}
 use Rattle.guppy_feature_demands.specs.NumberedViews.{ends_view, link_view}
 use Rattle.guppy_feature_demands.specs.LinkNames.{links_in}
-use Rattle.guppy_feature_demands.specs.declared.numbered.LinkAt.{LinkAt}
+use Rattle.guppy_feature_demands.specs.declared.numbered.NumberedLink.{NumberedLink}
 use Rattle.guppy_feature_demands.proofs.LinkFacts.{grown, guarded, links_at, same_group}
 use Rattle.guppy_feature_demands.proofs.link_names.push_link.Goals as goal
 
@@ -27,7 +27,7 @@ returns c = λ id name q of_q.
     let named : is_named_link id name x ≡ key_eq k q = (λ i. is_named_link (sym of_q.from i) (sym of_q.name_is i) x) ∙ same_id ∙ keys_equivalence.symm q k in
     let empty = c.new.result in
     let group = c.push.new.self in
-    let was = ap (λ (v : Vec LinkAt Global). map link_view v.items) (c.or_insert-group.ensures.value ∙ ap (λ o. unwrap_or o empty) c.in_ok-names.ensures.value) ∙ links_at (get key_eq old k) empty c.new.ensures.items in
+    let was = ap (λ (v : Vec NumberedLink Global). map link_view v.items) (c.or_insert-group.ensures.value ∙ ap (λ o. unwrap_or o empty) c.in_ok-names.ensures.value) ∙ links_at (get key_eq old k) empty c.new.ensures.items in
     let items = ap (map link_view) c.in_ok-push.ensures.items ∙ map-append link_view _ (c.args.ends.at ∷ []) ∙ ap (λ (ls : List (ℕ × Link)). ls ++ x ∷ []) was in
     let put = (c.in_ok-names.ensures.update.0 group).0 q in
     let added : links_in (get key_eq (map_with_value c.in_ok-names.field-0 group) q) ≡ links_in (get key_eq old q) ++ cond (is_named_link id name x) (x ∷ []) [] = grown (key_eq k q) (is_named_link id name x) (get key_eq old q) (get key_eq old k) _ group x (same_group old k q) named put items in

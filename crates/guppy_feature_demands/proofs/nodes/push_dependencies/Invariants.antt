@@ -1,5 +1,5 @@
 use Rattle.std.proofs.Common.{◌≡◌, ◌++◌, map, take, string_bytes}
-use Rattle.guppy_feature_ids.specs.IdViews.{id_view}
+use Rattle.guppy_feature_demands.specs.IdViews.{id_view}
 use Rattle.guppy_feature_demands.specs.Nodes.{dep_of}
 use Rattle.guppy_feature_demands.proofs.nodes.push_dependencies.Given as goal
 

@@ -3,7 +3,7 @@ use Rattle.std.proofs.lemmas.List.{map-append}
 use Rattle.list_facts.proofs.Quantifiers.{list_any-map}
 use Rattle.workspace_record.specs.Equality.{equivalence}
 use Rattle.workspace_record.specs.Features.{feature_eq, features_decide}
-use Rattle.guppy_feature_ids.specs.IdViews.{id_view}
+use Rattle.guppy_feature_demands.specs.IdViews.{id_view}
 use Rattle.guppy_feature_demands.specs.HashedViews.{hashed_view}
 use Rattle.guppy_feature_demands.proofs.FirstFacts.{grown_by, inserted_seen, stays_by}
 use Rattle.guppy_feature_demands.proofs.nodes.push_first.Goals as goal

@@ -2,7 +2,7 @@ use Rattle.std.proofs.Common.{◌∙◌, map, ap}
 use Rattle.workspace_record.specs.Equality.{equivalence}
 use Rattle.workspace_record.specs.Features.{feature_eq, features_decide}
 use Rattle.indexmap.specs.IndexSet.{insert_key}
-use Rattle.guppy_feature_ids.specs.IdViews.{id_view}
+use Rattle.guppy_feature_demands.specs.IdViews.{id_view}
 use Rattle.guppy_feature_demands.specs.HashedViews.{hashed_view}
 use Rattle.guppy_feature_demands.proofs.FirstFacts.{first_next, inserted_both}
 use Rattle.guppy_feature_demands.proofs.nodes.push_firsts.Goals as goal

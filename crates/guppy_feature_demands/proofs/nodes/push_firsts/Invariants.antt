@@ -1,6 +1,6 @@
 use Rattle.std.proofs.Common.{◌≡◌, map, take}
 use Rattle.workspace_record.specs.Features.{feature_eq}
-use Rattle.guppy_feature_ids.specs.IdViews.{id_view}
+use Rattle.guppy_feature_demands.specs.IdViews.{id_view}
 use Rattle.guppy_feature_demands.specs.HashedViews.{hashed_view}
 use Rattle.guppy_feature_demands.specs.Nodes.{first_of_each}
 use Rattle.guppy_feature_demands.proofs.nodes.push_firsts.Given as goal

@@ -1,6 +1,6 @@
 use Rattle.std.proofs.Common.{◌≡◌, ◌++◌, map, take}
 use Rattle.std.specs.List.{flat_map}
-use Rattle.guppy_row_parts.specs.WarningViews.{warning_view}
+use Rattle.guppy_package_parts.specs.WarningViews.{warning_view}
 use Rattle.guppy_feature_demands.specs.EntriesAt.{at_warnings}
 use Rattle.guppy_feature_demands.specs.EntryAtView.{entry_at_view}
 use Rattle.guppy_feature_demands.proofs.warnings.push_entries.Given as goal

@@ -1,6 +1,6 @@
 use Rattle.std.proofs.Common.{◌≡◌, ◌++◌, map, take}
 use Rattle.std.specs.List.{flat_map}
-use Rattle.guppy_row_parts.specs.WarningViews.{warning_view}
+use Rattle.guppy_package_parts.specs.WarningViews.{warning_view}
 use Rattle.guppy_feature_demands.specs.Warnings.{link_warnings}
 use Rattle.guppy_feature_demands.specs.NumberedViews.{ends_view}
 use Rattle.guppy_feature_demands.proofs.warnings.push_links.Given as goal

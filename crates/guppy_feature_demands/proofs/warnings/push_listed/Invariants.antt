@@ -1,6 +1,6 @@
 use Rattle.std.proofs.Common.{◌≡◌, ◌++◌, map, take, string_bytes}
 use Rattle.std.specs.List.{flat_map}
-use Rattle.guppy_row_parts.specs.WarningViews.{warning_view}
+use Rattle.guppy_package_parts.specs.WarningViews.{warning_view}
 use Rattle.guppy_feature_demands.specs.StageViews.{place_view}
 use Rattle.guppy_feature_demands.specs.Warnings.{missing}
 use Rattle.guppy_feature_demands.specs.Nodes.{named_of}

@@ -1,5 +1,5 @@
 use Rattle.std.proofs.Common.{◌≡◌, ◌++◌, map, take}
-use Rattle.guppy_row_parts.specs.WarningViews.{warning_view}
+use Rattle.guppy_package_parts.specs.WarningViews.{warning_view}
 use Rattle.guppy_feature_demands.specs.StageViews.{place_view}
 use Rattle.guppy_feature_demands.specs.Warnings.{slash_warnings}
 use Rattle.guppy_feature_demands.specs.NumberedViews.{link_view}

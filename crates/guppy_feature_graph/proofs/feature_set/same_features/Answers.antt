@@ -1,5 +1,5 @@
 use Rattle.std.proofs.Common.{rules, ◌≡◌, ◌∙◌, ◌<◌, [], length, subst, sym}
-use Rattle.guppy_feature_ids.specs.IdViews.{id_view}
+use Rattle.guppy_feature_demands.specs.IdViews.{id_view}
 use Rattle.guppy_feature_demands.specs.Nodes.{base_of}
 use Rattle.guppy_feature_graph.proofs.SetFacts.{same_more}
 use Rattle.guppy_feature_graph.proofs.feature_set.same_features.Goals as goal

@@ -1,5 +1,5 @@
-use Rattle.guppy_feature_ids.specs.LabelViews.{label_view}
-use Rattle.guppy_feature_ids.specs.declared.feature_label.FeatureLabel.TheVariants as code
+use Rattle.guppy_feature_demands.specs.LabelViews.{label_view}
+use Rattle.guppy_feature_demands.specs.declared.feature_label.FeatureLabel.TheVariants as code
 use Rattle.guppy_feature_graph.specs.FeaturesFor.{has_label}
 use Rattle.guppy_feature_graph.proofs.ListFacts.{kept_label}
 use Rattle.guppy_feature_graph.proofs.features_for.kept_labels.Goals as goal

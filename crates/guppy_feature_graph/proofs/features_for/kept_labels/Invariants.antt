@@ -1,5 +1,5 @@
 use Rattle.std.proofs.Common.{◌≡◌, filter, map, take}
-use Rattle.guppy_feature_ids.specs.LabelViews.{label_view}
+use Rattle.guppy_feature_demands.specs.LabelViews.{label_view}
 use Rattle.guppy_feature_graph.specs.FeaturesFor.{has_label}
 use Rattle.guppy_feature_graph.proofs.features_for.kept_labels.Given as goal
 

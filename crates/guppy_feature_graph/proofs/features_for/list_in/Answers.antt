@@ -1,6 +1,6 @@
 use Rattle.std.proofs.Common.{◌∙◌, List, Some, ap, map, sym}
-use Rattle.guppy_feature_ids.specs.LabelViews.{label_view}
-use Rattle.guppy_feature_ids.specs.declared.feature_label.FeatureLabel.{FeatureLabel}
+use Rattle.guppy_feature_demands.specs.LabelViews.{label_view}
+use Rattle.guppy_feature_demands.specs.declared.feature_label.FeatureLabel.{FeatureLabel}
 use Rattle.guppy_package_graph.specs.Views.{graph_of, place_of}
 use Rattle.guppy_feature_graph.specs.FeaturesFor.{labels_in}
 use Rattle.guppy_feature_graph.proofs.ListFacts.{lists_at}

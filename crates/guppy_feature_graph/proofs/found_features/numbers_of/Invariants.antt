@@ -1,6 +1,6 @@
 use Rattle.std.proofs.Common.{◌≡◌, ◌<◌, All, length, map, take}
 use Rattle.guppy_feature_demands.specs.Nodes.{number_of}
-use Rattle.guppy_feature_ids.specs.IdViews.{id_view}
+use Rattle.guppy_feature_demands.specs.IdViews.{id_view}
 use Rattle.guppy_feature_graph.specs.Views.{feature_graph_of}
 use Rattle.guppy_feature_graph.proofs.found_features.numbers_of.Given as goal
 

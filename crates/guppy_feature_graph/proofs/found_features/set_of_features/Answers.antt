@@ -1,6 +1,6 @@
 use Rattle.std.proofs.Common.{◌↔◌, Contains, IsTrue, map, subst}
 use Rattle.numbered_graph.specs.Sets.{has}
-use Rattle.guppy_feature_ids.specs.IdViews.{id_view}
+use Rattle.guppy_feature_demands.specs.IdViews.{id_view}
 use Rattle.guppy_feature_graph.specs.Views.{feature_graph_of}
 use Rattle.guppy_feature_graph.proofs.FoundFacts.{all_known, named}
 use Rattle.guppy_feature_graph.proofs.found_features.set_of_features.Goals as goal

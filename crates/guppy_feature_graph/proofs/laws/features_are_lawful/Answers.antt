@@ -1,5 +1,5 @@
 use Rattle.workspace_record.specs.Features.{feature_ties, same_feature_writes}
-use Rattle.guppy_feature_ids.specs.IdViews.{id_view, ids_equivalence, ids_total}
+use Rattle.guppy_feature_demands.specs.IdViews.{id_view, ids_equivalence, ids_total}
 use Rattle.guppy_feature_graph.proofs.laws.features_are_lawful.Goals as goal
 
 pub returns : goal.returns

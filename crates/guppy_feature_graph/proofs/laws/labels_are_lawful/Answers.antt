@@ -1,4 +1,4 @@
-use Rattle.guppy_feature_ids.specs.LabelViews.{label_ties, label_view, labels_equivalence, labels_total, same_label_writes}
+use Rattle.guppy_feature_demands.specs.LabelViews.{label_ties, label_view, labels_equivalence, labels_total, same_label_writes}
 use Rattle.guppy_feature_graph.proofs.laws.labels_are_lawful.Goals as goal
 
 pub returns : goal.returns

@@ -5,7 +5,7 @@ use Rattle.numbered_graph.specs.Roots.{IsRoot}
 use Rattle.numbered_graph.specs.Sets.{has}
 use Rattle.guppy_feature_nodes.specs.GraphEdges.{edge_ends}
 use Rattle.guppy_feature_nodes.specs.Graphs.{FeatureGraphValue}
-use Rattle.guppy_feature_parts.specs.RootOrder.{Ascend}
+use Rattle.guppy_feature_views.specs.RootOrder.{Ascend}
 use Rattle.guppy_feature_graph.proofs.set_parts.roots.Goals as goal
 
 pub in_root_order-requires-clause-within : goal.in_root_order-requires-clause-within

@@ -1,5 +1,5 @@
 use Rattle.std.proofs.Common.{true≢false, sym, ◌∙◌}
-use Rattle.guppy_feature_ids.specs.IdViews.{id_view}
+use Rattle.guppy_feature_demands.specs.IdViews.{id_view}
 use Rattle.guppy_feature_graph.specs.Views.{feature_graph_of}
 use Rattle.guppy_feature_graph.proofs.FoundFacts.{known}
 use Rattle.guppy_feature_graph.proofs.standard_features.is_default.Goals as goal

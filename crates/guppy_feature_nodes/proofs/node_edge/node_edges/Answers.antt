@@ -1,6 +1,6 @@
 use Rattle.std.proofs.Common.{List, All, subst, sym}
 use Rattle.std.proofs.lemmas.List.Elements.{All-push}
-use Rattle.guppy_feature_edges.specs.JoinedViews.{joined_view}
+use Rattle.guppy_feature_nodes.specs.JoinedViews.{joined_view}
 use Rattle.guppy_feature_nodes.specs.EdgeViews.{edge_view}
 use Rattle.guppy_feature_nodes.specs.GraphEdges.{edge_value}
 use Rattle.guppy_feature_nodes.specs.EdgeLinkViews.{AreEdgeLinks}

@@ -1,5 +1,5 @@
 use Rattle.std.proofs.Common.{◌≡◌, All, map}
-use Rattle.guppy_feature_edges.specs.JoinedViews.{joined_view}
+use Rattle.guppy_feature_nodes.specs.JoinedViews.{joined_view}
 use Rattle.guppy_feature_nodes.specs.EdgeViews.{edge_view}
 use Rattle.guppy_feature_nodes.specs.GraphEdges.{edge_value}
 use Rattle.guppy_feature_nodes.specs.EdgeLinkViews.{AreEdgeLinks}

@@ -1,4 +1,4 @@
-use Rattle.guppy_feature_ids.specs.IdViews.{id_view}
+use Rattle.guppy_feature_demands.specs.IdViews.{id_view}
 use Rattle.guppy_package_table.specs.Tables.{ids_of}
 use Rattle.guppy_feature_nodes.proofs.NameFacts.{names_more}
 use Rattle.guppy_feature_nodes.proofs.node_names.node_names.Goals as goal

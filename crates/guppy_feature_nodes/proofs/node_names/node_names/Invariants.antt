@@ -1,5 +1,5 @@
 use Rattle.std.proofs.Common.{◌≡◌, map, take}
-use Rattle.guppy_feature_ids.specs.IdViews.{id_view}
+use Rattle.guppy_feature_demands.specs.IdViews.{id_view}
 use Rattle.guppy_package_table.specs.Tables.{ids_of}
 use Rattle.guppy_feature_nodes.specs.NodeNames.{node_of}
 use Rattle.guppy_feature_nodes.proofs.node_names.node_names.Given as goal

@@ -1,7 +1,7 @@
 use Rattle.std.proofs.Common.{ℕ, ◌<◌, All, Bor, Option, inr, length, subst, sym}
 use Rattle.std.proofs.lemmas.List.Elements.{All-push}
 use Rattle.workspace_record.specs.Records.{Text}
-use Rattle.guppy_workspace_members.specs.Members.{member_at_path}
+use Rattle.guppy_package_table.specs.Members.{member_at_path}
 use Rattle.guppy_package_graph.specs.Members.{IsUnknownPath}
 use Rattle.guppy_package_graph.proofs.FoundFacts.{found_all, found_more, one_of}
 use Rattle.guppy_package_graph.proofs.found_members.places_at_paths.Goals as goal

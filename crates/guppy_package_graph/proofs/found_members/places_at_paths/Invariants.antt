@@ -1,5 +1,5 @@
 use Rattle.std.proofs.Common.{◌≡◌, ◌<◌, All, Some, length, map, take}
-use Rattle.guppy_workspace_members.specs.Members.{member_at_path}
+use Rattle.guppy_package_table.specs.Members.{member_at_path}
 use Rattle.guppy_package_graph.proofs.found_members.places_at_paths.Given as goal
 
 abbrev pub invariant-loop-path : goal.invariant-loop-path

@@ -2,7 +2,7 @@ use Rattle.std.proofs.Common.{◌≡◌, ◌∙◌, ◌↔◌, Some, Contains, I
 use Rattle.list_facts.proofs.Lists.{map-map}
 use Rattle.numbered_graph.specs.Sets.{has}
 use Rattle.workspace_record.specs.Records.{Text}
-use Rattle.guppy_workspace_members.specs.Members.{member_at_path}
+use Rattle.guppy_package_table.specs.Members.{member_at_path}
 use Rattle.guppy_package_graph.proofs.PlaceFacts.{each_found, named, placed}
 use Rattle.guppy_package_graph.proofs.found_members.set_at_paths.Goals as goal
 

@@ -1,7 +1,7 @@
 use Rattle.std.proofs.Common.{◌≡◌, ◌↔◌, ℕ, ◌<◌, IsTrue, length}
 use Rattle.std.specs.Str.{bytes_eq}
 use Rattle.numbered_graph.specs.Sets.{has}
-use Rattle.guppy_workspace_members.specs.Members.{name_at}
+use Rattle.guppy_package_table.specs.Members.{name_at}
 use Rattle.guppy_package_graph.proofs.found_packages.set_of_name.Given as goal
 
 abbrev pub invariant-loop-place : goal.invariant-loop-place

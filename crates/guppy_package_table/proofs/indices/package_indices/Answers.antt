@@ -1,6 +1,6 @@
 use Rattle.std.proofs.Common.{sym, subst, ℕ, ◌<◌, All, length}
 use Rattle.guppy_package_table.specs.Tables.{ids_of}
-use Rattle.guppy_package_table.specs.Members.{AreMembers}
+use Rattle.guppy_package_table.specs.MemberPlaces.{AreMembers}
 use Rattle.guppy_package_table.proofs.Places.{defaults_within, members_within}
 use Rattle.guppy_package_table.proofs.indices.package_indices.Goals as goal
 

@@ -1,5 +1,5 @@
 use Rattle.std.proofs.Common.{All, take}
-use Rattle.guppy_row_parts.specs.BuildTargetViews.{id_view}
+use Rattle.guppy_package_parts.specs.BuildTargetViews.{id_view}
 use Rattle.guppy_package_table.specs.Targets.{HasId}
 use Rattle.guppy_package_table.proofs.package_details.target_with.Given as goal
 

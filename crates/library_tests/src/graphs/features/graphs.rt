@@ -56,7 +56,7 @@ fn answer_over<R: Abort, Q: Question>(
     question.ask(rt, alloc, &data)
 }
 
-fn weak_graph(rt: &impl Abort, alloc: Global) -> PackageGraph {
+pub(crate) fn weak_graph(rt: &impl Abort, alloc: Global) -> PackageGraph {
     let record = read_record(alloc, WEAK.as_bytes()).expect(rt, "a record");
     let (packages, links, workspace) = (record.packages, record.links, record.workspace);
     let graph = PackageGraph::from_records(alloc, packages, links, workspace);

@@ -1,12 +1,17 @@
-use crate::graphs::features::graphs::{Question, answer_to, id_of};
+ghost use Rattle.std.specs.Prelude.{◌≡◌, ◌<◌};
+
+use crate::graphs::features::graphs::{Question, answer_to, id_of, weak_graph};
 use crate::graphs::features::visitors::{Follows, FollowsOptional};
 use guppy_feature_graph::{
     ConditionalLink, FeatureGraph, FeatureGraphData, FeatureId, FeatureLinkContext,
     FeatureLinkVisitor, FeatureQuery, LinkDeclarations,
 };
 use guppy_package_graph::DependencyDirection;
-use std::alloc::Global;
+use numbered_graph::Looks;
+use std::alloc::{AllocError, Global};
+use std::marker::Brand;
 use std::process::Abort;
+use std::sync::ledger::{Blank, Ledger};
 
 /// From the feature `weak` of app, and from its dependency foo.
 fn query_of<'g>(rt: &impl Abort, alloc: Global, graph: FeatureGraph<'g>) -> FeatureQuery<'g> {
@@ -116,4 +121,29 @@ fn closure_shown_the_required_half_first(rt: HostRuntime) {
     let shown = answer_to(&rt, rt.alloc(), &mut Halves);
     let wanted = [LinkDeclarations::Required, LinkDeclarations::Optional];
     assert!(rt; shown.iter().copied().eq(wanted.iter().copied()));
+}
+
+/// How many features a counted resolve includes where a closure follows each link.
+fn counted<L: Ledger>(
+    alloc: Global,
+    query: FeatureQuery<'_>,
+    blank: Blank,
+) -> Result<usize, AllocError>
+    requires name { blank.name ≡ L.name }
+    requires parts { blank.parts ≡ L.parts }
+    requires some { 0 < blank.parts }
+{
+    let mut looks = Looks::<L>::new(blank);
+    let mut follows = |_cx: &FeatureLinkContext<'_>, _link: ConditionalLink<'_>| -> bool { true };
+    let included = query.resolve_with_fn_counted(alloc, &mut follows, &mut looks)?;
+    Ok(included.len())
+}
+
+#[test]
+fn counts_looks(rt: HostRuntime) {
+    let packages = weak_graph(&rt, rt.alloc());
+    let data = FeatureGraphData::build(rt.alloc(), &packages).expect(&rt, "memory");
+    let query = query_of(&rt, rt.alloc(), FeatureGraph::of(&data));
+    let count = counted::<Brand>(rt.alloc(), query, Blank::new(1));
+    assert_eq!(rt; count, Ok(5));
 }

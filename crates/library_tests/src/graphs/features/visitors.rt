@@ -30,7 +30,7 @@ pub(crate) struct FollowsOptional;
 
 impl FeatureLinkVisitor for FollowsOptional {
     ghost use Rattle.std.specs.Prelude.{◌≡◌, []};
-    ghost use Rattle.guppy_feature_ids.specs.Kinds.{has_optional};
+    ghost use Rattle.guppy_feature_demands.specs.Kinds.{has_optional};
 
     ghost state = { λ _. [] };
 

@@ -3,7 +3,7 @@ use Rattle.std.proofs.lemmas.List.{map-append}
 use Rattle.nextest_filter_matchers.specs.Globs.{Character, One}
 use Rattle.nextest_filter_matchers.specs.GlobReading.{Closes, Ends, Fails, Opens, Separates, Stands, piece_of}
 use Rattle.nextest_filter_matchers.specs.GlobViews.{token_of, tokens_in}
-use Rattle.nextest_filter_matchers.specs.ReadingViews.{AtEnd, AtFault, AtGroup, piece_view}
+use Rattle.nextest_filter_matchers.specs.ReadingViews.{OnExit, AtFault, AtGroup, piece_view}
 use Rattle.nextest_filter_matchers.proofs.ReadingFacts.{run_ends, run_on}
 use Rattle.nextest_filter_matchers.specs.declared.glob_pattern.CharacterSet.TheVariants.{Character as Comma}
 use Rattle.nextest_filter_matchers.specs.declared.glob_pattern.Token.TheVariants as code
@@ -15,7 +15,7 @@ returns-in-Comma-2-clause-reads c =
     let at = c.loop-left in
     let piece : piece_of at.is_front at.rest.now ≡ Separates c.in-Comma-2.field-0.now = sym c.in_ok-token.ensures ∙ ap piece_view c.in-Comma-2.is in
     let inside = c.if-not-is_inside.false in
-    run_ends at.left at.is_front c.args.is_inside at.rest.now (tokens_in at.tokens.items) (AtEnd at.rest.now) _ (λ e. omega (arith, e, c.loop-left-test.true)) (rw (piece, inside) refl) at.invariant.reads
+    run_ends at.left at.is_front c.args.is_inside at.rest.now (tokens_in at.tokens.items) (OnExit at.rest.now) _ (λ e. omega (arith, e, c.loop-left-test.true)) (rw (piece, inside) refl) at.invariant.reads
 
 pub returns-in-Open-clause-reads : goal.returns-in-Open-clause-reads
 returns-in-Open-clause-reads c =
@@ -35,7 +35,7 @@ returns-in-Close-clause-reads c =
     let at = c.loop-left in
     let piece : piece_of at.is_front at.rest.now ≡ Closes c.in-Close.field-0.now = sym c.in_ok-token.ensures ∙ ap piece_view c.in-Close.is in
     let inside = c.if-is_inside.true in
-    run_ends at.left at.is_front c.args.is_inside at.rest.now (tokens_in at.tokens.items) (AtEnd at.rest.now) _ (λ e. omega (arith, e, c.loop-left-test.true)) (rw (piece, inside) refl) at.invariant.reads
+    run_ends at.left at.is_front c.args.is_inside at.rest.now (tokens_in at.tokens.items) (OnExit at.rest.now) _ (λ e. omega (arith, e, c.loop-left-test.true)) (rw (piece, inside) refl) at.invariant.reads
 
 pub returns-in-Close-2-clause-reads : goal.returns-in-Close-2-clause-reads
 returns-in-Close-2-clause-reads c =

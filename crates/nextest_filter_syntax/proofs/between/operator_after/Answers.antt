@@ -1,7 +1,7 @@
 use Rattle.std.proofs.Common.{◌∙◌, ap, arith, length}
 use Rattle.nextest_filter_tokens.specs.FaultLists.{LiesWithin}
 use Rattle.nextest_filter_syntax.specs.Grammar.{found_at}
-use Rattle.nextest_filter_leaves.proofs.StepFacts.{grows_same}
+use Rattle.nextest_filter_syntax.proofs.LeafStepFacts.{grows_same}
 use Rattle.nextest_filter_syntax.proofs.between.operator_after.Goals as goal
 
 pub returns-in-Joins-clause-value : goal.returns-in-Joins-clause-value

@@ -1,14 +1,14 @@
 use Rattle.std.proofs.Common.{◌≡◌, ◌∙◌, ◌-◌, suc, refl, ap, sym, subst, arith}
 use Rattle.nextest_filter_tokens.specs.ReadingSteps.{IsClean}
 use Rattle.nextest_filter_tokens.specs.declared.heads.Head.TheVariants.{Names, Platform, Says, Misplaces, Unknown}
-use Rattle.nextest_filter_leaves.specs.Leaves.{leaf_of}
-use Rattle.nextest_filter_leaves.specs.LeafGrammar.{NullaryFrom, Stands}
+use Rattle.nextest_filter_syntax.specs.Leaves.{leaf_of}
+use Rattle.nextest_filter_syntax.specs.LeafGrammar.{NullaryFrom, Stands}
 use Rattle.nextest_filter_syntax.specs.Trees.{set_of}
 use Rattle.nextest_filter_syntax.specs.Grammar.{MoreOf, Reads, joined_of}
 use Rattle.nextest_filter_syntax.specs.Reading.{IsReading, is_wrong}
 use Rattle.nextest_filter_tokens.proofs.SpanFacts.{refuses_none}
 use Rattle.nextest_filter_syntax.proofs.OperatorFacts.{close_ends}
-use Rattle.nextest_filter_leaves.proofs.StepFacts.{goes_both}
+use Rattle.nextest_filter_syntax.proofs.LeafStepFacts.{goes_both}
 use Rattle.nextest_filter_syntax.proofs.StepFacts.{fault_none, first_only, first_read, goes_after, goes_from_head, last_only, last_read, leaf_read, leaf_spoils, negated_deep, negated_only, negated_read, negated_spoils, nothing_of, operand_is, parens_deep, parens_only, parens_read, parens_spoils, platform_spoils, set_read, spoils_after, stays, step_only, step_patterns, step_read, step_spoiled}
 use Rattle.nextest_filter_syntax.proofs.reading.+reading.Goals as goal
 

@@ -1,7 +1,7 @@
 use Rattle.std.proofs.Common.{ℕ, ◌+◌, ◌-◌, ◌*◌, IfSome, length}
 use Rattle.nextest_filter_matchers.specs.declared.source_span.SourceSpan.{SourceSpan}
 use Rattle.nextest_filter_tokens.specs.ReadingSteps.{GoesOn, IsClean, Spoils}
-use Rattle.nextest_filter_syntax.specs.AsWritten.{IsExprAsWritten}
+use Rattle.nextest_filter_syntax.specs.FiltersAsWritten.{IsExprAsWritten}
 use Rattle.nextest_filter_syntax.specs.Trees.{Tree}
 use Rattle.nextest_filter_syntax.specs.Grammar.{MoreOf, Reads}
 use Rattle.nextest_filter_syntax.specs.Reading.{Ends}

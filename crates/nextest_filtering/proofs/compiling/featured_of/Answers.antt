@@ -1,4 +1,4 @@
-use Rattle.nextest_filter_queries.specs.NameTests.{name_test}
+use Rattle.nextest_filter_evaluation.specs.NameTests.{name_test}
 use Rattle.nextest_filtering.specs.Meaning.{IsFeatured}
 use Rattle.nextest_filtering.proofs.AcceptFacts.{expected, packages_as}
 use Rattle.nextest_filtering.proofs.compiling.featured_of.Goals as goal

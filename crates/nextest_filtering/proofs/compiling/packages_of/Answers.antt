@@ -1,4 +1,4 @@
-use Rattle.nextest_filter_queries.specs.NameTests.{name_test}
+use Rattle.nextest_filter_evaluation.specs.NameTests.{name_test}
 use Rattle.nextest_filtering.specs.Meaning.{IsMatched}
 use Rattle.nextest_filtering.proofs.AcceptFacts.{expected, packages_as, reached_alike, some_matched}
 use Rattle.nextest_filtering.proofs.compiling.packages_of.Goals as goal

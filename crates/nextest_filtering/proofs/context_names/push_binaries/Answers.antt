@@ -1,8 +1,8 @@
 use Rattle.std.proofs.Common.{List, ◌≡◌, ◌++◌, ◌∙◌, ap}
 use Rattle.list_facts.proofs.Lists.{flat_more}
 use Rattle.workspace_record.specs.Records.{Package, Target, Text}
-use Rattle.guppy_row_parts.specs.BuildTargets.{id_of}
-use Rattle.guppy_row_parts.specs.BuildTargetViews.{target_view}
+use Rattle.guppy_package_parts.specs.BuildTargets.{id_of}
+use Rattle.guppy_package_parts.specs.BuildTargetViews.{target_view}
 use Rattle.nextest_filtering.specs.Contexts.{binary_kind, named_binary}
 use Rattle.nextest_filtering.proofs.context_names.push_binaries.Goals as goal
 

@@ -1,6 +1,6 @@
 use Rattle.std.proofs.Common.{◌≡◌, ◌++◌, flat_map, take}
 use Rattle.workspace_record.specs.Records.{Target}
-use Rattle.guppy_row_parts.specs.BuildTargets.{id_of}
+use Rattle.guppy_package_parts.specs.BuildTargets.{id_of}
 use Rattle.nextest_filtering.specs.Contexts.{binary_kind, named_binary}
 use Rattle.nextest_filtering.proofs.context_names.push_binaries.Given as goal
 

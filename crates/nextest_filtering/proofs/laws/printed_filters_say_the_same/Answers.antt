@@ -2,8 +2,8 @@ use Rattle.std.proofs.Common.{◌∙◌, ap, sym}
 use Rattle.nextest_filter_syntax.specs.Trees.{tree_of}
 use Rattle.nextest_filter_syntax.specs.TreeTexts.{tree_text}
 use Rattle.nextest_filter_syntax.proofs.GrammarFacts.{texts_read_as_one}
-use Rattle.nextest_filter_printing.specs.Laws.{bare}
-use Rattle.nextest_filter_printing.proofs.TreeBack.{printed_filters_read_back}
+use Rattle.nextest_filter_laws.specs.Laws.{bare}
+use Rattle.nextest_filter_laws.proofs.TreeBack.{printed_filters_read_back}
 use Rattle.nextest_filtering.proofs.AlikeFacts.{alike_say_the_same}
 use Rattle.nextest_filtering.proofs.BareFacts.{bare_alike}
 use Rattle.nextest_filtering.proofs.laws.printed_filters_say_the_same.Goals as goal

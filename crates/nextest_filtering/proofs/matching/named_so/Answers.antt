@@ -1,6 +1,6 @@
 use Rattle.std.proofs.Common.{◌∙◌, ◌+◌, ◌++◌, ◌∷◌, [], ap, take, take_all, map, subst, if◌then◌else◌}
 use Rattle.workspace_record.specs.Records.{Text}
-use Rattle.nextest_filter_queries.specs.NameTests.{Suits, name_test}
+use Rattle.nextest_filter_evaluation.specs.NameTests.{Suits, name_test}
 use Rattle.nextest_filtering.specs.ContextViews.{ArePicked}
 use Rattle.nextest_filtering.proofs.PickFacts.{one_more, picked_step}
 use Rattle.nextest_filtering.proofs.matching.named_so.Goals as goal

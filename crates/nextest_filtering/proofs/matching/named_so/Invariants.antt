@@ -1,5 +1,5 @@
 use Rattle.std.proofs.Common.{map, take}
-use Rattle.nextest_filter_queries.specs.NameTests.{Suits, name_test}
+use Rattle.nextest_filter_evaluation.specs.NameTests.{Suits, name_test}
 use Rattle.nextest_filtering.specs.ContextViews.{ArePicked}
 use Rattle.nextest_filtering.proofs.matching.named_so.Given as goal
 

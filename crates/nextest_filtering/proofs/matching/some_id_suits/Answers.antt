@@ -1,7 +1,7 @@
 use Rattle.std.proofs.Common.{◌∙◌, ap, map}
 use Rattle.std.proofs.lemmas.List.{drop_all}
 use Rattle.workspace_record.specs.Records.{Text}
-use Rattle.nextest_filter_queries.proofs.NameFacts.{passed_over}
+use Rattle.nextest_filter_evaluation.proofs.NameFacts.{passed_over}
 use Rattle.nextest_filtering.proofs.PickFacts.{found_first, found_none, one_less}
 use Rattle.nextest_filtering.proofs.matching.some_id_suits.Goals as goal
 

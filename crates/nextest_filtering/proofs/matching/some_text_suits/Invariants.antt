@@ -1,5 +1,5 @@
 use Rattle.std.proofs.Common.{◌↔◌, map, drop, string_bytes}
-use Rattle.nextest_filter_queries.specs.NameTests.{SuitsOneOf, name_test}
+use Rattle.nextest_filter_evaluation.specs.NameTests.{SuitsOneOf, name_test}
 use Rattle.nextest_filtering.proofs.matching.some_text_suits.Given as goal
 
 abbrev pub invariant-loop-name : goal.invariant-loop-name

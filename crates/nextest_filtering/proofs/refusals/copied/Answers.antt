@@ -1,6 +1,6 @@
 use Rattle.std.proofs.Common.{◌++◌, ◌∷◌, [], get_or, take, take_all, subst, sym}
 use Rattle.std.proofs.lemmas.List.{take_more}
-use Rattle.nextest_filter_faults.specs.Copies.{SameFault}
+use Rattle.nextest_filter_tokens.specs.Copies.{SameFault}
 use Rattle.nextest_filtering.specs.CopiedFaults.{AreSame}
 use Rattle.nextest_filtering.proofs.CopiedFacts.{one_more}
 use Rattle.nextest_filtering.proofs.refusals.copied.Goals as goal

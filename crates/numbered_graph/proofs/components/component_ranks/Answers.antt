@@ -1,4 +1,4 @@
-use Rattle.std.proofs.Common.{◌≡◌, ◌∙◌, ◌<◌, get_or, length, subst, sym, ap, ⊎_elim, arith, rules}
+use Rattle.std.proofs.Common.{◌≡◌, ◌∙◌, ◌<◌, get_or, subst, sym, ap, ⊎_elim, arith, rules}
 use Rattle.std.proofs.lemmas.Bool.{cases_eq}
 use Rattle.numbered_graph.specs.Sets.{has}
 use Rattle.numbered_graph.specs.Searches.{Searches}
@@ -23,9 +23,8 @@ loop-root-init c =
     let path = sym c.new.ensures.items in
     let starts = sym c.new-2.ensures.items in
     let todo = sym c.new-3.ensures.items in
-    let closed = ap length (sym c.new-4.ensures.items) in
     record {
-      searches = subst (Searches links (has c.args.passes.now) nodes) (λ i. record { cursors = first; places = places i; ranks = ranks i; path = path i; starts = starts i; todo = todo i; closed = closed i }) (Searches-start links (has c.args.passes.now) nodes first c.in_ok-first_links.ensures.sized c.in_ok-first_links.ensures.each);
+      searches = subst (Searches links (has c.args.passes.now) nodes) (λ i. record { cursors = first; places = places i; ranks = ranks i; path = path i; starts = starts i; todo = todo i; closed = 0 }) (Searches-start links (has c.args.passes.now) nodes first c.in_ok-first_links.ensures.sized c.in_ok-first_links.ensures.each);
       idle = c.new-2.ensures.items;
       placed = λ v lt. absurd (omega arith);
     }

@@ -1,7 +1,7 @@
-use Rattle.std.proofs.Common.{◌≡◌, ℕ, ◌+◌, ◌-◌, ◌<◌, ◌≤◌, ◌++◌, ◌∷◌, [], length, get_or, take, All, AllPairs, Contains, subst, sym, ap, ◌∙◌, arith}
-use Rattle.std.proofs.lemmas.List.{get_or_read, length_push}
+use Rattle.std.proofs.Common.{◌≡◌, ℕ, ◌+◌, ◌-◌, ◌<◌, ◌≤◌, ◌++◌, ◌∷◌, [], length, get_or, take, All, AllPairs, Contains, refl, subst, sym, ap, ◌∙◌, arith}
+use Rattle.std.proofs.lemmas.List.{get_or_read}
 use Rattle.std.proofs.lemmas.List.Elements.{All-push, All-weaker, All-contains, Contains-push}
-use Rattle.numbered_graph.specs.Searches.{IsOpen, RanksFrom}
+use Rattle.numbered_graph.specs.Searches.{IsOpen}
 use Rattle.numbered_graph.proofs.ListParts.{split_last, AllPairs-last}
 use Rattle.numbered_graph.proofs.SearchMeeting.{open_within}
 use Rattle.numbered_graph.proofs.SearchClosing.{Searches-closed}
@@ -23,20 +23,18 @@ follow-requires-clause-knot c =
     let last_lt : length s.starts.items - 1 < length s.starts.items = let some = c.requires.knot in omega arith in
     let start : c.index-start.result.now ≡ get_or s.starts.items (length s.starts.items - 1) 0 = subst (λ i. c.index-start.result.now ≡ get_or s.starts.items i 0) (omega (arith, c.len.ensures)) (get_or_read s.starts.items (c.len.result - 1) c.index-start.result.now (omega (arith, c.len.ensures)) c.index-start.ensures 0) in
     let cut = split_last s.starts.items c.requires.knot in
-    let up = subst (λ xs. All (λ a. a ≤ c.index-start.result.now) xs) (sym cut) (All-push (λ a. a ≤ c.index-start.result.now) (take (length s.starts.items - 1) s.starts.items) (get_or s.starts.items (length s.starts.items - 1) 0) (All-weaker (λ a. a ≤ get_or s.starts.items (length s.starts.items - 1) 0) (λ a. a ≤ c.index-start.result.now) (λ a le. omega arith) (take (length s.starts.items - 1) s.starts.items) (AllPairs-last (λ a b. a ≤ b) (take (length s.starts.items - 1) s.starts.items) (get_or s.starts.items (length s.starts.items - 1) 0) (subst (λ xs. AllPairs (λ a b. a ≤ b) xs) cut h.starts.rising))) (omega arith)) in
+    let up = subst (λ xs. All (λ a. a ≤ c.index-start.result.now) xs) (sym cut) (All-push (λ a. a ≤ c.index-start.result.now) (take (length s.starts.items - 1) s.starts.items) (get_or s.starts.items (length s.starts.items - 1) 0) (All-weaker (λ a. a < get_or s.starts.items (length s.starts.items - 1) 0) (λ a. a ≤ c.index-start.result.now) (λ a le. omega arith) (take (length s.starts.items - 1) s.starts.items) (AllPairs-last (λ a b. a < b) (take (length s.starts.items - 1) s.starts.items) (get_or s.starts.items (length s.starts.items - 1) 0) (subst (λ xs. AllPairs (λ a b. a < b) xs) cut h.starts.rising))) (omega arith)) in
     record {
       place = o.0;
       is_open = o.1;
       last = All-weaker (λ a. a ≤ c.index-start.result.now) (λ a. a ≤ o.0) (λ a le. let past = found.2 in let placed = o.1.placed in omega arith) s.starts.items up;
     }
 
-pub returns-in_ok-push-in-None-clause-searches : goal.returns-in_ok-push-in-None-clause-searches
-returns-in_ok-push-in-None-clause-searches c =
+pub returns-in-None-clause-searches : goal.returns-in-None-clause-searches
+returns-in-None-clause-searches c =
     let s = c.args.search.now in
     let h = c.requires.searches in
     let start : c.index-start.result.now ≡ get_or s.starts.items (length s.starts.items - 1) 0 = subst (λ i. c.index-start.result.now ≡ get_or s.starts.items i 0) (omega (arith, c.len.ensures)) (get_or_read s.starts.items (c.len.result - 1) c.index-start.result.now (let some = c.requires.knot in omega (arith, c.len.ensures)) c.index-start.ensures 0) in
     let cut = split_last s.starts.items c.requires.knot ∙ ap (λ y. take (length s.starts.items - 1) s.starts.items ++ y ∷ []) (sym start) in
-    let closed = ap length c.in_ok-push-in-None.ensures.items ∙ length_push s.closed.items c.index-start.result.now in
-    let rank : c.len-in-None-2.result ≡ length s.closed.items + 1 = omega (arith, c.len-in-None-2.ensures) in
     let left = c.truncate.ensures.items ∙ ap (λ n. take n s.starts.items) (let size = c.len-in-None.ensures in omega arith) in
-    Searches-closed h (take (length s.starts.items - 1) s.starts.items) c.index-start.result.now cut c.in-None.ensures.none c.close.new.ranks.items (subst (λ r. RanksFrom c.index-start.result.now (length s.path.items) r s.path.items s.ranks.items c.close.new.ranks.items) rank c.close.ensures.ranks) c.close.new.path.items c.truncate.new.self.items (length c.push.new.self.items) c.close.ensures.path left closed
+    Searches-closed h (take (length s.starts.items - 1) s.starts.items) c.index-start.result.now cut c.in-None.ensures.none c.close.new.ranks.items c.close.ensures.ranks c.close.new.path.items c.truncate.new.self.items (s.closed + 1) c.close.ensures.path left refl

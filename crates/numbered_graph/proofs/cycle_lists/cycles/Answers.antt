@@ -2,10 +2,12 @@ use Rattle.std.proofs.Common.{◌≡◌, ℕ, ◌<◌, ◌≤◌, true, Vec, Glo
 use Rattle.std.proofs.lemmas.List.{length-map, length-replicate}
 use Rattle.std.proofs.lemmas.List.Elements.{All-filter}
 use Rattle.std.proofs.lemmas.List.Sorted.{All-permutation}
+use Rattle.std.proofs.lemmas.Result.{IfOk-weaker}
 use Rattle.numbered_graph.specs.Listings.{numbers_below}
 use Rattle.numbered_graph.specs.Ranks.{AreRanks}
 use Rattle.numbered_graph.specs.Cycles.{AreKeysTogether, AreRuns, AreLevels, key_of}
 use Rattle.numbered_graph.specs.Sets.{has}
+use Rattle.numbered_graph.proofs.ListingFacts.{IfOk-both}
 use Rattle.numbered_graph.proofs.Numbers.{numbers-small}
 use Rattle.numbered_graph.proofs.PathFacts.{Reaches-by_all}
 use Rattle.numbered_graph.proofs.RankFacts.{AreRanks-by_all}
@@ -45,7 +47,7 @@ returns c =
     let keys = c.in_ok-keys.keys.items in
     let order = c.in_ok-order.order.items in
     let levels = c.in_ok-levels.levels.items in
-    let lists = map (λ (v : Vec ℕ Global). v.items) c.in_ok-cycles.cycles.items in
+    let lists = λ (cs : Vec (Vec ℕ Global) Global). map (λ (v : Vec ℕ Global). v.items) cs.items in
     let flags : c.deref.result.now ≡ replicate (length links) true = c.deref.ensures.value ∙ c.in_ok-all.ensures ∙ ap (λ ls. replicate (length ls) true) c.links.ensures.value in
     let all = AreRanks-by_all links (has (replicate (length links) true)) nodes ranks (Reaches-by_all links) (subst (λ passes. AreRanks links (has passes) nodes ranks) flags c.in_ok-ranks.ensures.ranks) in
     let top = c.in_ok-keys.ensures.0 in
@@ -54,11 +56,11 @@ returns c =
     let count = ap length made ∙ length-map ranks (key_of c.args.direction top) ∙ all.sized in
     let perm = subst (λ n. IsPermutation (numbers_below n) order) (ap length c.deref-3.ensures.value ∙ count) c.in_ok-order.ensures.each in
     let are_levels = subst (λ ks. AreLevels links ks (length links) levels) c.deref-5.ensures.value c.in_ok-levels.ensures.levels in
-    let whole = c.in_ok-cycles.ensures.whole ∙ c.deref-9.ensures.value ∙ c.in_ok-members.ensures ∙ ap (filter (λ v. has c.deref-8.result.now (get_or c.deref-7.result.now v 0))) c.deref-6.ensures.value ∙ ap (λ fs. filter (λ v. has fs (get_or c.deref-7.result.now v 0)) order) c.deref-8.ensures.value ∙ ap (λ ks. filter (λ v. has levels (get_or ks v 0)) order) c.deref-7.ensures.value in
-    let runs = subst (λ ks. AreRuns ks lists) c.deref-10.ensures.value c.in_ok-cycles.ensures.runs in
+    let members = c.deref-9.ensures.value ∙ c.in_ok-members.ensures ∙ ap (filter (λ v. has c.deref-8.result.now (get_or c.deref-7.result.now v 0))) c.deref-6.ensures.value ∙ ap (λ fs. filter (λ v. has fs (get_or c.deref-7.result.now v 0)) order) c.deref-8.ensures.value ∙ ap (λ ks. filter (λ v. has levels (get_or ks v 0)) order) c.deref-7.ensures.value in
     let rising : AllPairs (λ u v. get_or keys u 0 ≤ get_or keys v 0) order = subst (λ ks. AllPairs (λ u v. get_or ks u 0 ≤ get_or ks v 0) order) c.deref-3.ensures.value (λ i j d lt small. (c.in_ok-order.ensures.order i j d lt small).0) in
-    let are = AreCycles-from_runs c.links.ensures.within (AreKeyed-by_keys c.args.direction all most made perm rising) are_levels lists whole runs in
-    record { cycles = are; within = λ v inside. on_cycle_within nodes links c.links.ensures.within v ((are.each v).0 inside) }
+    let keyed = AreKeyed-by_keys c.args.direction all most made perm rising in
+    let are = IfOk-both c.runs_of.result c.runs_of.ensures.whole c.runs_of.ensures.runs (λ cs whole runs. AreCycles-from_runs c.links.ensures.within keyed are_levels (lists cs) (whole ∙ members) (subst (λ ks. AreRuns ks (lists cs)) c.deref-10.ensures.value runs)) in
+    record { cycles = are; within = IfOk-weaker c.runs_of.result _ _ (λ cs is v inside. on_cycle_within nodes links c.links.ensures.within v ((is.each v).0 inside)) are }
 
 pub component_ranks-requires : goal.component_ranks-requires
 component_ranks-requires c =

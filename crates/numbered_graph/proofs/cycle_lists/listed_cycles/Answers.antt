@@ -1,16 +1,17 @@
-use Rattle.std.proofs.Common.{◌≡◌, ℕ, ◌<◌, true, List, Vec, Global, length, get_or, map, filter, flat_map, replicate, sym, subst, ap, ◌∙◌, All}
+use Rattle.std.proofs.Common.{◌≡◌, ℕ, ◌<◌, true, Vec, Global, length, get_or, map, filter, replicate, sym, subst, ap, ◌∙◌, All}
 use Rattle.std.proofs.lemmas.List.Elements.{All-filter}
 use Rattle.std.proofs.lemmas.List.{length-replicate}
-use Rattle.numbered_graph.specs.declared.direction.Direction.TheVariants.{Forward}
+use Rattle.std.proofs.lemmas.Result.{IfOk-weaker}
 use Rattle.numbered_graph.specs.Paths.{any_link}
 use Rattle.numbered_graph.specs.Ranks.{AreRanks}
-use Rattle.numbered_graph.specs.Cycles.{AreCycles, AreKeysTogether, AreRuns, AreLevels}
+use Rattle.numbered_graph.specs.Cycles.{AreKeysTogether, AreRuns, AreLevels}
 use Rattle.numbered_graph.specs.Sets.{has}
+use Rattle.numbered_graph.proofs.ListingFacts.{IfOk-both}
 use Rattle.numbered_graph.proofs.PathFacts.{Reaches-by_all}
 use Rattle.numbered_graph.proofs.RankFacts.{AreRanks-by_all}
 use Rattle.numbered_graph.proofs.CycleFacts.{AreCycles-from_runs, AreKeyed-listing, in_listing_order, listing_small, listing_together, on_cycle_within, together_filter}
 use Rattle.numbered_graph.proofs.cycle_lists.listed_cycles.Goals as goal
-use Rattle.numbered_graph.proofs.cycle_lists.listed_cycles.Goals.{In_ok-ranks, In_ok-cycles}
+use Rattle.numbered_graph.proofs.cycle_lists.listed_cycles.Goals.{In_ok-ranks}
 
 all : (c : In_ok-ranks) → AreRanks c.args.graph.now.links any_link c.args.graph.now.nodes c.in_ok-ranks.ranks.items
 all c =
@@ -38,33 +39,20 @@ runs_of-requires-clause-together c =
     let members = c.deref-5.ensures.value ∙ c.in_ok-members.ensures in
     subst (λ ks. AreKeysTogether ks c.deref-5.result.now) (sym c.deref-6.ensures.value) (subst (AreKeysTogether ranks) (sym members) (together_filter ranks _ c.args.listing.now (listing_together (all (goal.at.runs_of-requires-clause-together c).In_ok-ranks) c.requires.1)))
 
--- the runs, joined, are the nodes of the listing whose rank has its flag set
-whole : (c : In_ok-cycles) → flat_map (λ xs. xs) (map (λ (v : Vec ℕ Global). v.items) c.in_ok-cycles.cycles.items) ≡ filter (λ v. has c.in_ok-levels.levels.items (get_or c.in_ok-ranks.ranks.items v 0)) c.args.listing.now
-whole c =
-    c.in_ok-cycles.ensures.whole ∙ c.deref-5.ensures.value ∙ c.in_ok-members.ensures ∙ ap (λ fs. filter (λ v. has fs (get_or c.deref-3.result.now v 0)) c.args.listing.now) c.deref-4.ensures.value ∙ ap (λ ks. filter (λ v. has c.in_ok-levels.levels.items (get_or ks v 0)) c.args.listing.now) c.deref-3.ensures.value
-
-levels : (c : In_ok-cycles) → AreLevels c.args.graph.now.links c.in_ok-ranks.ranks.items (length c.args.graph.now.links) c.in_ok-levels.levels.items
-levels c = subst (λ ks. AreLevels c.args.graph.now.links ks (length c.args.graph.now.links) c.in_ok-levels.levels.items) c.deref-2.ensures.value c.in_ok-levels.ensures.levels
-
-are_cycles : (c : In_ok-cycles) → AreRanks c.args.graph.now.links any_link c.args.graph.now.nodes c.in_ok-ranks.ranks.items → AreCycles Forward c.args.graph.now.links (map (λ (v : Vec ℕ Global). v.items) c.in_ok-cycles.cycles.items)
-are_cycles c ranks =
-    let lists : List (List ℕ) = map (λ (v : Vec ℕ Global). v.items) c.in_ok-cycles.cycles.items in
-    AreCycles-from_runs c.links.ensures.within (AreKeyed-listing ranks c.requires.1) (levels c) lists (whole c) (subst (λ ks. AreRuns ks lists) c.deref-6.ensures.value c.in_ok-cycles.ensures.runs)
-
-pub returns-clause-cycles : goal.returns-clause-cycles
-returns-clause-cycles c =
-    let made = goal.at.returns-clause-cycles c in
-    are_cycles made.In_ok-cycles (all made.In_ok-ranks)
-
-pub returns-clause-listed : goal.returns-clause-listed
-returns-clause-listed c =
-    let made = goal.at.returns-clause-listed c in
-    in_listing_order c.links.ensures.within (AreKeyed-listing (all made.In_ok-ranks) c.requires.1) (levels made.In_ok-cycles) (map (λ (v : Vec ℕ Global). v.items) c.in_ok-cycles.cycles.items) (whole made.In_ok-cycles)
-
-pub returns-clause-within : goal.returns-clause-within
-returns-clause-within c =
-    let made = goal.at.returns-clause-within c in
-    λ v inside. on_cycle_within c.args.graph.now.nodes c.args.graph.now.links c.links.ensures.within v (((are_cycles made.In_ok-cycles (all made.In_ok-ranks)).each v).0 inside)
+pub returns : goal.returns
+returns c =
+    let links = c.args.graph.now.links in
+    let levels = c.in_ok-levels.levels.items in
+    let lists = λ (cs : Vec (Vec ℕ Global) Global). map (λ (v : Vec ℕ Global). v.items) cs.items in
+    let keyed = AreKeyed-listing (all (goal.at.returns c).In_ok-ranks) c.requires.1 in
+    let are_levels = subst (λ ks. AreLevels links ks (length links) levels) c.deref-2.ensures.value c.in_ok-levels.ensures.levels in
+    let members = c.deref-5.ensures.value ∙ c.in_ok-members.ensures ∙ ap (λ fs. filter (λ v. has fs (get_or c.deref-3.result.now v 0)) c.args.listing.now) c.deref-4.ensures.value ∙ ap (λ ks. filter (λ v. has levels (get_or ks v 0)) c.args.listing.now) c.deref-3.ensures.value in
+    let are = IfOk-both c.runs_of.result c.runs_of.ensures.whole c.runs_of.ensures.runs (λ cs whole runs. AreCycles-from_runs c.links.ensures.within keyed are_levels (lists cs) (whole ∙ members) (subst (λ ks. AreRuns ks (lists cs)) c.deref-6.ensures.value runs)) in
+    record {
+      cycles = are;
+      listed = IfOk-weaker c.runs_of.result _ _ (λ cs whole. in_listing_order c.links.ensures.within keyed are_levels (lists cs) (whole ∙ members)) c.runs_of.ensures.whole;
+      within = IfOk-weaker c.runs_of.result _ _ (λ cs is v inside. on_cycle_within c.args.graph.now.nodes links c.links.ensures.within v ((is.each v).0 inside)) are;
+    }
 
 pub component_ranks-requires : goal.component_ranks-requires
 component_ranks-requires c =

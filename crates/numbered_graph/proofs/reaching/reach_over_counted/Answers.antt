@@ -5,7 +5,7 @@ use Rattle.numbered_graph.specs.Graphs.{GraphValue}
 use Rattle.numbered_graph.specs.Paths.{IsReached}
 use Rattle.numbered_graph.specs.Sets.{has}
 use Rattle.numbered_graph.specs.Walks.{WalkValue, IsIncluded}
-use Rattle.numbered_graph.proofs.WalkFacts.{included_by_flags}
+use Rattle.numbered_graph.proofs.WalkFacts.{included_by_test}
 use Rattle.numbered_graph.proofs.reaching.reach_over_counted.Goals as goal
 
 pub loop-number-preserved : goal.loop-number-preserved
@@ -31,7 +31,7 @@ returns-clause-reached g c = λ v.
     let before = c.loop-number.invariant in
     let reached = c.into_included.result in
     let included = subst (λ (w : WalkValue). IsTrue (has reached v) ↔ IsIncluded w.direction w.graph.links w.starts w.shown v) c.in_default.ensures.kept (c.into_included.ensures.included v) in
-    let flagged = included_by_flags c.in_default.ensures.all c.args.passes.now before.answers v in
+    let flagged = included_by_test walk.shown (has c.args.passes.now) before.answers c.in_default.ensures.all v in
     let here : IsTrue (has reached v) ↔ IsReached walk.direction walk.graph.links (has c.args.passes.now) walk.starts v = (λ h. flagged.0 (included.0 h), λ h. included.1 (flagged.1 h)) in
     let by_graph = subst (λ (x : GraphValue). IsTrue (has reached v) ↔ IsReached walk.direction x.links (has c.args.passes.now) walk.starts v) before.graph here in
     let by_direction = subst (λ d. IsTrue (has reached v) ↔ IsReached d c.args.graph.now.links (has c.args.passes.now) walk.starts v) before.direction by_graph in

@@ -2,7 +2,7 @@ use Rattle.std.proofs.Common.{ℕ, List, length, append-nil, refl, subst, sym, a
 use Rattle.numbered_graph.specs.declared.direction.Direction.{Direction}
 use Rattle.numbered_graph.specs.declared.link.Link.{Link}
 use Rattle.numbered_graph.specs.Graphs.{GraphValue}
-use Rattle.numbered_graph.specs.Walks.{IsShowing, Shown, WalkValue}
+use Rattle.numbered_graph.specs.Walks.{IsShowing, Shown, WalkValue, opened_of}
 use Rattle.numbered_offers.specs.Keeping.{run_of}
 use Rattle.numbered_offers.specs.States.{WaitsFor}
 use Rattle.numbered_offers.proofs.StateFacts.{none_of, walk_rests, walk_meets}
@@ -23,13 +23,13 @@ loop-number-preserved g c =
         starts = settled.walk.starts ∙ ap (λ (w : WalkValue). w.starts) met.walk ∙ ap (λ (w : WalkValue). w.starts) kept ∙ before.walk.starts;
       };
       shown = let was = before.shown in let one = settled.shown in let same = ap (λ (w : WalkValue). length w.shown) kept in let still = ap (λ (w : WalkValue). length w.shown) met.walk in omega arith;
-      looks = let was = before.looks in let took = c.in-Some.ensures.looks in let same = settled.looked in let still = ap (λ (w : WalkValue). w.looked) met.walk in omega arith;
+      looks = let was = before.looks in let took = c.in-Some.ensures.looks in let same = settled.opened in let still = ap opened_of met.walk in omega arith;
     }
 
 pub meet_link-due-requires : goal.meet_link-due-requires
 meet_link-due-requires g c =
     let kept = c.in-Some.ensures.kept in
-    record { meets = walk_meets c.loop-number.state c.take.new.self _ (ap (λ (w : WalkValue). w.graph) kept) (ap (λ (w : WalkValue). w.direction) kept) (ap (λ (w : WalkValue). w.starts) kept) (ap (λ (w : WalkValue). w.shown) kept) c.in-Some.ensures.bound c.loop-number.invariant.rests c.in-Some.number (ap (λ (w : WalkValue). w.waiting) kept) c.in-Some.ensures.due c.in-Some.ensures.room }
+    record { meets = walk_meets c.loop-number.state c.take_counting_nodes.new.self _ (ap (λ (w : WalkValue). w.graph) kept) (ap (λ (w : WalkValue). w.direction) kept) (ap (λ (w : WalkValue). w.starts) kept) (ap (λ (w : WalkValue). w.shown) kept) c.in-Some.ensures.nodes c.loop-number.invariant.rests c.in-Some.number (ap (λ (w : WalkValue). w.waiting) kept) c.in-Some.ensures.due c.in-Some.ensures.room }
 
 pub settle-requires : goal.settle-requires
 settle-requires g c = record { waits = subst (WaitsFor c.meet_link-due.new.state) (none_of c.meet_link-due.result (sym c.is_some.ensures ∙ c.if-is_some.false)) c.meet_link-due.ensures.waits }
@@ -37,7 +37,7 @@ settle-requires g c = record { waits = subst (WaitsFor c.meet_link-due.new.state
 pub returns-clause-rests : goal.returns-clause-rests
 returns-clause-rests g c =
     let kept = c.in_default.ensures.kept in
-    walk_rests c.loop-number.state c.take.new.self _ (ap (λ (w : WalkValue). w.graph) kept) (ap (λ (w : WalkValue). w.direction) kept) (ap (λ (w : WalkValue). w.starts) kept) (ap (λ (w : WalkValue). w.shown) kept) c.in_default.ensures.bound c.loop-number.invariant.rests (ap (λ (w : WalkValue). w.waiting) kept)
+    walk_rests c.loop-number.state c.take_counting_nodes.new.self _ (ap (λ (w : WalkValue). w.graph) kept) (ap (λ (w : WalkValue). w.direction) kept) (ap (λ (w : WalkValue). w.starts) kept) (ap (λ (w : WalkValue). w.shown) kept) c.in_default.ensures.nodes c.loop-number.invariant.rests (ap (λ (w : WalkValue). w.waiting) kept)
 
 pub loop-number-init : goal.loop-number-init
 loop-number-init g c = record {
@@ -48,8 +48,8 @@ loop-number-init g c = record {
   looks = refl;
 }
 
-pub take-requires : goal.take-requires
-take-requires g c = c.loop-number.invariant.rests.idle
+pub take_counting_nodes-requires : goal.take_counting_nodes-requires
+take_counting_nodes-requires g c = c.loop-number.invariant.rests.idle
 
 pub returns-then-is_some-clause-run : goal.returns-then-is_some-clause-run
 returns-then-is_some-clause-run g c = c.meet_link-due.ensures.run ∙ c.loop-number.invariant.run
@@ -84,5 +84,5 @@ returns-clause-walk g c =
 pub returns-clause-bound : goal.returns-clause-bound
 returns-clause-bound g c =
     let nodes = ap (λ (w : WalkValue). w.graph.nodes) c.in_default.ensures.kept ∙ ap (λ (x : GraphValue). x.nodes) c.loop-number.invariant.rests.stands.graph in
-    let bound = c.in_default.ensures.bound in
+    let bound = c.in_default.ensures.nodes in
     omega arith

@@ -2,8 +2,7 @@ use crate::features::accounts::rule_texts::{tell_conclusions, tell_rules};
 use crate::features::accounts::switching::tell_switching;
 use feature_account::{Verdict, check_account, check_explanation, rules};
 use record_files::AccountFile;
-use row_program::{Answers, Row, RowFault, RowRunner};
-use row_records::{Question, account_in, question_in};
+use row_program::{Answers, Question, Row, RowFault, RowRunner, account_in, question_in};
 use std::alloc::{AllocError, Global};
 
 /// Rows of rules, accounts and explanations. A row's `files` are `record.json`, and where it has them

@@ -1,8 +1,7 @@
 //! Rules as texts: `app/fast & app/dep:util -> util/simd`.
 
 use feature_account::{Premises, Rule};
-use row_program::Answers;
-use row_records::add_feature;
+use row_program::{Answers, add_feature};
 
 /// Tells a line for each rule.
 pub(crate) fn tell_rules(rules: &[Rule], answers: &mut Answers) {

@@ -1,17 +1,16 @@
 //! What is on by the rules, in the graphs of packages and of features.
 
-use account_making::account_of;
 use feature_account::{Feature, Label, Premises, Rule};
-use feature_switching::FeaturesOn;
-use graph_switching::{dependency_order, switched_on};
+use feature_account_making::account_of;
 use guppy_feature_graph::{
     FeatureGraph, FeatureGraphData, FeatureId, FeatureLabel, FeatureQuery, FeatureSet,
 };
 use guppy_package_graph::{Error, LinkRow, PackageGraph, PackageGraphError, PackageId};
-use line_verdicts::LineVerdict;
-use row_program::Answers;
-use row_records::{Question, add_feature};
+use row_program::{Answers, Question, add_feature};
 use std::alloc::{AllocError, Global};
+use test_select_feature_laws::LineVerdict;
+use test_select_features::{dependency_order, switched_on};
+use test_select_rules::FeaturesOn;
 use workspace_record::{PlatformTable, WorkspaceRecord};
 
 /// What is `on`, and in the graphs of the record: the links that are `switched` on, each with how many

@@ -1,6 +1,6 @@
 ghost use Rattle.std.specs.Prelude.{◌≡◌, IfOk};
-ghost use Rattle.nextest_filter_faults.specs.declared.filterset_kind.FiltersetKind.TheVariants as kinds;
-ghost use Rattle.nextest_filter_queries.specs.Groups.{AreKnown};
+ghost use Rattle.nextest_filter_tokens.specs.declared.filterset_kind.FiltersetKind.TheVariants as kinds;
+ghost use Rattle.nextest_filter_evaluation.specs.Groups.{AreKnown};
 
 use crate::filters::compiled::contexts::{context_in, graph_in};
 use crate::filters::compiled::queries::tell_answers;

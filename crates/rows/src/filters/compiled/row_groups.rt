@@ -1,7 +1,7 @@
 //! Groups, as rows tell of them.
 
 ghost use Rattle.std.specs.Prelude.{IfOk};
-ghost use Rattle.nextest_filter_queries.specs.Groups.{AreKnown};
+ghost use Rattle.nextest_filter_evaluation.specs.Groups.{AreKnown};
 
 use nextest_filtering::{GroupLookup, KnownGroups, NameMatcher, TestQuery};
 use std::alloc::{AllocError, Global};
@@ -15,7 +15,7 @@ pub(crate) struct OneGroup<'a> {
 }
 
 impl GroupLookup for OneGroup<'_> {
-    ghost use Rattle.nextest_filter_queries.specs.NameTests.{Suits, is_pattern};
+    ghost use Rattle.nextest_filter_evaluation.specs.NameTests.{Suits, is_pattern};
     ghost use Rattle.std.specs.Prelude.{◌≡◌, false};
 
     ghost member = { λ s _ m. Suits m s.group.now };
@@ -27,7 +27,7 @@ impl GroupLookup for OneGroup<'_> {
         _test: &TestQuery<'_>,
         matcher: &NameMatcher,
     ) -> Result<bool, AllocError> {
-        nextest_filter_queries::suits(self.alloc, matcher, self.group)
+        nextest_filter_evaluation::suits(self.alloc, matcher, self.group)
     }
 }
 

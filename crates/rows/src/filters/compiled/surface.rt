@@ -1,6 +1,6 @@
 //! What further calls say of groups and of a filter that was read.
 
-ghost use Rattle.nextest_filter_queries.specs.Groups.{AreKnown};
+ghost use Rattle.nextest_filter_evaluation.specs.Groups.{AreKnown};
 
 use nextest_filtering::{
     CompiledExpr, FILTERSET_REFERENCE_MD, Filterset, KnownGroups, NameMatcher,

@@ -1,7 +1,7 @@
 use crate::filters::spans::add_span;
-use nextest_filter_texts::{pattern_from, text_from};
 use nextest_filter_tokens::{
-    FaultList, and_operator, escape_after, head_of, or_operator, skip_blanks,
+    FaultList, and_operator, escape_after, head_of, or_operator, pattern_from, skip_blanks,
+    text_from,
 };
 use row_program::{Answers, Row, RowFault, RowRunner};
 use std::alloc::Global;

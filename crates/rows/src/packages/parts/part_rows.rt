@@ -9,8 +9,7 @@ use guppy_package_parts::{
     BuildTarget, DependencyKind, DependencyReq, ExternalSource, LinkRow, PackagePublish,
     PackageRow, PackageSource, PlatformStatus,
 };
-use row_program::{Answers, Row, RowFault, RowRunner};
-use row_records::record_under;
+use row_program::{Answers, Row, RowFault, RowRunner, record_under};
 use serde_json::Value;
 use std::alloc::Global;
 

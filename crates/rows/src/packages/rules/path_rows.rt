@@ -1,4 +1,4 @@
-use package_rules::{PathText, compare_paths, same_path};
+use guppy_package_rules::{PathText, compare_paths, same_path};
 use row_program::Answers;
 use std::cmp::Ordering;
 

@@ -1,9 +1,8 @@
 use crate::packages::rules::path_rows::tell_paths;
-use package_rules::{PackageGraphError, RecordRule, read_rows};
-use record_checks::{RecordError, check_record};
-use row_program::{Answers, Row, RowFault, RowRunner, file_text};
-use row_records::record_from;
+use guppy_package_rules::{PackageGraphError, RecordRule, read_rows};
+use row_program::{Answers, Row, RowFault, RowRunner, file_text, record_from};
 use std::alloc::Global;
+use test_select_checks::{RecordError, check_record};
 use workspace_record::WorkspaceRecord;
 
 /// Rows of paths, or of a record in its parts, whose first broken rule is looked for.

@@ -1,7 +1,7 @@
 use Rattle.std.proofs.Common.{◌∙◌, ◌≡◌, ap, map, subst}
 use Rattle.workspace_record.specs.Records.{Workspace}
-use Rattle.feature_questions.specs.Switching.{IsServed}
-use Rattle.feature_reasons.specs.Sources.{sourced_rules}
+use Rattle.test_select_features.specs.Switching.{IsServed}
+use Rattle.feature_account_making.specs.Sources.{sourced_rules}
 use Rattle.test_select.proofs.readable.rules_of.Goals as goal
 
 pub returns-in_ok-sourced_rules-in-Ok : goal.returns-in_ok-sourced_rules-in-Ok

@@ -1,7 +1,7 @@
 use Rattle.std.proofs.Common.{◌≡◌, ◌↔◌, ◌<◌, ◌∙◌, ℕ, IsTrue, List, get_or, length, map, subst, sym, rules}
 use Rattle.std.proofs.lemmas.List.{length-map}
 use Rattle.numbered_graph.specs.declared.direction.Direction.TheVariants.{Reverse}
-use Rattle.guppy_feature_ids.specs.IdViews.{id_view}
+use Rattle.guppy_feature_demands.specs.IdViews.{id_view}
 use Rattle.guppy_feature_nodes.specs.GraphEdges.{edge_ends}
 use Rattle.guppy_feature_graph.specs.CycleValues.{CyclesValue, SaysCyclic}
 use Rattle.guppy_feature_graph.specs.Views.{feature_graph_of}

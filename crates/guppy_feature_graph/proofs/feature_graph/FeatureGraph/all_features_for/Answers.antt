@@ -2,7 +2,7 @@ use Rattle.std.proofs.Common.{◌∙◌, subst}
 use Rattle.guppy_package_table.specs.Tables.{TableValue}
 use Rattle.guppy_package_graph.specs.Finding.{IsAt}
 use Rattle.guppy_package_graph.specs.Views.{place_of}
-use Rattle.guppy_feature_lists.specs.Labels.{labels_of}
+use Rattle.guppy_feature_views.specs.Labels.{labels_of}
 use Rattle.guppy_feature_graph.specs.FeaturesFor.{ListsAt}
 use Rattle.guppy_feature_graph.specs.Views.{feature_graph_of}
 use Rattle.guppy_feature_graph.proofs.ListFacts.{lists_all}

@@ -1,6 +1,6 @@
 use Rattle.std.proofs.Common.{IsTrue, map, subst}
 use Rattle.numbered_graph.specs.Sets.{has}
-use Rattle.guppy_feature_ids.specs.IdViews.{id_view}
+use Rattle.guppy_feature_demands.specs.IdViews.{id_view}
 use Rattle.guppy_feature_graph.specs.Finding.{IsNamed}
 use Rattle.guppy_feature_graph.specs.Queries.{IsQueryOf}
 use Rattle.guppy_feature_graph.specs.Sets.{SetValue}

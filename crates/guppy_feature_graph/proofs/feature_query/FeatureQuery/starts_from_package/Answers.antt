@@ -1,10 +1,10 @@
 use Rattle.std.proofs.Common.{◌≡◌, Bool, Result, Ok, Err, IsTrue, subst}
 use Rattle.numbered_graph.specs.Sets.{has}
 use Rattle.workspace_record.specs.Records.{Text}
-use Rattle.guppy_row_parts.specs.declared.error.Error.{Error}
+use Rattle.guppy_package_parts.specs.declared.error.Error.{Error}
 use Rattle.guppy_package_graph.specs.Finding.{IsUnknown}
 use Rattle.guppy_feature_nodes.specs.Graphs.{FeatureGraphValue}
-use Rattle.guppy_feature_lists.specs.Labels.{labels_of}
+use Rattle.guppy_feature_views.specs.Labels.{labels_of}
 use Rattle.guppy_feature_graph.specs.FeaturesFor.{AnswersPackage, AnswersStarts, IsRowOf}
 use Rattle.guppy_feature_graph.specs.Queries.{AreInitials, QueryValue}
 use Rattle.guppy_feature_graph.specs.Sets.{SetValue}

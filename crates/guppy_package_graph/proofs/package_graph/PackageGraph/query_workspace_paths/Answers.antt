@@ -1,6 +1,6 @@
 use Rattle.std.proofs.Common.{IsTrue, map}
 use Rattle.numbered_graph.specs.Sets.{has}
-use Rattle.guppy_row_parts.specs.declared.dependency_direction.DependencyDirection.TheVariants.{Forward}
+use Rattle.guppy_package_parts.specs.declared.dependency_direction.DependencyDirection.TheVariants.{Forward}
 use Rattle.guppy_package_graph.specs.Members.{IsAtOneOf}
 use Rattle.guppy_package_graph.proofs.QueryFacts.{query_by}
 use Rattle.guppy_package_graph.proofs.package_graph.PackageGraph.query_workspace_paths.Goals as goal

@@ -1,8 +1,8 @@
 use Rattle.std.proofs.Common.{List, subst}
 use Rattle.std.specs.Result.{IfErr, IfOk}
 use Rattle.workspace_record.specs.Records.{Link, Package, WorkspaceDetails}
-use Rattle.package_rules.specs.Kept.{AreKept}
-use Rattle.package_rules.specs.Refusals.{IsRefusal}
+use Rattle.guppy_package_rules.specs.Kept.{AreKept}
+use Rattle.guppy_package_rules.specs.Refusals.{IsRefusal}
 use Rattle.guppy_package_table.specs.Tables.{IsTableOf}
 use Rattle.guppy_package_table.proofs.table.PackageTable.from_records.Goals as goal
 

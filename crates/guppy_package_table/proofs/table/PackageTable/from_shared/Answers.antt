@@ -1,7 +1,7 @@
 use Rattle.std.proofs.Common.{subst}
 use Rattle.workspace_record.specs.Records.{Workspace}
-use Rattle.package_rules.specs.Kept.{AreKept}
-use Rattle.package_rules.specs.Readings.{AreReadIn}
+use Rattle.guppy_package_rules.specs.Kept.{AreKept}
+use Rattle.guppy_package_rules.specs.Readings.{AreReadIn}
 use Rattle.guppy_package_table.proofs.table.PackageTable.from_shared.Goals as goal
 
 pub of_kept-requires-clause-kept : goal.of_kept-requires-clause-kept

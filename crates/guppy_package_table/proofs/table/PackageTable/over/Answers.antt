@@ -1,5 +1,5 @@
 use Rattle.std.proofs.Common.{◌≡◌, ◌∙◌, ap, refl, subst, sym}
-use Rattle.package_rules.specs.Readings.{AreRequirementsOf}
+use Rattle.guppy_package_rules.specs.Readings.{AreRequirementsOf}
 use Rattle.guppy_package_table.specs.TableLinks.{links_of}
 use Rattle.guppy_package_table.specs.Tables.{AreKnownEnds, ids_of}
 use Rattle.guppy_package_table.specs.declared.indices.SharedRows.{SharedRows}

@@ -1,6 +1,6 @@
 use Rattle.std.proofs.Common.{◌∙◌, IfOk, List, ap, subst, sym}
 use Rattle.workspace_record.specs.Records.{Package, WorkspaceDetails}
-use Rattle.package_rules.specs.Readings.{AreRequirementsOf}
+use Rattle.guppy_package_rules.specs.Readings.{AreRequirementsOf}
 use Rattle.guppy_package_table.specs.Indices.{IndexesPackages}
 use Rattle.guppy_package_table.specs.Tables.{AreKnownEnds, IsTableOf, TableValue, ids_of}
 use Rattle.guppy_package_table.specs.declared.indices.SharedRows.{SharedRows}

@@ -1,4 +1,4 @@
-use Rattle.record_graphs.proofs.ContextFacts.{names_of_record}
+use Rattle.test_select_checks.proofs.ContextFacts.{names_of_record}
 use Rattle.library_tests.proofs.selections.direct.filters_of.Goals as goal
 
 pub record_filters-requires : goal.record_filters-requires

@@ -1,5 +1,5 @@
 use Rattle.std.proofs.Common.{◌∙◌, sym, ap}
-use Rattle.nextest_filter_queries.proofs.NameFacts.{same_test}
+use Rattle.nextest_filter_evaluation.proofs.NameFacts.{same_test}
 use Rattle.nextest_filter_evaluation.specs.Compiled.{Kind, Binary, BinaryId, Test, Group, leaf_of}
 use Rattle.nextest_filter_evaluation.proofs.filterset_leaf.FiltersetLeaf.copy.Goals as goal
 

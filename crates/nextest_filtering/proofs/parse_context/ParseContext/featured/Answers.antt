@@ -1,4 +1,4 @@
-use Rattle.nextest_filter_queries.specs.NameTests.{name_test}
+use Rattle.nextest_filter_evaluation.specs.NameTests.{name_test}
 use Rattle.nextest_filtering.proofs.FeatureFacts.{featured_of}
 use Rattle.nextest_filtering.proofs.parse_context.ParseContext.featured.Goals as goal
 

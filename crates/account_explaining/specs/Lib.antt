@@ -1,2 +1,0 @@
-pub mod ExplanationText
-pub mod Laws

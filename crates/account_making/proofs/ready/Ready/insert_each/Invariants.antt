@@ -1,6 +1,0 @@
-use Rattle.std.proofs.Common.{take}
-use Rattle.account_making.specs.Waiting.{IsWith}
-use Rattle.account_making.proofs.ready.Ready.insert_each.Given as goal
-
-abbrev pub invariant-loop-number : goal.invariant-loop-number
-invariant-loop-number l = IsWith l.fn.self (take l.number-index l.numbers) l.self

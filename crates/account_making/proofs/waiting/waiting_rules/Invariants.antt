@@ -1,5 +1,0 @@
-use Rattle.account_making.proofs.WaitingFacts.{WaitsBelow}
-use Rattle.account_making.proofs.waiting.waiting_rules.Given as goal
-
-abbrev pub invariant-loop-number : goal.invariant-loop-number
-invariant-loop-number l = WaitsBelow l.rules l.number l.waiting

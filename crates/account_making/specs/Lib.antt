@@ -1,4 +1,0 @@
-pub mod AccountText
-pub mod Laws
-pub mod Lowest
-pub mod Waiting

@@ -1,3 +1,0 @@
-pub mod WordFacts
-pub mod MeaningFacts
-pub mod PartingFacts

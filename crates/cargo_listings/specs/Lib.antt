@@ -1,2 +1,0 @@
-pub mod Terse
-pub mod Nextest

@@ -1,4 +1,0 @@
-pub mod Demands
-pub mod RecordGraphs
-pub mod Rules
-pub mod Seams

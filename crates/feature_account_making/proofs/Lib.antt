@@ -1,0 +1,14 @@
+pub mod ConclusionFacts
+pub mod FoundFacts
+pub mod LowestFacts
+pub mod ReadyFacts
+pub mod SearchFacts
+pub mod WaitingFacts
+pub mod WritingFacts
+pub mod NumberItems
+pub mod ReadingFacts
+pub mod Selecting
+pub mod TextFacts
+pub mod WrittenLines
+pub mod OnFacts
+pub mod SourceFacts

@@ -1,0 +1,8 @@
+use Rattle.std.proofs.Common.{map}
+use Rattle.feature_account_making.proofs.WritingFacts.{nothing_written}
+use Rattle.feature_account_making.specs.RuleLines.{entry_lines}
+use Rattle.feature_account_making.specs.SourceViews.{sourced_view}
+use Rattle.feature_account_making.proofs.rule_lines.write_entries.Goals as goal
+
+pub returns-in-Err-clause-writes : goal.returns-in-Err-clause-writes
+returns-in-Err-clause-writes g c = nothing_written (g.W.Write.contents c.args.writer.now) (entry_lines (map sourced_view c.args.rules.now) c.args.entries.now)

@@ -1,0 +1,12 @@
+pub mod AccountText
+pub mod AccountLaws
+pub mod Lowest
+pub mod Waiting
+pub mod ExplanationText
+pub mod ReadBackLaws
+pub mod FeatureLines
+pub mod SourcedLaws
+pub mod OfAccounts
+pub mod RuleLines
+pub mod SourceViews
+pub mod Sources

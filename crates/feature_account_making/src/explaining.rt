@@ -1,0 +1,82 @@
+//! The entries of an account that the conclusion of one feature rests on.
+
+ghost use Rattle.std.specs.Prelude.{◌≡◌, ◌≢◌, ◌↔◌, [], false, IfOk, IfSome, IsSome, IsTrue};
+ghost use Rattle.feature_account.specs.Accounts.{concludes, IsSound};
+ghost use Rattle.feature_account.specs.Explanations.{IsExplanation, IsSublist};
+
+use feature_account::{FeatureRef, LentRule, Rule, lend_rules, rule_of};
+use feature_account_rules::found::{contains, insert, insert_premises};
+use indexmap::IndexSet;
+use std::alloc::{AllocError, Global};
+use workspace_record::Feature;
+
+/// The entries of an account, in its order, that the conclusion of the feature rests on, that one last;
+/// none where no entry concludes the feature.
+///
+/// Takes any account whose entries may all stand. The work grows with the entries.
+pub fn explanation_of(
+    alloc: Global,
+    rules: &[Rule],
+    account: &[usize],
+    feature: &Feature,
+) -> Result<Option<Vec<usize>>, AllocError>
+    requires sound { IsSound rules.now account.now }
+    ensures found { IfOk result (λ o. IsSome o
+        ↔ IsTrue (concludes rules.now account.now feature.now)) }
+    ensures explains { IfOk result (λ o. IfSome o
+        (λ v. IsExplanation rules.now feature.now v.items)) }
+    ensures in_order { IfOk result (λ o. IfSome o (λ v. IsSublist v.items account.now)) }
+{
+    let lent = lend_rules(alloc, rules)?;
+    let entries = needed_entries(alloc, &lent, account, &FeatureRef::of(feature))?;
+    if entries.is_empty() {
+        return Ok(None);
+    }
+    Ok(Some(entries))
+}
+
+// The entries of which each concludes the goal or a premise of a later one, in the order of the account.
+fn needed_entries(
+    alloc: Global,
+    rules: &[LentRule<'_>],
+    account: &[usize],
+    goal: &FeatureRef<'_>,
+) -> Result<Vec<usize>, AllocError>
+    requires sound { IsSound rules.now account.now }
+    ensures none { IfOk result (λ v. v.items ≡ []
+        → concludes rules.now account.now goal.now ≡ false) }
+    ensures explains { IfOk result (λ v. v.items ≢ [] → IsExplanation rules.now goal.now v.items) }
+    ensures in_order { IfOk result (λ v. IsSublist v.items account.now) }
+{
+    let mut needed: IndexSet<&FeatureRef<'_>> = IndexSet::new(alloc);
+    entries_by(alloc, rules, account, goal, &mut needed)
+}
+
+// Goes from the end, and takes each entry whose conclusion is the goal or a premise of one taken.
+fn entries_by<'r, 'a>(
+    alloc: Global,
+    rules: &'r [LentRule<'a>],
+    account: &[usize],
+    goal: &'r FeatureRef<'a>,
+    needed: &mut IndexSet<&'r FeatureRef<'a>>,
+) -> Result<Vec<usize>, AllocError>
+    requires sound { IsSound rules.now account.now }
+    requires none_needed { needed.old.keys ≡ [] }
+    ensures none { IfOk result (λ v. v.items ≡ []
+        → concludes rules.entry.now account.now goal.entry.now ≡ false) }
+    ensures explains { IfOk result (λ v. v.items ≢ []
+        → IsExplanation rules.entry.now goal.entry.now v.items) }
+    ensures in_order { IfOk result (λ v. IsSublist v.items account.now) }
+{
+    insert(needed, goal)?;
+    let mut entries = Vec::new(alloc);
+    for place in (0..account.len()).rev() {
+        let rule = rule_of(rules, account[place]);
+        if contains(needed, rule.conclusion()) {
+            entries.push(account[place])?;
+            insert_premises(needed, rule.premises())?;
+        }
+    }
+    entries.reverse();
+    Ok(entries)
+}

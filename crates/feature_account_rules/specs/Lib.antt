@@ -1,0 +1,10 @@
+pub mod Lines
+pub mod Closed
+pub mod Entries
+pub mod EntryView
+pub mod Found
+pub mod IsEntry
+pub mod IsRule
+pub mod LentLabels
+pub mod LentPremises
+pub mod RuleList

@@ -1,2 +1,0 @@
-pub mod ExplainingFacts
-pub mod ServedFacts

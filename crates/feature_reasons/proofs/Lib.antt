@@ -1,2 +1,0 @@
-pub mod OnFacts
-pub mod SourceFacts

@@ -1,8 +1,0 @@
-use Rattle.std.proofs.Common.{map}
-use Rattle.account_making.proofs.WritingFacts.{nothing_written}
-use Rattle.feature_reasons.specs.RuleLines.{entry_lines}
-use Rattle.feature_reasons.specs.SourceViews.{sourced_view}
-use Rattle.feature_reasons.proofs.rule_lines.write_entries.Goals as goal
-
-pub returns-in-Err-clause-writes : goal.returns-in-Err-clause-writes
-returns-in-Err-clause-writes g c = nothing_written (g.W.Write.contents c.args.writer.now) (entry_lines (map sourced_view c.args.rules.now) c.args.entries.now)

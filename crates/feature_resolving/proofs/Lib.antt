@@ -1,5 +1,0 @@
-pub mod LeadingFacts
-pub mod OnFacts
-pub mod VerdictFacts
-pub mod StartFacts
-pub mod TakenFacts

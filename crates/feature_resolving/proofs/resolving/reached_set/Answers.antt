@@ -1,6 +1,0 @@
-use Rattle.std.proofs.Common.{rules}
-use Rattle.feature_resolving.proofs.VerdictFacts.{each_resolved_least}
-use Rattle.feature_resolving.proofs.resolving.reached_set.Goals as goal
-
-pub returns : goal.returns
-returns c = each_resolved_least c.args.table.now c.args.query _ _ (λ o b t h. search rules) c.least.ensures.least c.resolve_with_fn.result c.resolve_with_fn.ensures.graph c.resolve_with_fn.ensures.ok

@@ -1,4 +1,0 @@
-pub mod Known
-pub mod Starts
-pub mod Leading
-pub mod Laws

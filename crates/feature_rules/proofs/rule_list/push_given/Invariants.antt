@@ -1,6 +1,0 @@
-use Rattle.std.proofs.Common.{◌≡◌, ◌++◌, map}
-use Rattle.feature_rules.specs.RuleList.{given}
-use Rattle.feature_rules.proofs.rule_list.push_given.Given as goal
-
-abbrev pub invariant-loop-conclusion : goal.invariant-loop-conclusion
-invariant-loop-conclusion l = l.rules.items ≡ l.fn.rules.items ++ map given l.yielded

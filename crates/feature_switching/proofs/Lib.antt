@@ -1,4 +1,0 @@
-pub mod FeatureOrder
-pub mod Halving
-pub mod OnLines
-pub mod SearchFacts

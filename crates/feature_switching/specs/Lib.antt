@@ -1,4 +1,0 @@
-pub mod CountedViews
-pub mod Digits
-pub mod OnLines
-pub mod Searches

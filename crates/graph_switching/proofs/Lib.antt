@@ -1,6 +1,0 @@
-pub mod PlacesOn
-pub mod IndexedFacts
-pub mod SourceFacts
-pub mod LinksOn
-pub mod NumberingFacts
-pub mod OrderFacts

@@ -1,6 +1,0 @@
-use Rattle.std.proofs.Common.{ap}
-use Rattle.guppy_package_table.specs.Tables.{ids_of}
-use Rattle.graph_switching.proofs.laws.switching_keeps_packages.Goals as goal
-
-pub returns : goal.returns
-returns c = λ g switched on table h. ap ids_of h.rows

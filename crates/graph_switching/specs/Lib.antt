@@ -1,4 +1,0 @@
-pub mod LinesOn
-pub mod IndexedFeatures
-pub mod DependencyOrders
-pub mod Laws

@@ -1,4 +1,0 @@
-pub mod EntryFacts
-pub mod GroupFacts
-pub mod JoinFacts
-pub mod WeightFacts

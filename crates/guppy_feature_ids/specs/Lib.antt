@@ -1,4 +1,0 @@
-pub mod Kinds
-pub mod LabelViews
-pub mod Printing
-pub mod IdViews

@@ -1,8 +1,0 @@
-use Rattle.std.proofs.Common.{◌↔◌, Contains, IsTrue, subst}
-use Rattle.guppy_feature_ids.specs.LabelViews.{label_view}
-use Rattle.guppy_feature_lists.specs.ListValues.{ListValue}
-use Rattle.guppy_feature_lists.proofs.LabelFacts.{found_by, labels_agree, same_label}
-use Rattle.guppy_feature_lists.proofs.feature_list.FeatureList.contains.Goals as goal
-
-pub returns : goal.returns
-returns c = record { found = subst (λ (l : ListValue). IsTrue c.contains.result ↔ Contains l.labels (label_view c.args.label)) c.self.view_is (found_by same_label label_view labels_agree c.self.inside.labels c.args.label c.contains.result c.contains.ensures) }

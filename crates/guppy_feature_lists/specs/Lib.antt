@@ -1,4 +1,0 @@
-pub mod Labels
-pub mod ListValues
-pub mod Listing
-pub mod ListViews

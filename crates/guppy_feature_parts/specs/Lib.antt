@@ -1,3 +1,0 @@
-pub mod RootOrder
-pub mod RootPlaces
-pub mod Told

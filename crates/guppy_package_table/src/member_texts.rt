@@ -1,0 +1,36 @@
+//! What members are found by.
+
+ghost use Rattle.std.specs.Prelude.{◌≡◌};
+ghost use Rattle.guppy_package_table.specs.Tables.{id_at};
+ghost use Rattle.guppy_package_table.specs.Members as members;
+
+use crate::table::PackageTable;
+
+/// The path of the member at a place, and nothing where no member is there.
+pub fn path_at(table: &PackageTable, place: usize) -> &str
+    ensures { result.now ≡ members.path_at table.now place }
+{
+    match table.member(id_text(table, place)) {
+        Some(member) => member.path.as_str(),
+        None => "",
+    }
+}
+
+fn id_text(table: &PackageTable, place: usize) -> &str
+    ensures { result.now ≡ id_at table.now place }
+{
+    match table.ids().get(place) {
+        Some(id) => id.repr(),
+        None => "",
+    }
+}
+
+/// The name of the package at a place, and nothing past the last.
+pub fn name_at(table: &PackageTable, place: usize) -> &str
+    ensures { result.now ≡ members.name_at table.now place }
+{
+    match table.packages().get(place) {
+        Some(row) => row.name.as_str(),
+        None => "",
+    }
+}

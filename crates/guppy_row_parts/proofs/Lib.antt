@@ -1,3 +1,0 @@
-pub mod SetFacts
-pub mod TextParts
-pub mod RequestFacts

@@ -1,2 +1,0 @@
-pub mod OrderFacts
-pub mod ApartFacts

@@ -1,3 +1,0 @@
-pub mod KeptFacts
-pub mod LineFacts
-pub mod OrderFacts

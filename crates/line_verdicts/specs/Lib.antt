@@ -1,2 +1,0 @@
-pub mod Seams
-pub mod Verdicts

@@ -1,4 +1,0 @@
-pub mod Signs
-pub mod Faults
-pub mod FaultTexts
-pub mod Copies

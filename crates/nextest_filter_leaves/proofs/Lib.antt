@@ -1,5 +1,0 @@
-pub mod PatternFacts
-pub mod SignFacts
-pub mod ReadFacts
-pub mod OnceFacts
-pub mod StepFacts

@@ -1,5 +1,0 @@
-use Rattle.nextest_filter_leaves.proofs.OnceFacts as facts
-use Rattle.nextest_filter_leaves.proofs.laws.leaves_read_once.Goals as goal
-
-pub returns : goal.returns
-returns c = facts.leaves_read_once

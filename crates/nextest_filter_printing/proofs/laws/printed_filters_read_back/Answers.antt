@@ -1,5 +1,0 @@
-use Rattle.nextest_filter_printing.proofs.TreeBack as facts
-use Rattle.nextest_filter_printing.proofs.laws.printed_filters_read_back.Goals as goal
-
-pub returns : goal.returns
-returns c = facts.printed_filters_read_back

@@ -1,2 +1,0 @@
-pub mod NameTests
-pub mod Groups

@@ -1,4 +1,0 @@
-pub mod ReadyFacts
-pub mod ReducingFacts
-pub mod TurningFacts
-pub mod QuestionFacts

@@ -1,6 +1,0 @@
-use Rattle.std.proofs.Common.{◌≤◌}
-use Rattle.nextest_filter_readiness.specs.declared.ready_expr.ReadyExpr.{size-ReadyExpr}
-use Rattle.nextest_filter_readiness.proofs.ready_expr.ReadyExpr.+drop.Given as goal
-
-abbrev pub invariant-loop-self : goal.invariant-loop-self
-invariant-loop-self l = size-ReadyExpr l.self ≤ size-ReadyExpr l.fn.self

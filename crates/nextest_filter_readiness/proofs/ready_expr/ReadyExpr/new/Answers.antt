@@ -1,7 +1,0 @@
-use Rattle.nextest_filter_readiness.proofs.ReducingFacts.{has_whole}
-use Rattle.nextest_filter_readiness.proofs.ready_expr.ReadyExpr.new.Goals as goal
-
-pub returns : goal.returns
-returns c = record {
-  ready = λ patterns group name same. c.in_ok-ready.ensures.ready patterns group name (has_whole patterns _ same);
-}

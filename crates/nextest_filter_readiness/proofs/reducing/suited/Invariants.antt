@@ -1,8 +1,0 @@
-use Rattle.std.proofs.Common.{map, take}
-use Rattle.nextest_filter_queries.specs.NameTests.{name_test}
-use Rattle.nextest_filter_readiness.specs.Ready.{AreSuited}
-use Rattle.nextest_filter_readiness.proofs.reducing.suited.Given as goal
-
-abbrev pub invariant-loop-name : goal.invariant-loop-name
-invariant-loop-name l =
-    AreSuited (name_test l.matcher) (map (λ t. t.now) (take l.name-index l.names)) l.flags.items

@@ -1,5 +1,0 @@
-use Rattle.nextest_filter_texts.proofs.PatternFacts as facts
-use Rattle.nextest_filter_texts.proofs.laws.patterns_read_once.Goals as goal
-
-pub returns : goal.returns
-returns c = facts.patterns_read_once

@@ -1,5 +1,0 @@
-use Rattle.nextest_filter_texts.proofs.TextFacts as facts
-use Rattle.nextest_filter_texts.proofs.laws.texts_read_once.Goals as goal
-
-pub returns : goal.returns
-returns c = facts.texts_read_once

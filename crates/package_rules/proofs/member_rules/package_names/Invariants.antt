@@ -1,6 +1,0 @@
-use Rattle.std.proofs.Common.{take}
-use Rattle.package_rules.specs.Found.{HoldsNames}
-use Rattle.package_rules.proofs.member_rules.package_names.Given as goal
-
-abbrev pub invariant-loop-row : goal.invariant-loop-row
-invariant-loop-row l = HoldsNames l.names (take l.row-index l.packages)

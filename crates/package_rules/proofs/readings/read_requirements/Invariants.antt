@@ -1,6 +1,0 @@
-use Rattle.std.proofs.Common.{take}
-use Rattle.package_rules.specs.Readings.{AreRequirementsOf}
-use Rattle.package_rules.proofs.readings.read_requirements.Given as goal
-
-abbrev pub invariant-loop-place : goal.invariant-loop-place
-invariant-loop-place l = AreRequirementsOf (take l.place l.links) l.requirements.items

@@ -1,2 +1,0 @@
-pub mod ContextFacts
-pub mod OneRecordFacts

@@ -1,3 +1,0 @@
-pub mod PackageFacts
-pub mod LinkFacts
-pub mod TextFacts

@@ -1,4 +1,0 @@
-pub mod Packages
-pub mod TextSets
-pub mod LinkNames
-pub mod Indices

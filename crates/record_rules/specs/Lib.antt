@@ -1,6 +1,0 @@
-pub mod Asked
-pub mod Binaries
-pub mod BinaryOrder
-pub mod BinaryView
-pub mod RecordRules
-pub mod Told

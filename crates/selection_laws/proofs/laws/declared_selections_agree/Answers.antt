@@ -1,5 +1,0 @@
-use Rattle.selection_laws.proofs.AgreeFacts.{selections_agree}
-use Rattle.selection_laws.proofs.laws.declared_selections_agree.Goals as goal
-
-pub returns : goal.returns
-returns c = record { agree = selections_agree }

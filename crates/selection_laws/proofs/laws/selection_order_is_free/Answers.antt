@@ -1,5 +1,0 @@
-use Rattle.selection_laws.proofs.OrderFacts.{order_is_free}
-use Rattle.selection_laws.proofs.laws.selection_order_is_free.Goals as goal
-
-pub returns : goal.returns
-returns c = record { free = order_is_free }

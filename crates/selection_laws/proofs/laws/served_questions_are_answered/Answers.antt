@@ -1,5 +1,0 @@
-use Rattle.selection_laws.proofs.ServedFacts.{served_are_answered}
-use Rattle.selection_laws.proofs.laws.served_questions_are_answered.Goals as goal
-
-pub returns : goal.returns
-returns c = record { answered = served_are_answered }

@@ -1,5 +1,0 @@
-//! Laws of selections: by links that are on and by declared links, over records in two orders; and
-//! which questions a selection answers.
-#![tactic(auto)]
-
-pub mod laws;

@@ -1,8 +1,0 @@
-use Rattle.std.proofs.Common.{arith}
-use Rattle.selection_making.proofs.AscendingFacts.{ascending_by_neighbours}
-use Rattle.selection_making.proofs.ascending_pairs.ascend.Goals as goal
-
-pub returns : goal.returns
-returns c is =
-    let past = c.loop-place-test.false in
-    ascending_by_neighbours c.args.pairs.now (λ k d lt. c.loop-place.invariant k d (omega (arith, past, lt)))

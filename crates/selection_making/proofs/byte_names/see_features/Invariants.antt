@@ -1,6 +1,0 @@
-use Rattle.std.proofs.Common.{All, take}
-use Rattle.nextest_filtering.specs.SameFilters.{AreBytes}
-use Rattle.selection_making.proofs.byte_names.see_features.Given as goal
-
-abbrev pub invariant-loop-feature : goal.invariant-loop-feature
-invariant-loop-feature l = All (λ f. AreBytes f.name) (take l.feature-index l.features)

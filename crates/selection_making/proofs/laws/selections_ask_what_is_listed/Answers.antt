@@ -1,5 +1,0 @@
-use Rattle.selection_making.proofs.ReportFacts.{asked_as_listed}
-use Rattle.selection_making.proofs.laws.selections_ask_what_is_listed.Goals as goal
-
-pub returns : goal.returns
-returns c = record { asked = asked_as_listed }

@@ -1,5 +1,0 @@
-pub mod Asking
-pub mod Faults
-pub mod FileListers
-pub mod Listers
-pub mod Listings

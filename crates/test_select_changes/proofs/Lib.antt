@@ -1,0 +1,9 @@
+pub mod PartFacts
+pub mod RangeFacts
+pub mod InnermostFacts
+pub mod LookingFacts
+pub mod AroundFacts
+pub mod FolderFacts
+pub mod GraphFacts
+pub mod PrintableFacts
+pub mod TakenFacts

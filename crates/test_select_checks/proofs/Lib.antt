@@ -1,0 +1,9 @@
+pub mod ContextFacts
+pub mod OneRecordFacts
+pub mod AlikeFacts
+pub mod BanFacts
+pub mod CheckedFacts
+pub mod FilterFacts
+pub mod GroupFacts
+pub mod MeaningFacts
+pub mod OneReadingFacts

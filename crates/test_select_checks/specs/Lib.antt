@@ -1,0 +1,14 @@
+pub mod Contexts
+pub mod Alike
+pub mod CheckedRecords
+pub mod Checks
+pub mod CompiledViews
+pub mod Compiling
+pub mod ErrorTexts
+pub mod Errors
+pub mod FaultLines
+pub mod FilterTexts
+pub mod Groups
+pub mod Meaning
+pub mod RecordFilters
+pub mod RefusalTexts

@@ -1,0 +1,13 @@
+pub mod LeadingFacts
+pub mod OnFacts
+pub mod VerdictFacts
+pub mod StartFacts
+pub mod TakenFacts
+pub mod PlacesOn
+pub mod IndexedFacts
+pub mod SourceFacts
+pub mod LinksOn
+pub mod NumberingFacts
+pub mod OrderFacts
+pub mod ExplainingFacts
+pub mod ServedFacts

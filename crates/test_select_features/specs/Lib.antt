@@ -1,0 +1,11 @@
+pub mod Known
+pub mod Starts
+pub mod Leading
+pub mod InitialLaws
+pub mod LinesOn
+pub mod IndexedFeatures
+pub mod DependencyOrders
+pub mod SwitchingLaws
+pub mod Explaining
+pub mod Orders
+pub mod Switching

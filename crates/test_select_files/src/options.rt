@@ -1,0 +1,74 @@
+//! The words of a command line that name the files of a question.
+
+use crate::command_line::{Shape, Word};
+use clap::ArgMatches;
+
+/// What a question is asked of: the names of its files.
+#[derive(Clone, Copy)]
+pub struct QuestionFiles<'a> {
+    pub record: &'a str,
+    pub choice: Option<&'a str>,
+    pub table: Option<&'a str>,
+}
+
+/// The files that the command line names for a question on features.
+pub fn named_files<'a>(asked: &ArgMatches<'a>) -> QuestionFiles<'a> {
+    QuestionFiles {
+        record: required(asked, "record"),
+        choice: asked.get_str("choice"),
+        table: asked.get_str("table"),
+    }
+}
+
+/// The file that the command line names for the account.
+pub fn account_file<'a>(asked: &ArgMatches<'a>) -> &'a str {
+    required(asked, "account")
+}
+
+/// The value of a required word, without which `clap` takes no command line.
+pub fn required<'a>(asked: &ArgMatches<'a>, name: &str) -> &'a str {
+    asked.get_str(name).unwrap_or("")
+}
+
+/// The option that names the record.
+pub const RECORD: Word = Word {
+    name: "record",
+    shape: Shape::Option("FILE"),
+    help: "The record of the workspace: its packages, links and members, as JSON,
+made of what `cargo metadata` says of them; docs/FORMATS.md has its keys",
+};
+
+/// The option that names the choice.
+pub const CHOICE: Word = Word {
+    name: "choice",
+    shape: Shape::MaybeOption("FILE"),
+    help: "The features that are asked for, as JSON [default: the default features].
+A key that the format does not have is ignored, also a misspelt one",
+};
+
+/// The option that names the table.
+pub const TABLE: Word = Word {
+    name: "table",
+    shape: Shape::MaybeOption("FILE"),
+    help: "The platform's answers: which `cfg(..)` and target names hold, as JSON
+[default: no answer is known, and what is unknown counts]",
+};
+
+/// The option that names the account.
+pub const ACCOUNT: Word = Word {
+    name: "account",
+    shape: Shape::Option("FILE"),
+    help: "The account or explanation to be checked: numbers of rules, as JSON",
+};
+
+/// What a check of an account prints, and with which status it ends.
+pub const CHECK_HELP: &str =
+    "Output: `accepted`, or `refused: ` and the first fault of the account: `unknown rule at P`,
+`repeated conclusion at P` or `missing premise at P`, where P counts its entries from 0, or `not
+closed at N`, where N is the lowest rule that is left out. A file with a goal is an explanation, and
+is refused, in place of the last, as `goal not reached`, or as `unused at P` where no later entry
+needs what the one at P concludes.
+
+Exit status: 0 if the account or explanation is accepted; 1 if it or a file is refused, or the
+output cannot be written, with the reasons for the latter two on standard error; 2 for a bad command
+line.";

@@ -1,0 +1,119 @@
+//! Why a run of a program ends early.
+
+ghost use Rattle.std.specs.Prelude.{◌≡◌};
+ghost use Rattle.test_select_files.specs.Failures.{status_of};
+ghost use Rattle.test_select_files.specs.declared.run_failure.RunFailure.TheVariants.{CannotWrite, Memory};
+
+use crate::file_source::FileFault;
+use clap::error::ErrorKind;
+use record_files::ReadError;
+use std::alloc::{AllocError, AllocFailed};
+use std::{fmt, io};
+
+/// Why a run of a program ends early. Names of files are as the command line gives them.
+#[derive(Drop)]
+pub enum RunFailure<'a> {
+    /// The command line is refused.
+    CommandLine(clap::Error),
+    /// The file with this name cannot be read.
+    CannotRead(&'a str),
+    /// The file with this name was read and is refused.
+    BadFile(&'a str, ReadError),
+    /// What was asked is denied, as the output says.
+    Denied,
+    /// The output does not take what is written.
+    CannotWrite,
+    /// Memory ran out.
+    Memory,
+}
+
+impl<'a> RunFailure<'a> {
+    /// Why the file with this name was not read.
+    pub(crate) fn unread(name: &'a str, fault: FileFault) -> RunFailure<'a>
+        ensures { status_of result ≡ 1 }
+    {
+        match fault {
+            FileFault::CannotRead => RunFailure::CannotRead(name),
+            FileFault::Memory => RunFailure::Memory,
+        }
+    }
+
+    /// Why the file with this name was refused.
+    pub(crate) fn bad_file(name: &'a str, error: ReadError) -> RunFailure<'a>
+        ensures { status_of result ≡ 1 }
+    {
+        match error {
+            ReadError::Memory => RunFailure::Memory,
+            _ => RunFailure::BadFile(name, error),
+        }
+    }
+
+    /// The status with which the program ends.
+    pub fn status(&self) -> u8
+        ensures status { result ≡ status_of self.now }
+    {
+        match self {
+            RunFailure::CommandLine(_) => 2,
+            _ => 1,
+        }
+    }
+}
+
+/// The lines that tell of the failure, each with its line feed.
+impl fmt::Display for RunFailure<'_> {
+    fn fmt<W: fmt::Write>(&self, f: &mut fmt::Formatter<W>) -> fmt::Result {
+        match self {
+            RunFailure::CommandLine(error) => write!(f, "{error}"),
+            RunFailure::CannotRead(name) => writeln!(f, "cannot read {name}"),
+            RunFailure::BadFile(name, error) => write_bad_file(f, name, error),
+            RunFailure::Denied => Ok(()),
+            RunFailure::CannotWrite => f.write_str("cannot write\n"),
+            RunFailure::Memory => f.write_str("out of memory\n"),
+        }
+    }
+}
+
+fn write_bad_file<W: fmt::Write>(
+    f: &mut fmt::Formatter<W>,
+    name: &str,
+    error: &ReadError,
+) -> fmt::Result {
+    match error {
+        ReadError::BadJson => writeln!(f, "{name}: bad JSON"),
+        ReadError::BadShape(field) => writeln!(f, "{name}: bad shape at {field}"),
+        ReadError::Memory => f.write_str("out of memory\n"),
+    }
+}
+
+impl From<clap::Error> for RunFailure<'_> {
+    fn from(error: clap::Error) -> Self {
+        match error.kind() {
+            ErrorKind::OutOfMemory => RunFailure::Memory,
+            _ => RunFailure::CommandLine(error),
+        }
+    }
+}
+
+impl From<io::Error> for RunFailure<'_> {
+    ghost from_gives = { λ _ f. f ≡ CannotWrite };
+
+    fn from(_: io::Error) -> Self {
+        RunFailure::CannotWrite
+    }
+}
+
+impl From<AllocError> for RunFailure<'_> {
+    ghost from_gives = { λ _ f. f ≡ Memory };
+
+    fn from(_: AllocError) -> Self {
+        RunFailure::Memory
+    }
+}
+
+impl<T: Drop> From<AllocFailed<T>> for RunFailure<'_> {
+    ghost from_gives = { λ _ f. f ≡ Memory };
+
+    fn from(_: AllocFailed<T>) -> Self {
+        RunFailure::Memory
+    }
+}

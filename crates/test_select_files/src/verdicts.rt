@@ -1,0 +1,85 @@
+//! The file of an account or of an explanation, checked, and what is said of it.
+
+ghost use Rattle.std.specs.Prelude.{◌≡◌, IfErr, IfOk, string_bytes};
+ghost use Rattle.test_select_files.specs.Failures.{status_of};
+ghost use Rattle.test_select_files.specs.Verdicts.{IsVerdictOn, verdict_line};
+
+use crate::file_source::FileSource;
+use crate::inputs::{FeatureQuestion, account_in, feature_question};
+use crate::options::{account_file, named_files};
+use crate::run_failure::RunFailure;
+use clap::ArgMatches;
+use feature_account::{Verdict, check_account, check_explanation};
+use list_facts::write_bytes;
+use record_files::AccountFile;
+use std::alloc::{AllocError, Global};
+use std::io::Write;
+
+/// Checks the account or the explanation that the command line names, and prints what is to be said of
+/// it. One that is refused is denied.
+pub fn print_verdict<'a, O: Write>(
+    alloc: Global,
+    asked: &ArgMatches<'a>,
+    files: &mut dyn FileSource,
+    out: &mut O,
+) -> Result<(), RunFailure<'a>>
+    ensures status { IfErr result (λ f. status_of f ≡ 1) }
+{
+    let question = feature_question(alloc, named_files(asked), files)?;
+    let account = account_in(alloc, account_file(asked), files)?;
+    print_verdict_on(alloc, &question, &account, out)
+}
+
+/// Prints what is to be said of the file, and denies one that is refused.
+fn print_verdict_on<'a, O: Write>(
+    alloc: Global,
+    question: &FeatureQuestion,
+    account: &AccountFile,
+    out: &mut O,
+) -> Result<(), RunFailure<'a>>
+    ensures status { IfErr result (λ f. status_of f ≡ 1) }
+{
+    let verdict = verdict_on(alloc, question, account)?;
+    write_verdict(alloc, verdict, out)?;
+    match verdict {
+        Verdict::Accepted => Ok(()),
+        _ => Err(RunFailure::Denied),
+    }
+}
+
+/// What is to be said of the file. One with a goal is an explanation, and one without an account.
+pub fn verdict_on(
+    alloc: Global,
+    question: &FeatureQuestion,
+    account: &AccountFile,
+) -> Result<Verdict, AllocError>
+    ensures verdict { IfOk result (IsVerdictOn question.now account.now) }
+{
+    let record = question.record.as_ref();
+    let (choice, table) = (&question.choice, &question.table);
+    match &account.goal {
+        None => check_account(alloc, record, choice, table, &account.rules),
+        Some(goal) => check_explanation(alloc, record, choice, table, goal, &account.rules),
+    }
+}
+
+/// The line that says it, with its line feed.
+pub fn verdict_line(alloc: Global, verdict: Verdict) -> Result<String, AllocError>
+    ensures text { IfOk result (λ text. string_bytes text ≡ verdict_line verdict) }
+{
+    format!(in alloc; "{verdict}\n")
+}
+
+// The output is flushed here, since a run ends early after a refusal.
+fn write_verdict<'a, O: Write>(
+    alloc: Global,
+    verdict: Verdict,
+    out: &mut O,
+) -> Result<(), RunFailure<'a>>
+    ensures { IfErr result (λ f. status_of f ≡ 1) }
+{
+    let line = verdict_line(alloc, verdict)?;
+    write_bytes(out, line.as_bytes())?;
+    out.flush()?;
+    Ok(())
+}

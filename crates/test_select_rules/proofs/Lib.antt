@@ -1,0 +1,5 @@
+pub mod KeptRules
+pub mod FeatureOrder
+pub mod Halving
+pub mod OnLines
+pub mod SearchFacts

@@ -1,0 +1,7 @@
+use Rattle.std.proofs.Common.{◌≡◌, false, not, take}
+use Rattle.std.specs.List.{list_any}
+use Rattle.test_select_rules.specs.RecordRules.{has_distinct_features}
+use Rattle.test_select_rules.proofs.rules_on_features.first_repeated_feature.Given as goal
+
+abbrev pub invariant-loop-place : goal.invariant-loop-place
+invariant-loop-place l = list_any (λ p. not (has_distinct_features p)) (take l.place l.packages) ≡ false

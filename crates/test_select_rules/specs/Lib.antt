@@ -1,0 +1,10 @@
+pub mod Asked
+pub mod Binaries
+pub mod BinaryOrder
+pub mod BinaryView
+pub mod RecordRules
+pub mod Told
+pub mod CountedViews
+pub mod Digits
+pub mod OnLines
+pub mod Searches
