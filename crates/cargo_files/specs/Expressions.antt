@@ -19,7 +19,7 @@ abbrev pub joined_of : Bool → Cfg → Cfg → Cfg
 joined_of true x y = both_of x y
 joined_of false x y = either_of x y
 
--- the expression holds under these settings
+-- the expression holds under these settings (from Cargo's reference, "Platform specific dependencies")
 abbrev pub CfgHolds : List Setting → Cfg → Type 0
 CfgHolds settings (constant_of b) = IsTrue b
 CfgHolds settings (name_of name) = IsTrue (list_any (is_name name) settings)

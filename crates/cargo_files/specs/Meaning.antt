@@ -22,16 +22,16 @@ member_feature w name p = if is_member w p.id then own_feature name p else []
 abbrev pub member_named : Workspace → Text → Option Package
 member_named w owner = find (λ p. is_member w p.id && bytes_eq p.name owner) (first_of_each w.packages)
 
--- the features that a word means, in the order of the packages
+-- the features that a word means, in the order of the packages (from Cargo's reference, "Features")
 abbrev pub meant : Workspace → WordValue → List FeatureValue
 meant w (OfEach name) = flat_map (member_feature w name) (first_of_each w.packages)
 meant w (OfMember owner name) = option_map_or (own_feature name) (member_named w owner) []
 
--- the features that the words mean, word by word
+-- the features that the words mean, word by word (from Cargo's reference, "Features")
 abbrev pub meant_by : Workspace → List Text → List FeatureValue
 meant_by w words = flat_map (λ word. meant w (word_value word)) words
 
--- each word means a feature
+-- each word means a feature (from Cargo's reference, "Features")
 abbrev pub AllMean : Workspace → List Text → Type 0
 AllMean w words = (word : Text) → Contains words word → meant w (word_value word) ≡ [] → ⊥
 
@@ -64,12 +64,12 @@ pub record IsFirstNone (w : Workspace) (words : List Text) (word : Text) : Type 
   pub mean : AllMean w before
   pub none : MeansNone w word
 
--- the fault is that of the first word that means no feature; or memory ran out
+-- the fault is that of the first word that means no feature; or memory ran out (from Cargo's reference, "Features")
 abbrev pub RefusesFirst : Workspace → List Text → ChoiceFault → Type 0
 RefusesFirst w words (NoFeature named near) = IsFirstNone w words (string_bytes named) × (NamesNoMember w (word_value (string_bytes named)) → ⊥)
 RefusesFirst w words (NoMember named near) = IsFirstNone w words (string_bytes named) × NamesNoMember w (word_value (string_bytes named))
 RefusesFirst w words Memory = Unit {0}
 
--- all features, if they are asked for; else none or the default ones
+-- all features, if they are asked for; else none or the default ones (from Cargo's reference, "Features")
 abbrev pub standard_of : Bool → Bool → Standard
 standard_of all none = if all then standard.All else (if none then standard.None else standard.Default)

@@ -14,6 +14,6 @@ abbrev pub testcases : Data → Text → Option Members
 testcases list id =
     option_and_then as_object (option_and_then (get (codes "testcases")) (option_and_then (get id) (get (codes "rust-suites") list)))
 
--- the tests of the suite with an id: the names of these members
+-- the tests of the suite with an id: the names of these members (from nextest)
 abbrev pub suite_tests : Data → Text → Option (List Text)
 suite_tests list id = option_map member_names (testcases list id)

@@ -17,6 +17,7 @@ pub record IsCut (text piece rest : Text) : Type 0 where
   pub cut : text ≡ piece ++ (encode_utf8 mark ++ rest)
 
 -- the text is these pieces, with a comma or a blank between each and the next, and none in them
+-- (from Cargo's reference, "Features")
 abbrev pub ArePieces : Text → List Text → Type 0
 ArePieces text [] = ⊥
 ArePieces text (piece ∷ []) = (text ≡ piece) × NoCharPasses parts_words piece
@@ -27,13 +28,13 @@ abbrev pub is_word : Text → Bool
 is_word [] = false
 is_word (_ ∷ _) = true
 
--- the words of a text are its pieces in which something stands
+-- the words of a text are its pieces in which something stands (from Cargo's reference, "Features")
 pub record AreWords (text : Text) (words : List Text) : Type 0 where
   pub pieces : List Text
   pub cut : ArePieces text pieces
   pub kept : words ≡ filter is_word pieces
 
--- the words of the texts, text by text
+-- the words of the texts, text by text (from Cargo's reference, "Features")
 abbrev pub AreWordsOf : List Text → List Text → Type 0
 AreWordsOf [] words = words ≡ []
 AreWordsOf (text ∷ texts) words = (own : List Text) × (others : List Text) × AreWords text own × AreWordsOf texts others × (words ≡ own ++ others)

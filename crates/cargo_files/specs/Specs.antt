@@ -24,12 +24,12 @@ IsCfg text x = (m : ℕ) × Reads text 128 4 x m × (after text m 41 ≡ Some (l
 abbrev pub IsTriple : Text → Type 0
 IsTriple text = (run_end Triple text 0 ≡ length text) × (0 < length text)
 
--- the text is this spec
+-- the text is this spec (from Cargo's reference, "Platform specific dependencies")
 abbrev pub IsSpec : Text → Spec → Type 0
 IsSpec text (cfg_spec x) = (is_expression text ≡ true) × IsCfg text x
 IsSpec text (triple_spec name) = (is_expression text ≡ false) × (text ≡ name) × IsTriple text
 
--- the spec names the platform that has this triple and these settings
+-- the spec names the platform that has this triple and these settings (from Cargo's reference, "Platform specific dependencies")
 abbrev pub SpecHolds : Text → List Setting → Spec → Type 0
 SpecHolds triple settings (cfg_spec x) = CfgHolds settings x
 SpecHolds triple settings (triple_spec name) = name ≡ triple

@@ -11,14 +11,14 @@ test_line name = name ++ codes ": test"
 abbrev pub benchmark_line : Text → Text
 benchmark_line name = name ++ codes ": benchmark"
 
--- the lines list these tests, in this order, and besides them benchmarks alone; empty lines list nothing
+-- the lines list these tests, in this order, and besides them benchmarks alone; empty lines list nothing (from libtest)
 pub data ListTests : List Text → List Text → Type 0 where
   nothing : ListTests [] []
   test : {lines names : List Text} → (name : Text) → ListTests lines names → ListTests (test_line name ∷ lines) (name ∷ names)
   benchmark : {lines names : List Text} → (name : Text) → ListTests lines names → ListTests (benchmark_line name ∷ lines) names
   empty : {lines names : List Text} → ListTests lines names → ListTests ([] ∷ lines) names
 
--- the line is that of no test and of no benchmark, and is not empty
+-- the line is that of no test and of no benchmark, and is not empty (from libtest)
 pub record IsStray (line : Text) : Type 0 where
   pub no_test : (name : Text) → line ≡ test_line name → ⊥
   pub no_benchmark : (name : Text) → line ≡ benchmark_line name → ⊥

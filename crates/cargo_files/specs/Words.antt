@@ -13,7 +13,7 @@ pub data WordValue : Type 0 where
 abbrev pub is_slash : ℕ → Bool
 is_slash byte = byte == 47
 
--- what stands before the first slash names the member
+-- what stands before the first slash names the member (from Cargo's reference, "Features")
 abbrev pub word_value : Text → WordValue
 word_value word =
     if list_any is_slash word then OfMember (before_first is_slash word) (after_first is_slash word) else OfEach word

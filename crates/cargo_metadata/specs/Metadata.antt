@@ -58,6 +58,6 @@ metadata_of d = do
   packages ← each (of_package package_of) package_items
   Ok (record { format = format_of d; packages = packages; nodes = nodes; workspace = workspace })
 
--- a file that is metadata
+-- a file that is metadata (from Cargo's reference, "External tools")
 abbrev pub metadata_file : Data → Result Metadata Fault
 metadata_file d = object_of key.File d >>= metadata_of

@@ -28,7 +28,7 @@ has_name None name = false
 abbrev pub is_named : Workspace → Text → Text → Bool
 is_named w id name = has_name (package_of w id) name
 
--- an entry for the dependency's section and platform, of a package with its name
+-- an entry for the dependency's section and platform, of a package with its name (from Cargo's reference, "External tools")
 abbrev pub fits : Workspace → Declared → Entry → Bool
 fits w d e = list_any (is_kind d.line) e.kinds && is_named w e.package_id d.package_name
 

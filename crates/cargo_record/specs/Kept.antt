@@ -21,5 +21,6 @@ owns_targets w p = not (is_member w p.row.id) || list_all (requires_own p.row.fe
 abbrev pub kept : Package → Package
 kept p = record p { targets = filter (requires_own p.features) p.targets }
 
+-- a package with those of its targets that require features of its own
 abbrev pub kept_row : Declaring → Package
 kept_row p = kept p.row

@@ -54,6 +54,7 @@ abbrev pub counts : Workspace → Text → Declared → Bool
 counts w id d = is_member w id || not (nat_eq (line_kind_index d.line.kind) (line_kind_index Dev))
 
 -- the row is that of the dependency of the package, which was resolved to the row's target
+-- (from Cargo's reference, "External tools")
 pub record IsLineOf (w : Workspace) (p : Declaring) (n : Node) (d : Declared) (row : LineRow) : Type 0 where
   pub counts : counts w p.row.id d ≡ true
   pub is : row ≡ row_of p.row.id row.to d
@@ -104,7 +105,7 @@ pub record AreLines (w : Workspace) (packages : List Declaring) (nodes : List No
   pub sound : (row : LineRow) → Contains rows row → IsResolvedLine w packages nodes row
   pub whole : (p : Declaring) → Contains packages p → IsWhole w nodes rows p
 
--- so for the packages that the metadata list, and what they resolve
+-- so for the packages that the metadata list, and what they resolve (from Cargo's reference, "External tools")
 abbrev pub AreLinesOf : Workspace → Metadata → List LineRow → Type 0
 AreLinesOf w m rows = (nodes : List Node) × (m.nodes ≡ Some nodes) × AreLines w m.packages nodes rows
 

@@ -23,6 +23,7 @@ is_default (Some ids) id = is_among ids id
 is_default None id = true
 
 -- with no option the default members are asked about, with `--workspace` all, with `-p` those with one of the names
+-- (from Cargo's reference, "Workspaces", "cargo test")
 abbrev pub is_wanted : RequestedMembers → Names → Text → Text → Bool
 is_wanted Workspace names id name = true
 is_wanted (Named all) names id name = list_any (λ other. bytes_eq other.now name) all.now
@@ -32,7 +33,7 @@ is_wanted Default names id name = is_default names.default_members id
 abbrev pub is_asked : Metadata → RequestedMembers → Text → Bool
 is_asked m wanted id = option_map_or (λ p. is_wanted wanted m.workspace id p.row.name) (package_with m id) false
 
--- the members that are asked about, in the order of the workspace
+-- the members that are asked about, in the order of the workspace (from Cargo's reference, "Workspaces", "cargo test")
 abbrev pub asked : Metadata → RequestedMembers → List Text
 asked m wanted = filter (is_asked m wanted) m.workspace.members
 
@@ -66,13 +67,14 @@ named_defaults None = []
 abbrev pub is_member_name : Metadata → Text → Bool
 is_member_name m name = list_any (λ p. bytes_eq p.row.name name && is_among m.workspace.members p.row.id) m.packages
 
--- each name that is asked for is a member's
+-- each name that is asked for is a member's (from Cargo's reference, "Workspaces", "cargo test")
 abbrev pub are_names : Metadata → RequestedMembers → Bool
 are_names m (Named all) = list_all (λ name. is_member_name m name.now) all.now
 are_names m Workspace = true
 are_names m Default = true
 
 -- the workspace of the record: its folders, the members that are asked about, and the default members among these
+-- (from Cargo's reference, "Workspaces", "cargo test")
 pub record IsWorkspaceOf (m : Metadata) (wanted : RequestedMembers) (w : WorkspaceDetails) : Type 0 where
   pub root : w.root ≡ m.workspace.root
   pub target_directory : w.target_directory ≡ m.workspace.target_directory

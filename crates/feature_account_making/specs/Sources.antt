@@ -9,6 +9,7 @@ use Rattle.feature_account_rules.specs.Lines.{first_of_each}
 use Rattle.feature_account_rules.specs.RuleList.{base_rules, chosen_features, given, link_rules, named_of, rules_of_entry}
 use Rattle.feature_account_rules.specs.declared.rule.Rule.{Rule}
 
+-- what a rule comes from: the choice, the need for its package, an entry, a line (from Cargo's reference, "Features")
 pub data Source : Type 0 where
   -- the choice of features
   Chosen : Source
@@ -19,7 +20,7 @@ pub data Source : Type 0 where
   -- a line of the dependency to which the package with this id gives this name
   OfLine : Text → Text → Source
 
--- a rule, and what it comes from
+-- a rule, and what it comes from (from Cargo's reference, "Features")
 pub record Sourced : Type 0 where
   pub source : Source
   pub rule : Rule
@@ -50,6 +51,7 @@ abbrev pub sourced_link : Workspace → PlatformTable → Link → List Sourced
 sourced_link w table link = from_source (OfLine link.from link.name) (link_rules w table link)
 
 -- the rules in their order: of the choice, of each package's features, of their entries, of the links
+-- (from Cargo's reference, "Features")
 abbrev pub sourced_rules : Workspace → Choice → PlatformTable → List Sourced
 sourced_rules w choice table =
     from_source Chosen (map given (chosen_features w choice)) ++ (flat_map sourced_package (first_of_each w.packages) ++ (flat_map (sourced_entries w table) (first_of_each w.packages) ++ flat_map (sourced_link w table) w.links))

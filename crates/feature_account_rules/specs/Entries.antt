@@ -22,7 +22,7 @@ abbrev pub slash_entry : Text → Text → EntryValue
 slash_entry name feature =
     if ends_with nat_eq name (codes "?") then Weak (take (length name - 1) name) feature else Strong name feature
 
--- how Cargo reads an entry
+-- how Cargo reads an entry (from Cargo's reference, "Features")
 abbrev pub entry_value : Text → EntryValue
 entry_value entry =
     if starts_with nat_eq entry (codes "dep:") then Dependency (drop 4 entry) else (if list_any is_slash entry then slash_entry (before_first is_slash entry) (after_first is_slash entry) else OwnFeature entry)

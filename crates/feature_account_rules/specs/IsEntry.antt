@@ -11,6 +11,7 @@ HasNoPrefix entry = (rest : Text) → entry ≢ codes "dep:" ++ rest
 abbrev pub HasNoSlash : Text → Type 0
 HasNoSlash name = Contains name 47 → ⊥
 
+-- what `name`, `dep:name`, `name/feature` and `name?/feature` say (from Cargo's reference, "Features")
 pub data IsEntry (entry : Text) : EntryValue → Type 0 where
   -- `dep:name`
   dependency : {name : Text} → entry ≡ codes "dep:" ++ name → IsEntry entry (Dependency name)

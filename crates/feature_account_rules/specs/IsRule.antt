@@ -60,6 +60,7 @@ pub record LeadsTo (w : Workspace) (table : PlatformTable) (p : Package) (name f
   pub target : TargetHas w link feature
   pub counts : Counts w table link line
 
+-- one case for each way in which one feature leads to another (from Cargo's reference, "Features")
 pub data IsRule (w : Workspace) (choice : Choice) (table : PlatformTable) : Rule → Type 0 where
   -- each workspace package is on, and by choice its default feature, or all of its features
   member_base : {p : Package} → IsFound w p → IsMember w p.id → IsRule w choice table (given (base_of p.id))

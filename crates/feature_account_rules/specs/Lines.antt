@@ -18,7 +18,7 @@ counts_for in_workspace Normal = true
 counts_for in_workspace Build = true
 counts_for in_workspace Dev = in_workspace
 
--- a line of a link from this package counts
+-- a line of a link from this package counts (from Cargo's reference, "Specifying dependencies")
 abbrev pub counts : Workspace → PlatformTable → Text → Line → Bool
 counts w table source line = counts_for (is_workspace_package w source) line.kind && is_in_force table line.spec
 

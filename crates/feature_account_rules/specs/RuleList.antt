@@ -139,6 +139,7 @@ abbrev pub link_rules : Workspace → PlatformTable → Link → List Rule
 link_rules w table link = flat_map (line_rules w link) (counting_lines w table link)
 
 -- the rules, numbered from 0: of the choice, of each package's features, of their entries, of the links
+-- (from Cargo's reference, "Features")
 abbrev pub rule_list : Workspace → Choice → PlatformTable → List Rule
 rule_list w choice table =
     map given (chosen_features w choice) ++ (flat_map base_rules (first_of_each w.packages) ++ (flat_map (entry_rules w table) (first_of_each w.packages) ++ flat_map (link_rules w table) w.links))

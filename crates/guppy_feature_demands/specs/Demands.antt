@@ -89,6 +89,7 @@ abbrev pub link_demands : ℕ × Link → List DemandValue
 link_demands link = flat_map (line_demands link.1) (lines_of link)
 
 -- what the rows demand: each feature leads to its package, the entries of each package's features, and the lines of each link
+-- (from Cargo's reference, "Features")
 abbrev pub demands_of : List Package → List Link → List DemandValue
 demands_of packages links =
     base_demands (nodes_of packages) ++ (flat_map (package_demands (nodes_of packages) (numbered links)) packages ++ flat_map link_demands (numbered links))
@@ -108,6 +109,6 @@ with_numbers nodes d =
 abbrev pub is_between_nodes : ℕ → NumberedValue → Bool
 is_between_nodes nodes d = (nat_lt d.from nodes && nat_lt d.to nodes) && not (d.from == d.to)
 
--- the demands between two different nodes
+-- the demands between two different nodes (from Cargo's reference, "Features")
 abbrev pub kept_demands : List FeatureValue → List DemandValue → List NumberedValue
 kept_demands nodes ds = filter (is_between_nodes (length nodes)) (map (with_numbers nodes) ds)

@@ -7,7 +7,7 @@ use Rattle.workspace_record.specs.Features.{FeatureValue, feature_eq, feature_cm
 use Rattle.guppy_feature_demands.specs.declared.feature_id.FeatureId.{FeatureId}
 use Rattle.guppy_feature_demands.specs.LabelViews.{label_view}
 
--- what contracts see of an id
+-- what contracts see of an id (from guppy's `FeatureId`, `FeatureLabel`)
 abbrev pub id_view : FeatureId → FeatureValue
 id_view f = record { package_id = f.package_id.now; label = label_view f.label }
 

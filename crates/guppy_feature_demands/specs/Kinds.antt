@@ -6,7 +6,7 @@ use Rattle.guppy_feature_demands.specs.declared.feature_kind.FeatureKind.TheVari
 use Rattle.guppy_feature_demands.specs.declared.link_declarations.LinkDeclarations.{LinkDeclarations}
 use Rattle.guppy_feature_demands.specs.declared.link_declarations.LinkDeclarations.TheVariants.{Unsplit, Required, Optional}
 
--- the kind of a label
+-- the kind of a label (from guppy's `FeatureId`, `FeatureLabel`)
 abbrev pub kind_of : LabelValue → FeatureKind
 kind_of Base = kind.Base
 kind_of (Named name) = kind.Named

@@ -23,14 +23,14 @@ abbrev pub first_of_each : {T : Type 0} → (T → T → Bool) → List T → Li
 first_of_each same [] = []
 first_of_each same (x ∷ xs) = x ∷ filter (λ y. not (same x y)) (first_of_each same xs)
 
--- the nodes: the features of each package, each once
+-- the nodes: the features of each package, each once (from guppy's feature graph)
 abbrev pub nodes_of : List Package → List FeatureValue
 nodes_of packages = first_of_each feature_eq (flat_map features_of packages)
 
--- there is such a feature
+-- there is such a feature (from guppy's feature graph)
 abbrev pub is_node : List FeatureValue → FeatureValue → Bool
 is_node nodes f = list_any (feature_eq f) nodes
 
--- the number of a feature among the nodes; past the end where there is none
+-- the number of a feature among the nodes; past the end where there is none (from guppy's feature graph)
 abbrev pub number_of : List FeatureValue → FeatureValue → ℕ
 number_of nodes f = position_or_len (feature_eq f) nodes

@@ -56,7 +56,7 @@ line_warnings nodes link line =
 abbrev pub link_warnings : List FeatureValue → Link → List Warning
 link_warnings nodes link = flat_map (line_warnings nodes link) link.lines
 
--- the warnings of the rows: of each package's features, and then of each link's lines
+-- the warnings of the rows: of each package's features, and then of each link's lines (from guppy's `FeatureGraphWarning`)
 abbrev pub warnings_of : List Package → List Link → List Warning
 warnings_of packages links =
     flat_map (package_warnings (nodes_of packages) (numbered links)) packages ++ flat_map (link_warnings (nodes_of packages)) links

@@ -27,7 +27,7 @@ has_label s id l = has s.included (number_of s.graph.nodes (record { package_id 
 abbrev pub labels_in : SetValue → Package → List LabelValue
 labels_in s row = filter (has_label s row.id) (labels_of row)
 
--- one of the features that a package's row lists is in the set
+-- one of the features that a package's row lists is in the set (from guppy's `initial_packages`)
 abbrev pub has_row : SetValue → Option Package → Bool
 has_row s None = false
 has_row s (Some row) = list_any (has_label s row.id) (labels_of row)
@@ -71,6 +71,7 @@ pub record HasNone (s : SetValue) (id : Text) : Type 0 where
   pub is_row : IsRowOf s.graph.rows id place row
   pub none : labels_in s row ≡ []
 
+-- the features of a package in a set, or that the package is unknown or none of its features is in the set
 abbrev pub FindsList : SetValue → Text → Option ListValue → Type 0
 FindsList s id (Some list) = ListsThose s id list
 FindsList s id None = HasNone s id
@@ -110,7 +111,7 @@ abbrev pub AnswersStarts : QueryValue → Text → Result Bool Error → Type 0
 AnswersStarts q id (Ok answer) = SaysStarts q id answer
 AnswersStarts q id (Err error) = IsUnknown q.graph.rows id × (error ≡ UnknownPackageId)
 
--- one of the features that are listed by the row of the package at a place is an initial
+-- one of the features that are listed by the row of the package at a place is an initial (from guppy's `initial_packages`)
 pub record HasInitial (q : QueryValue) (place : ℕ) : Type 0 where
   pub row : Package
   pub is_row : slice_get q.graph.rows.packages place ≡ Some row

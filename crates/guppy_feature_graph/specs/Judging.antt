@@ -7,7 +7,7 @@ use Rattle.guppy_feature_nodes.specs.Graphs.{FeatureGraphValue, feature_at}
 abbrev pub Judged : Type 0
 Judged = List (ℕ × Bool)
 
--- each feature that passes was asked about once, and no other, ascending by number
+-- each feature that passes was asked about once, and no other, ascending by number (from guppy's `FeatureFilter`)
 pub record AreJudged (passes : ℕ → Type 0) (judged : Judged) : Type 0 where
   pub ascending : AllPairs (λ u v. u < v) (map (λ j. j.0) judged)
   pub each : (v : ℕ) → Contains (map (λ j. j.0) judged) v ↔ passes v

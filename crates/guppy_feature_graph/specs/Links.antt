@@ -13,6 +13,6 @@ declarations_of Unsplit = shown.Unsplit
 declarations_of Required = shown.Required
 declarations_of Optional = shown.Optional
 
--- the link that is shown where an offer is made
+-- the link that is shown where an offer is made (from guppy's `ConditionalLink`)
 abbrev pub link_of : FeatureGraphValue → Offer → LinkValue
 link_of g o = record { graph = g; number = o.edge; declarations = declarations_of o.kind }

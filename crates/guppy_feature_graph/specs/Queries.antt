@@ -15,7 +15,7 @@ pub record AreInitials (passes : ℕ → Type 0) (initials : List ℕ) : Type 0 
   pub ascending : AllPairs (λ u v. u < v) initials
   pub each : (v : ℕ) → Contains initials v ↔ passes v
 
--- the query begins at the nodes that pass, and goes in the direction
+-- the query begins at the nodes that pass, and goes in the direction (from guppy's `FeatureQuery`)
 pub record IsQueryOf (g : FeatureGraphValue) (direction : DependencyDirection) (passes : ℕ → Type 0) (q : QueryValue) : Type 0 where
   pub graph : q.graph ≡ g
   pub directed : q.direction ≡ direction

@@ -18,7 +18,7 @@ use Rattle.guppy_feature_graph.specs.Sets.{SetValue}
 abbrev pub is_known : SetValue → FeatureValue → Bool
 is_known s f = nat_lt (number_of s.graph.nodes f) (length s.graph.nodes)
 
--- whether a feature is in the set
+-- whether a feature is in the set (from guppy's `FeatureSet`)
 abbrev pub has_feature : SetValue → FeatureValue → Bool
 has_feature s f = is_known s f && has s.included (number_of s.graph.nodes f)
 
@@ -26,11 +26,11 @@ has_feature s f = is_known s f && has s.included (number_of s.graph.nodes f)
 abbrev pub agree_on : SetValue → SetValue → FeatureValue → Bool
 agree_on s t f = beq (has_feature s f) (has_feature t f)
 
--- whether each feature of the one graph and of the other is
+-- whether each feature of the one graph and of the other is (from guppy's `FeatureSet`)
 abbrev pub have_same_features : SetValue → SetValue → Bool
 have_same_features s t = list_all (agree_on s t) s.graph.nodes && list_all (agree_on s t) t.graph.nodes
 
--- each feature whatever is in both sets or in neither
+-- each feature whatever is in both sets or in neither (from guppy's `FeatureSet`)
 abbrev pub HaveSameFeatures : SetValue → SetValue → Type 0
 HaveSameFeatures s t = (f : FeatureValue) → has_feature s f ≡ has_feature t f
 

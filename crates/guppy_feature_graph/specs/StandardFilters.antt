@@ -10,11 +10,11 @@ use Rattle.guppy_feature_graph.specs.Finding.{IsUnknown}
 use Rattle.guppy_feature_graph.specs.declared.standard_features.StandardFeatures.{StandardFeatures}
 use Rattle.guppy_feature_graph.specs.declared.standard_features.StandardFeatures.TheVariants.{None, Default, All}
 
--- the feature stands for its package
+-- the feature stands for its package (from guppy's `StandardFeatures`)
 abbrev pub IsBase : FeatureValue → Type 0
 IsBase f = IsTrue (is_base_kind (kind_of f.label))
 
--- the graph has the feature, as a default one
+-- the graph has the feature, as a default one (from guppy's `StandardFeatures`)
 abbrev pub IsDefaultFeature : FeatureGraphValue → FeatureValue → Type 0
 IsDefaultFeature g f = (number_of g.nodes f < length g.nodes) × IsDefault g (number_of g.nodes f)
 
@@ -23,11 +23,12 @@ abbrev pub FindsDefault : FeatureGraphValue → FeatureValue → Result Bool Err
 FindsDefault g f (Ok answer) = (number_of g.nodes f < length g.nodes) × (IsTrue answer ↔ IsDefault g (number_of g.nodes f))
 FindsDefault g f (Err error) = IsUnknown g f × (error ≡ UnknownFeatureId)
 
--- packages alone; those and default features; all features
+-- packages alone; those and default features; all features (from guppy's `StandardFeatures`)
 abbrev pub Takes : StandardFeatures → FeatureGraphValue → FeatureValue → Type 0
 Takes None g f = IsBase f
 Takes Default g f = IsBase f ⊎ IsDefaultFeature g f
 Takes All g f = ⊤
 
+-- what a standard filter accepts (from guppy's `StandardFeatures`)
 abbrev pub Accepts : StandardFeatures → FeatureGraphValue → FeatureValue → Bool → Type 0
 Accepts standard g f answer = IsTrue answer ↔ Takes standard g f

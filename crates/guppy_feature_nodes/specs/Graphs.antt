@@ -22,7 +22,7 @@ pub record FeatureGraphValue : Type 0 where
   pub listing : List ℕ
 
 -- the nodes are listed with components together, edges between components forward, and those forward too that stand on more
--- than dev lines, unless they lie on a cycle of such edges
+-- than dev lines, unless they lie on a cycle of such edges (from guppy's order of feature ids)
 abbrev pub IsEdgeListing : List Link → List FeatureValue → List EdgeValue → List ℕ → Type 0
 IsEdgeListing links nodes edges listing = IsListing (edge_ends edges) (has (firm_edges links edges)) (λ v. nat_lt v (length nodes)) listing
 
@@ -42,7 +42,7 @@ abbrev pub AreListed : FeatureGraphValue → Type 0
 AreListed g = (v place : ℕ) (row : Package) → v < length g.nodes → IsAt g.rows (feature_at g v).package_id place → slice_get g.rows.packages place ≡ Some row → Contains (features_of row) (feature_at g v)
 
 -- the feature is a default one: from the `default` of its own package, or where that names none from the package itself, edges
--- lead to it that stand for a feature's package and for features enabled by name
+-- lead to it that stand for a feature's package and for features enabled by name (from guppy's `StandardFeatures`)
 pub record IsDefault (g : FeatureGraphValue) (v : ℕ) : Type 0 where
   pub within : v < length g.nodes
   pub leads : Reaches (edge_ends g.edges) (has (naming_edges g.edges)) (default_number g.nodes (feature_at g v).package_id) v

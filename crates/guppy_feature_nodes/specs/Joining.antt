@@ -17,6 +17,7 @@ abbrev pub key_eq : Key → Key → Bool
 key_eq = pair_eq (pair_eq nat_eq nat_eq) (pair_eq nat_eq text_eq)
 
 -- what joins in one edge of a pair: all that lead always; strong entries and lines; weak entries of one dependency
+-- (from guppy's `FeatureEdge`)
 abbrev pub join_sort : FormValue → ℕ × Text
 join_sort FeatureToBase = (0, [])
 join_sort NamedFeature = (0, [])
@@ -25,7 +26,7 @@ join_sort (StrongSlash name) = (1, [])
 join_sort DependenciesSection = (1, [])
 join_sort (WeakSlash name) = (2, name)
 
--- what others may give way to: what leads always, and strong entries of one dependency
+-- what others may give way to: what leads always, and strong entries of one dependency (from guppy's `FeatureEdge`)
 abbrev pub weight : FormValue → ℕ × Text
 weight FeatureToBase = (0, [])
 weight NamedFeature = (0, [])
@@ -35,6 +36,7 @@ weight (WeakSlash name) = (2, name)
 weight DependenciesSection = (3, [])
 
 -- what is conditional gives way to what leads always, and a weak entry to a strong one of its dependency too
+-- (from guppy's `FeatureEdge`)
 abbrev pub gives_way_to : FormValue → List (ℕ × Text)
 gives_way_to FeatureToBase = []
 gives_way_to NamedFeature = []
@@ -64,11 +66,11 @@ is_outweighed ds key = list_any (key_eq key) (map weight_key ds)
 abbrev pub is_dropped : List NumberedValue → NumberedValue → Bool
 is_dropped ds d = list_any (λ w. is_outweighed ds (ends_of d, w)) (gives_way_to d.form)
 
--- the first demand of each edge, without those that give way
+-- the first demand of each edge, without those that give way (from guppy's `FeatureEdge`)
 abbrev pub heads_of : List NumberedValue → List NumberedValue
 heads_of ds = filter (λ d. not (is_dropped ds d)) (first_of_each same_edge ds)
 
--- the lines of the demands that join so
+-- the lines of the demands that join so (from guppy's `FeatureEdge`)
 abbrev pub lines_joined : List NumberedValue → Key → List (ℕ × ℕ)
 lines_joined ds key = filter_map (λ d. d.line) (filter (λ d. key_eq key (join_key d)) ds)
 
@@ -88,7 +90,7 @@ pub record JoinedValue : Type 0 where
 abbrev pub HasLines : List NumberedValue → JoinedValue → Type 0
 HasLines ds e = HoldsEach place_eq place_cmp (lines_joined ds (join_key e.head)) e.lines
 
--- the edges that are joined from the demands, in the order of their first demands
+-- the edges that are joined from the demands, in the order of their first demands (from guppy's `FeatureEdge`)
 pub record AreJoined (ds : List NumberedValue) (edges : List JoinedValue) : Type 0 where
   pub heads : map (λ e. e.head) edges ≡ heads_of ds
   pub lines : All (HasLines ds) edges

@@ -32,14 +32,14 @@ sort_of d nodes links e ByStrongEntries = Conditional
 sort_of d nodes links e (ByWeakEntries dep) = weak_sort d nodes links e dep
 sort_of d nodes links e ByLines = Conditional
 
--- an edge as it is offered in a direction, where there are so many nodes
+-- an edge as it is offered in a direction, where there are so many nodes (from guppy's weak features)
 abbrev pub offer_edge : Direction → ℕ → List Link → EdgeValue → Edge
 offer_edge d nodes links e = record { from = e.from; to = e.to; sort = sort_of d nodes links e e.form }
 
 abbrev pub offer_edges : Direction → ℕ → List Link → List EdgeValue → List Edge
 offer_edges d nodes links edges = map (offer_edge d nodes links) edges
 
--- the edges of a graph as they are offered in a direction
+-- the edges of a graph as they are offered in a direction (from guppy's weak features)
 abbrev pub offers_of : Direction → FeatureGraphValue → List Edge
 offers_of d g = offer_edges d (length g.nodes) g.rows.links g.edges
 

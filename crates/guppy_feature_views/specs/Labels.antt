@@ -11,7 +11,7 @@ use Rattle.guppy_feature_demands.specs.declared.feature_kind.FeatureKind.TheVari
 abbrev pub Ascend : List LabelValue → Type 0
 Ascend labels = AllPairs (λ a b. label_cmp a b ≡ Less) labels
 
--- the labels that pass, each once, ascending
+-- the labels that pass, each once, ascending (from guppy's `FeatureList`)
 pub record AreLabels (passes : LabelValue → Type 0) (labels : List LabelValue) : Type 0 where
   pub ascending : Ascend labels
   pub each : (l : LabelValue) → Contains labels l ↔ passes l
@@ -30,7 +30,7 @@ name_by kind.OptionalDependency (Dep name) = Some name
 abbrev pub names_of : FeatureKind → List LabelValue → List Text
 names_of kind labels = filter_map (name_by kind) labels
 
--- the labels of a package's features: itself, those that it names, and its optional dependencies
+-- the labels of a package's features: itself, those that it names, and its optional dependencies (from guppy's `FeatureList`)
 abbrev pub labels_of : Package → List LabelValue
 labels_of p = Base ∷ (map (λ f. Named f.name) p.features ++ map Dep p.optional)
 

@@ -18,14 +18,14 @@ pub record CyclesValue : Type 0 where
   pub graph : TableValue
   pub cycles : List (List ℕ)
 
--- at least one link leads from the one node to the other
+-- at least one link leads from the one node to the other (from guppy's `is_cyclic`)
 pub record Walks (links : List Link) (a b : ℕ) : Type 0 where
   pub link : ℕ
   pub within : link < length links
   pub there : Reaches links any_link a (link_at links link).from
   pub on : Reaches links any_link (link_at links link).to b
 
--- at least one link leads from the one node to the other, and back
+-- at least one link leads from the one node to the other, and back (from guppy's `is_cyclic`)
 pub record AreCyclic (links : List Link) (a b : ℕ) : Type 0 where
   pub there : Walks links a b
   pub back : Walks links b a

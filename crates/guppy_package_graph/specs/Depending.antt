@@ -12,7 +12,7 @@ abbrev pub FindsPair : TableValue → Text → Text → Result (ℕ × ℕ) Erro
 FindsPair g a b (Ok places) = IsAt g a places.0 × IsAt g b places.1 × (places.0 < length g.packages) × (places.1 < length g.packages)
 FindsPair g a b (Err error) = (IsUnknown g a ⊎ IsUnknown g b) × (error ≡ UnknownPackageId)
 
--- both packages are known, and the answer says whether a path leads from the one to the other
+-- both packages are known, and the answer says whether a path leads from the one to the other (from guppy's `depends_on`)
 pub record SaysReaches (g : TableValue) (a b : Text) (answer : Bool) : Type 0 where
   pub from : ℕ
   pub to : ℕ
@@ -24,7 +24,7 @@ abbrev pub AnswersDepending : TableValue → Text → Text → Result Bool Error
 AnswersDepending g a b (Ok answer) = SaysReaches g a b answer
 AnswersDepending g a b (Err error) = (error ≡ Memory) ⊎ ((IsUnknown g a ⊎ IsUnknown g b) × (error ≡ UnknownPackageId))
 
--- some link leads from the one node to the other
+-- some link leads from the one node to the other (from guppy's `depends_on`)
 pub record HasLink (g : TableValue) (from to : ℕ) : Type 0 where
   pub number : ℕ
   pub within : number < length g.links

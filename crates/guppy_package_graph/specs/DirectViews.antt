@@ -13,7 +13,7 @@ use Rattle.guppy_package_graph.specs.declared.package_link.PackageLink.{PackageL
 abbrev pub links_from : List Link → Direction → ℕ → ℕ → List ℕ
 links_from links d place at = filter (λ j. near_at d links j == place) (range_with_len at (length links - at))
 
--- all of them
+-- all of them (from guppy's `direct_links`)
 abbrev pub links_of_place : List Link → Direction → ℕ → List ℕ
 links_of_place links d place = links_from links d place 0
 

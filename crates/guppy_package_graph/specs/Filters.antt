@@ -10,7 +10,7 @@ use Rattle.guppy_package_graph.specs.Views.{graph_of, place_of}
 use Rattle.guppy_package_graph.specs.Visits.{Chain}
 use Rattle.guppy_package_graph.specs.declared.package_metadata.PackageMetadata.{PackageMetadata}
 
--- the callback is called with the package at a place, and answers
+-- the callback is called with the package at a place, and answers (from guppy's `filter`, `partition`)
 pub record AsksPackage {F A : Type 0} (call : Mut F (PackageMetadata × Unit {0}) A) (g : TableValue) (f : F) (v : ℕ) (answer : A) (next : F) : Type 0 where
   pub metadata : PackageMetadata
   pub of_graph : graph_of metadata ≡ g
@@ -18,6 +18,7 @@ pub record AsksPackage {F A : Type 0} (call : Mut F (PackageMetadata × Unit {0}
   pub called : Called call f (metadata, tt) answer next
 
 -- the callback is asked about each package of the set once, in the order in which the set is listed
+-- (from guppy's `filter`, `partition`)
 pub record AreAsked {F A : Type 0} (call : Mut F (PackageMetadata × Unit {0}) A) (s : SetValue) (direction : DependencyDirection) (first : F) (asked : List (ℕ × A)) (last : F) : Type 0 where
   pub each : map (λ a. a.0) asked ≡ in_direction (direction_of direction) (listed s)
   pub chain : Chain (AsksPackage call s.graph) first asked last

@@ -7,7 +7,7 @@ use Rattle.guppy_package_table.specs.Tables.{id_at}
 use Rattle.guppy_package_graph.specs.Views.{graph_of, place_of}
 use Rattle.guppy_package_graph.specs.declared.package_metadata.PackageMetadata.{PackageMetadata}
 
--- the id of a package
+-- the id of a package (from guppy's `PackageMetadata`)
 abbrev pub id_of : PackageMetadata → Text
 id_of m = id_at (graph_of m) (place_of m)
 

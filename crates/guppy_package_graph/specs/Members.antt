@@ -50,6 +50,7 @@ FindsCalled g name (Err error) = IsUnknownName g name × (error ≡ UnknownWorks
 abbrev pub IsAtOneOf : TableValue → List Text → ℕ → Type 0
 IsAtOneOf g paths v = Any (λ path. IsAtPath g path v) paths
 
+-- a member has one of the names
 abbrev pub IsCalledOneOf : TableValue → List Text → ℕ → Type 0
 IsCalledOneOf g names v = Any (λ name. IsCalled g name v) names
 
@@ -64,5 +65,6 @@ AreNamesKnown g names = All (λ name. (v : ℕ) × IsCalled g name v) names
 abbrev pub IsMissingPath : TableValue → List Text → Error → Type 0
 IsMissingPath g paths error = (error ≡ Memory) ⊎ ((error ≡ UnknownWorkspacePath) × Any (IsUnknownPath g) paths)
 
+-- no member has one of the names
 abbrev pub IsMissingName : TableValue → List Text → Error → Type 0
 IsMissingName g names error = (error ≡ Memory) ⊎ ((error ≡ UnknownWorkspaceName) × Any (IsUnknownName g) names)

@@ -9,7 +9,7 @@ use Rattle.guppy_package_graph.specs.Queries.{QueryValue}
 use Rattle.guppy_package_graph.specs.SetValues.{SetValue}
 
 -- each link that leaves an included package is shown exactly once and no other, and the packages that accepted links
--- lead to from the initials are included, and no other
+-- lead to from the initials are included, and no other (from guppy's resolves)
 pub record IsResolved (q : QueryValue) (shown : Shown) (included : List Bool) : Type 0 where
   pub shows : IsShowing (direction_of q.direction) (numbered_links q.graph) q.initials shown
   pub sized : length included ≡ length q.graph.packages
@@ -19,7 +19,7 @@ pub record IsResolved (q : QueryValue) (shown : Shown) (included : List Bool) : 
 abbrev pub shown_to : QueryValue → Shown → List ((QueryValue × ℕ) × Bool)
 shown_to q shown = map (λ (s : ℕ × Bool). ((q, s.0), s.1)) shown
 
--- the packages of the set are those that links lead to from the initials, in the query's direction
+-- the packages of the set are those that links lead to from the initials, in the query's direction (from guppy's resolves)
 pub record IsReachOf (q : QueryValue) (s : SetValue) : Type 0 where
   pub graph : s.graph ≡ q.graph
   pub members : (v : ℕ) → IsTrue (has s.included v) ↔ IsReached (direction_of q.direction) (numbered_links q.graph) any_link q.initials v

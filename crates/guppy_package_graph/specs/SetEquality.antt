@@ -20,7 +20,7 @@ abbrev pub is_in : List Bool → Option ℕ → Bool
 is_in included None = false
 is_in included (Some place) = has included place
 
--- whether the package with an id is in the set
+-- whether the package with an id is in the set (from guppy's `PackageSet`, told by ids in place of places)
 abbrev pub has_id : SetValue → Text → Bool
 has_id s id = is_in s.included (position (bytes_eq id) (ids_of s.graph.packages))
 
@@ -28,11 +28,11 @@ has_id s id = is_in s.included (position (bytes_eq id) (ids_of s.graph.packages)
 abbrev pub agree_on : SetValue → SetValue → Text → Bool
 agree_on s t id = beq (has_id s id) (has_id t id)
 
--- whether each id of the one graph and of the other is
+-- whether each id of the one graph and of the other is (from guppy's `PackageSet`, told by ids in place of places)
 abbrev pub have_same_ids : SetValue → SetValue → Bool
 have_same_ids s t = list_all (agree_on s t) (ids_of s.graph.packages) && list_all (agree_on s t) (ids_of t.graph.packages)
 
--- each id whatever is in both sets or in neither
+-- each id whatever is in both sets or in neither (from guppy's `PackageSet`, told by ids in place of places)
 abbrev pub HaveSameIds : SetValue → SetValue → Type 0
 HaveSameIds s t = (id : Text) → has_id s id ≡ has_id t id
 

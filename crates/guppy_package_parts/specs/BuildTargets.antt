@@ -21,7 +21,7 @@ pub data BuiltAs : Type 0 where
   ProcMacro : BuiltAs
   ABinary : BuiltAs
 
--- the id of a target of this kind and name
+-- the id of a target of this kind and name (from Cargo's reference, "Cargo Targets"; guppy's `BuildTargetKind`)
 abbrev pub id_of : TargetKind → Text → TargetId
 id_of target.Lib name = Library
 id_of target.ProcMacro name = Library
@@ -45,6 +45,7 @@ abbrev pub is_more_than_binary : List Text → Bool
 is_more_than_binary crate_types = list_any (λ name. not (bytes_eq (codes "bin") name)) crate_types
 
 -- what a target of this kind with these crate types is built as
+-- (from Cargo's reference, "Cargo Targets"; guppy's `BuildTargetKind`)
 abbrev pub built_as : TargetKind → List Text → BuiltAs
 built_as target.Lib crate_types = LibraryOrExample crate_types
 built_as target.ProcMacro crate_types = ProcMacro

@@ -12,7 +12,7 @@ abbrev pub put_among : List Text → List Text → List Text
 put_among sorted [] = sorted
 put_among sorted (name ∷ names) = put_among (insert_key text_cmp sorted name) names
 
--- the names in ascending order, each once
+-- the names in ascending order, each once (from guppy's `features`)
 abbrev pub each_once : List Text → List Text
 each_once names = put_among [] names
 
@@ -21,6 +21,7 @@ abbrev pub listed : List Line → List Text
 listed lines = flat_map (λ line. line.features) lines
 
 -- the features that required lines list, and then those that optional ones do, each half in ascending order and each name once in it
+-- (from guppy's `features`)
 abbrev pub features_of : List Line → List Text
 features_of lines = each_once (listed (filter is_required lines)) ++ each_once (listed (filter is_optional lines))
 

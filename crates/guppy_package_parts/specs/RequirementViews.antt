@@ -7,7 +7,7 @@ use Rattle.guppy_package_parts.specs.StatusViews.{status_view}
 use Rattle.guppy_package_parts.specs.declared.dependency_req.DependencyReq.{DependencyReq}
 use Rattle.guppy_package_parts.specs.declared.dependency_req.EnabledStatus.{EnabledStatus}
 
--- the lines of the kind
+-- the lines of the kind (from guppy's `DependencyReq`)
 abbrev pub requirement_lines : DependencyReq → List Line
 requirement_lines req = filter (is_kind req.kind) req.lines.now
 
@@ -18,7 +18,7 @@ required_value status = status_view status.required
 abbrev pub optional_value : EnabledStatus → StatusValue
 optional_value status = status_view status.optional
 
--- the statuses of the required ones of these lines, and of the optional ones
+-- the statuses of the required ones of these lines, and of the optional ones (from guppy's `DependencyReq`)
 pub record HasStatus (lines : List Line) (status : EnabledStatus) : Type 0 where
   pub required : IsStatusOf (specs_of (filter is_required lines)) (required_value status)
   pub optional : IsStatusOf (specs_of (filter is_optional lines)) (optional_value status)

@@ -9,7 +9,7 @@ use Rattle.std.proofs.Common.{refl}
 use Rattle.std.specs.declared.cmp.Ordering.{Ordering}
 use Rattle.workspace_record.specs.Records.{Text}
 
--- sorted has these elements alone, one equal to each of them, and each is below the next
+-- sorted has these elements alone, one equal to each of them, and each is below the next (from guppy's `SortedSet`)
 pub record HoldsEach {T : Type 0} (eq : T → T → Bool) (cmp : T → T → Ordering) (elements sorted : List T) : Type 0 where
   pub among : (x : T) → Contains sorted x → Contains elements x
   pub each : (x : T) → Contains elements x → Any (λ y. eq x y ≡ true) sorted

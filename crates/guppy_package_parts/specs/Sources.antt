@@ -46,7 +46,7 @@ last_split mark (byte ∷ text) = option_or (one_before byte (last_split mark te
 abbrev pub asked_by : Text → (Text → GitRequest) → Text → Option (Text × GitRequest)
 asked_by mark request text = option_map (λ p. (p.0, request p.1)) (first_split mark text)
 
--- a repository, and what is asked of it: a branch, else a tag, else a revision, else its default branch
+-- a repository, and what is asked of it: a branch, else a tag, else a revision, else its default branch (from guppy's `GitReq`)
 abbrev pub git_request : Text → Text × GitRequest
 git_request text =
     unwrap_or (option_or (asked_by (codes "?branch=") Branch text) (option_or (asked_by (codes "?tag=") Tag text) (asked_by (codes "?rev=") Rev text))) (text, Default)
@@ -58,7 +58,7 @@ git_of asked commit = Git asked.0 asked.1 commit
 abbrev pub git_source : Text → Option ExternalValue
 git_source text = option_map (λ p. git_of (git_request p.0) p.1) (last_split (codes "#") text)
 
--- how Cargo reads an external source
+-- how Cargo reads an external source (from Cargo's package id specifications; guppy's `ExternalSource`)
 abbrev pub external_of : Text → Option ExternalValue
 external_of text =
     if starts_with nat_eq text (codes "registry+") then Some (Registry (drop 9 text)) else (if starts_with nat_eq text (codes "sparse+") then Some (Sparse (drop 7 text)) else (if starts_with nat_eq text (codes "git+") then git_source (drop 4 text) else None))
@@ -70,7 +70,7 @@ request_text (Tag name) = codes "?tag=" ++ name
 request_text (Rev name) = codes "?rev=" ++ name
 request_text Default = []
 
--- how Cargo writes an external source
+-- how Cargo writes an external source (from Cargo's package id specifications; guppy's `ExternalSource`)
 abbrev pub external_text : ExternalValue → Text
 external_text (Registry registry) = codes "registry+" ++ registry
 external_text (Sparse registry) = codes "sparse+" ++ registry

@@ -20,7 +20,7 @@ spec_answer AskedAlways (Some spec) = Disabled
 spec_answer AskedAny (Some spec) = Enabled
 spec_answer (AskedPlatforms answers) (Some spec) = greatest (map (λ answer. ternary_of (answer spec)) answers)
 
--- the value of a status: the greatest answer to the specs of its lines
+-- the value of a status: the greatest answer to the specs of its lines (from guppy's `PlatformStatus`)
 abbrev pub status_of : Asked → List (Option Text) → EnabledTernary
 status_of asked specs = greatest (map (spec_answer asked) specs)
 
@@ -59,7 +59,7 @@ abbrev pub status_of_given : List Text → StatusValue
 status_of_given [] = IsNever
 status_of_given (spec ∷ specs) = Depends (spec ∷ specs)
 
--- the status of lines with these specs: Never where there is no line, Always where a line has no spec
+-- the status of lines with these specs: Never where there is no line, Always where a line has no spec (from guppy's documents)
 abbrev pub status_from : List (Option Text) → StatusValue
 status_from specs = if list_any is_none specs then IsAlways else status_of_given (given specs)
 
@@ -69,7 +69,7 @@ kept_specs IsNever = []
 kept_specs IsAlways = None ∷ []
 kept_specs (Depends specs) = map Some specs
 
--- the status is the one of lines with these specs, and has their value on every platform
+-- the status is the one of lines with these specs, and has their value on every platform (from guppy's documents)
 pub record IsStatusOf (specs : List (Option Text)) (status : StatusValue) : Type 0 where
   pub variant : status ≡ status_from specs
   pub value : (asked : Asked) → status_of asked (kept_specs status) ≡ status_of asked specs

@@ -9,15 +9,15 @@ rank_of Disabled = 0
 rank_of Unknown = 1
 rank_of Enabled = 2
 
--- the one of the lower rank
+-- the one of the lower rank (from guppy's `EnabledTernary`)
 abbrev pub lesser : EnabledTernary → EnabledTernary → EnabledTernary
 lesser a b = if nat_le (rank_of a) (rank_of b) then a else b
 
--- the one of the higher rank
+-- the one of the higher rank (from guppy's `EnabledTernary`)
 abbrev pub greater : EnabledTernary → EnabledTernary → EnabledTernary
 greater a b = if nat_le (rank_of a) (rank_of b) then b else a
 
--- the one of the highest rank, and Disabled where there is none
+-- the one of the highest rank, and Disabled where there is none (from guppy's `EnabledTernary`)
 abbrev pub greatest : List EnabledTernary → EnabledTernary
 greatest [] = Disabled
 greatest (x ∷ xs) = greater x (greatest xs)

@@ -21,7 +21,7 @@ IsPackageId packages id = Any (λ p. p.id ≡ id) packages
 abbrev pub IsMemberId : WorkspaceDetails → Text → Type 0
 IsMemberId workspace id = Any (λ m. m.package_id ≡ id) workspace.members
 
--- the rows keep the rules on packages, links and members
+-- the rows keep the rules on packages, links and members (from Cargo's metadata)
 pub record AreKept (packages : List Package) (links : List Link) (workspace : WorkspaceDetails) : Type 0 where
   pub ids_apart : AllPairs (λ a b. a.id ≢ b.id) packages
   pub versions_read : All (λ p. IsVersion p.version) packages

@@ -66,6 +66,7 @@ earlier (Some a) None = Some a
 earlier (Some a) (Some b) = Some (min a b)
 
 -- the first place at which these rows break the rule; rules on features, binaries, groups and filters are not told from such rows
+-- (from Cargo's metadata)
 abbrev pub first_broken : List Package → List Link → WorkspaceDetails → RecordRule → Option ℕ
 first_broken packages links workspace PackageIds = first_repeat bytes_eq (map (λ p. p.id) packages)
 first_broken packages links workspace Versions = position (λ p. not (is_version p.version)) packages
@@ -87,19 +88,20 @@ first_broken packages links workspace RequiredFeatures = None
 first_broken packages links workspace Groups = None
 first_broken packages links workspace Filters = None
 
--- the rules on links, but for that on requirements
+-- the rules on links, but for that on requirements (from Cargo's metadata)
 abbrev pub link_rules : List RecordRule
 link_rules = LinkEnds ∷ (LinkNames ∷ (LinkLines ∷ []))
 
--- the rules on members and default members, and that on targets
+-- the rules on members and default members, and that on targets (from Cargo's metadata)
 abbrev pub member_rules : List RecordRule
 member_rules = Members ∷ (MemberNames ∷ (MemberPaths ∷ (DefaultMembers ∷ (Targets ∷ []))))
 
--- the rules on packages, links and members in the order in which they are tested
+-- the rules on packages, links and members in the order in which they are tested (from Cargo's metadata)
 abbrev pub package_rules : List RecordRule
 package_rules = PackageIds ∷ (Versions ∷ (link_rules ++ (Requirements ∷ member_rules)))
 
 -- the first of the rules that is broken, and the first place that breaks it, where each rule has the place given for it
+-- (from Cargo's metadata)
 abbrev pub first_fault : (RecordRule → Option ℕ) → List RecordRule → Option (RecordRule × ℕ)
 first_fault place_of [] = None
 first_fault place_of (rule ∷ rules) = option_map_or (λ place. Some (rule, place)) (place_of rule) (first_fault place_of rules)

@@ -9,10 +9,10 @@ use Rattle.guppy_package_parts.specs.Lines.{is_kind}
 abbrev pub char_in_rust : ℕ → ℕ
 char_in_rust c = if nat_eq c 45 then 95 else c
 
--- the name with each `-` as `_`
+-- the name with each `-` as `_` (from guppy's `resolved_name`, `dev_only`)
 abbrev pub name_in_rust : Text → Text
 name_in_rust name = map char_in_rust name
 
--- no line is normal or build
+-- no line is normal or build (from guppy's `resolved_name`, `dev_only`)
 abbrev pub is_dev_only : Link → Bool
 is_dev_only link = list_all (is_kind Dev) link.lines

@@ -23,18 +23,18 @@ name_at t v = unwrap_or (option_map (λ p. p.name) (slice_get t.packages v)) []
 abbrev pub order_by : (Text → Text → Ordering) → (ℕ → Text) → ℕ → ℕ → Ordering
 order_by cmp read u v = cmp (read u) (read v)
 
--- the members, ascending by the components of their paths
+-- the members, ascending by the components of their paths (from guppy's `Workspace`)
 abbrev pub AreByPath : TableValue → List ℕ → Type 0
 AreByPath t places = IsAscendingOf (order_by path_cmp (path_at t)) (member_places t) places × All (λ v. v < length t.packages) places
 
--- the members, ascending by the names of their packages
+-- the members, ascending by the names of their packages (from guppy's `Workspace`)
 abbrev pub AreByName : TableValue → List ℕ → Type 0
 AreByName t places = IsAscendingOf (order_by text_cmp (name_at t)) (member_places t) places × All (λ v. v < length t.packages) places
 
--- the member with a path, component by component
+-- the member with a path, component by component (from guppy's `Workspace`)
 abbrev pub member_at_path : TableValue → Text → Option ℕ
 member_at_path t path = find (λ v. eq_by_cmp path_cmp (path_at t v) path) (member_places t)
 
--- the member with a name
+-- the member with a name (from guppy's `Workspace`)
 abbrev pub member_called : TableValue → Text → Option ℕ
 member_called t name = find (λ v. eq_by_cmp text_cmp (name_at t v) name) (member_places t)

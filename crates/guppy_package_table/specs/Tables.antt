@@ -32,10 +32,11 @@ link_between ids l = record { from = place_among ids l.from; to = place_among id
 abbrev pub links_among : List Package → List Link → List numbered.Link
 links_among packages links = map (link_between (ids_of packages)) links
 
+-- the links between the places of packages (from guppy's topological order)
 abbrev pub numbered_links : TableValue → List numbered.Link
 numbered_links t = links_among t.packages t.links
 
--- a flag for each link: whether it has a normal or a build line
+-- a flag for each link: whether it has a normal or a build line (from guppy's topological order)
 abbrev pub firm_flags : List Link → List Bool
 firm_flags links = map (λ l. not (is_dev_only l)) links
 
@@ -64,11 +65,11 @@ pub record IsBetween (from to : ℕ) (links : List numbered.Link) (j : ℕ) : Ty
   pub near : (link_at links j).from ≡ from
   pub far : (link_at links j).to ≡ to
 
--- no link before `upto` does
+-- no link before `upto` does (from guppy's `link_between`)
 abbrev pub IsClear : ℕ → ℕ → List numbered.Link → ℕ → Type 0
 IsClear from to links upto = (k : ℕ) → k < upto → ¬ IsBetween from to links k
 
--- the first link that leads from the one node to the other
+-- the first link that leads from the one node to the other (from guppy's `link_between`)
 pub record IsFirstBetween (from to : ℕ) (links : List numbered.Link) (j : ℕ) : Type 0 where
   pub within : j < length links
   pub between : IsBetween from to links j

@@ -5,11 +5,11 @@ use Rattle.workspace_record.specs.declared.kinds.TargetKind.{TargetKind}
 use Rattle.workspace_record.specs.declared.kinds.TargetKind.TheVariants as kind
 use Rattle.guppy_package_parts.specs.BuildTargets.{TargetId, id_of}
 
--- the target is called so
+-- the target is called so (from guppy's `build_target`)
 abbrev pub HasId : TargetId → Target → Type 0
 HasId id t = id_of t.kind t.name ≡ id
 
--- the first target that is called so
+-- the first target that is called so (from guppy's `build_target`)
 pub record IsFirstWith (id : TargetId) (targets : List Target) (target : Target) : Type 0 where
   pub place : ℕ
   pub here : slice_get targets place ≡ Some target

@@ -4,6 +4,8 @@
 #![tactic(auto)]
 
 #[cfg(test)]
+mod example;
+#[cfg(test)]
 mod files;
 #[cfg(test)]
 mod filters;

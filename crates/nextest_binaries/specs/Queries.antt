@@ -4,7 +4,7 @@ use Rattle.nextest_binaries.specs.declared.build_platform.BuildPlatform.{BuildPl
 use Rattle.nextest_binaries.specs.declared.queries.BinaryQuery.{BinaryQuery}
 use Rattle.nextest_binaries.specs.declared.queries.TestQuery.{TestQuery}
 
--- a binary: its package's id, its own id, its target's name, its kind and its platform
+-- a binary: its package's id, its own id, its target's name, its kind and its platform (from nextest)
 pub record Binary : Type 0 where
   pub package_id : Text
   pub id : Text
@@ -12,7 +12,7 @@ pub record Binary : Type 0 where
   pub kind : Text
   pub platform : BuildPlatform
 
--- a test: its binary and its name
+-- a test: its binary and its name (from nextest)
 pub record Test : Type 0 where
   pub binary : Binary
   pub name : Text

@@ -34,6 +34,7 @@ leaf_of code.Default = Default
 leaf_of code.All = All
 leaf_of code.None = None
 
+-- a compiled filter as a plain value (from nextest)
 abbrev pub compiled_of : CompiledExpr → Formula Leaf
 compiled_of (Not' p x) = negation (compiled_of x)
 compiled_of (Union' p x q y) = either (compiled_of x) (compiled_of y)

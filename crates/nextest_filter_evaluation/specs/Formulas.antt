@@ -1,6 +1,7 @@
 -- Propositions over leaves of any sort: whether they hold, and which values answers to their leaves give them.
 use Rattle.std.specs.Prelude.{◌≡◌, ◌⊎◌, Bool, ◌||◌, ◌&&◌, not, List, [], ◌∷◌, ◌++◌}
 
+-- a proposition over leaves of any sort (from nextest's `matches_binary`)
 pub data Formula (L : Type 0) : Type 0 where
   negation : Formula L → Formula L
   either : Formula L → Formula L → Formula L
@@ -29,7 +30,7 @@ module _ {L : Type 0} where
   EachLeaf rule (both a b) = EachLeaf rule a × EachLeaf rule b
   EachLeaf rule (leaf l) = rule l
 
-  -- the formula holds, where it is said which leaves do
+  -- the formula holds, where it is said which leaves do (from nextest's `matches_binary`)
   abbrev pub Holds : (L → Type 0) → Formula L → Type 0
   Holds holds (negation a) = Holds holds a → ⊥
   Holds holds (either a b) = Holds holds a ⊎ Holds holds b
@@ -37,12 +38,13 @@ module _ {L : Type 0} where
   Holds holds (leaf l) = holds l
 
   -- some answers give the formula the value, where it is said which values each leaf may take, each occurrence apart
+  -- (from nextest's `matches_binary`)
   abbrev pub SomeAnswersGive : (L → Bool → Type 0) → Formula L → Bool → Type 0
   SomeAnswersGive gives (negation a) v = SomeAnswersGive gives a (not v)
   SomeAnswersGive gives (either a b) v = (x : Bool) × (y : Bool) × SomeAnswersGive gives a x × SomeAnswersGive gives b y × ((x || y) ≡ v)
   SomeAnswersGive gives (both a b) v = (x : Bool) × (y : Bool) × SomeAnswersGive gives a x × SomeAnswersGive gives b y × ((x && y) ≡ v)
   SomeAnswersGive gives (leaf l) v = gives l v
 
-  -- no answers give the other value
+  -- no answers give the other value (from nextest's `matches_binary`)
   abbrev pub AllAnswersGive : (L → Bool → Type 0) → Formula L → Bool → Type 0
   AllAnswersGive gives f v = SomeAnswersGive gives f (not v) → ⊥

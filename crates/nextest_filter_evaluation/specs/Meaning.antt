@@ -22,7 +22,7 @@ LeafHolds member default t None = ⊥
 abbrev pub DefaultHolds : Formula Leaf → asked.Test → Type 0
 DefaultHolds default t = Holds (LeafHolds (λ _. ⊥) ⊥ t) default
 
--- the compiled filter holds of the test
+-- the compiled filter holds of the test (from nextest)
 abbrev pub Passes : Formula Leaf → (NameTest → Type 0) → asked.Test → Formula Leaf → Type 0
 Passes default member t f = Holds (LeafHolds member (DefaultHolds default t) t) f
 
@@ -48,6 +48,6 @@ LeafGives default b None v = Gives ⊥ v
 abbrev pub DefaultGives : Formula Leaf → asked.Binary → Bool → Type 0
 DefaultGives default b v = SomeAnswersGive (LeafGives (λ _. Unit {0}) b) default v
 
--- the values that a leaf may take, where this is the default filter
+-- the values that a leaf may take, where this is the default filter (from nextest)
 abbrev pub MayBe : Formula Leaf → asked.Binary → Leaf → Bool → Type 0
 MayBe default b = LeafGives (DefaultGives default b) b

@@ -12,12 +12,14 @@ use Rattle.nextest_filter_matchers.specs.declared.name_matcher.NameMatcher.{Name
 use Rattle.nextest_filter_matchers.specs.declared.name_matcher.NameMatcher.TheVariants as name
 
 -- a matcher with what it looks for: of a glob its tokens beside its text, of a pattern what `regex` made of its text
+-- (from nextest's filtersets)
 pub data NameTest : Type 0 where
   EqualTo : Text → Bool → NameTest
   Containing : Text → Bool → NameTest
   OfGlob : Text → spec.Glob → Bool → NameTest
   OfPattern : Text → Re → NameTest
 
+-- what a matcher looks for (from nextest's filtersets)
 abbrev pub name_test : NameMatcher → NameTest
 name_test (name.Equal value implicit) = EqualTo (string_bytes value) implicit
 name_test (name.Contains value implicit) = Containing (string_bytes value) implicit
@@ -30,14 +32,14 @@ is_pattern (Containing value implicit) = false
 is_pattern (OfGlob text glob implicit) = false
 is_pattern (OfPattern text pattern) = true
 
--- the name is the text, contains it, matches the glob, or has the pattern in it
+-- the name is the text, contains it, matches the glob, or has the pattern in it (from nextest's filtersets)
 abbrev pub Suits : NameTest → Text → Type 0
 Suits (EqualTo value implicit) n = value ≡ n
 Suits (Containing value implicit) n = HasSubslice n value
 Suits (OfGlob text glob implicit) n = GlobMatches glob (chars n)
 Suits (OfPattern text pattern) n = IsTrue (is_some (find_str pattern n 0))
 
--- one of the names suits
+-- one of the names suits (from nextest's filtersets)
 pub record SuitsOneOf (test : NameTest) (names : List Text) : Type 0 where
   pub name : Text
   pub listed : Contains names name

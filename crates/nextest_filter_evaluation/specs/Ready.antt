@@ -25,6 +25,7 @@ pub data Question : Type 0 where
   HasPattern : ℕ → Question
   IsGrouped : List Bool → Question
 
+-- what is ready, as a plain value
 abbrev pub ready_of : ReadyExpr → Formula Question
 ready_of (Known value) = leaf (Answered value)
 ready_of (Not' p x) = negation (ready_of x)

@@ -35,10 +35,12 @@ ends_in_backslash [] = false
 ends_in_backslash (c ∷ []) = nat_eq c 92
 ends_in_backslash (c ∷ (d ∷ pattern)) = ends_in_backslash (d ∷ pattern)
 
+-- it does not end in a backslash and has no slash straight after one that escapes
 pub record IsPrintablePattern (pattern : List ℕ) : Type 0 where
   pub slashes : has_escaped_slash false (chars pattern) ≡ false
   pub last : ends_in_backslash (chars pattern) ≡ false
 
+-- without a sign it is of its leaf's default sort and begins with no space and no sign
 abbrev pub IsPrintableMatcher : Predicate → Matcher → Type 0
 IsPrintableMatcher predicate (Equal text implicit) = IsPrintableText style.Equal predicate text implicit
 IsPrintableMatcher predicate (Contains text implicit) = IsPrintableText style.Contains predicate text implicit

@@ -53,7 +53,7 @@ abbrev pub dash_range : Bool → List (ℕ × ℕ)
 dash_range true = (45, 45) ∷ []
 dash_range false = []
 
--- a class after its bracket and its sign
+-- a class after its bracket and its sign (after globset's documents)
 pub record IsClass (ranges : List (ℕ × ℕ)) (text rest : List ℕ) : Type 0 where
   pub written : List Range
   pub dash : Bool
@@ -61,7 +61,7 @@ pub record IsClass (ranges : List (ℕ × ℕ)) (text rest : List ℕ) : Type 0 
   pub spelled : text ≡ flat_map range_text written ++ (dash_text dash ++ 93 ∷ rest)
   pub meant : ranges ≡ map range_of written ++ dash_range dash
 
--- a class that nothing closes
+-- a class that nothing closes (after globset's documents)
 pub record IsUnclosed (text : List ℕ) : Type 0 where
   pub written : List Range
   pub dash : Bool
@@ -73,7 +73,7 @@ abbrev pub first_of_last : ℕ → List Range → ℕ
 first_of_last first [] = first
 first_of_last first (range ∷ ranges) = first_of_last range.first ranges
 
--- a class whose last range is drawn to a character below its first
+-- a class whose last range is drawn to a character below its first (after globset's documents)
 pub record IsMisdrawn (text : List ℕ) : Type 0 where
   pub written : List Range
   pub to : ℕ
@@ -114,6 +114,7 @@ abbrev pub LastUpTo : (List ℕ → Type 0) → List ℕ → Type 0
 LastUpTo Rest rest = (c : ℕ) × (c ≡ 44 → ⊥) × Rest (c ∷ rest)
 
 -- what stands at the beginning of a text up to a rest reads as the glob: tokens and groups one after another, or the alternates of a group
+-- (after globset's documents)
 abbrev pub ReadsGlob : Glob → Part → List ℕ → List ℕ → Type 0
 ReadsGlob Empty (Tokens front inside) text rest = EndsTokens inside (piece_of front text) text rest
 ReadsGlob Empty Alternates text rest = LastUpTo (EndsTokens true (piece_of false text) text) rest
@@ -137,7 +138,7 @@ IsFault false (Closes text) error = error ≡ UnopenedAlternates
 IsFault inside (Fails fault) error = error ≡ fault
 IsFault inside piece error = ⊥
 
--- behind what reads as this beginning of a glob the text cannot be read on, for this reason
+-- behind what reads as this beginning of a glob the text cannot be read on, for this reason (after globset's documents)
 abbrev pub IsRefused : Glob → Part → List ℕ → GlobError → Type 0
 IsRefused Empty (Tokens front inside) text error = IsFault inside (piece_of front text) error
 IsRefused Empty Alternates text error = IsFault true (piece_of false text) error

@@ -16,6 +16,7 @@ last_ranges low high true = (low, high) ∷ ((45, 45) ∷ [])
 last_ranges low high _ = (low, high) ∷ []
 
 -- the rest of a class, after its ranges so far, the last range, and whether a `-` follows it that may draw it on
+-- (after globset's documents)
 abbrev pub class_rest : List (ℕ × ℕ) → ℕ → ℕ → Bool → List ℕ → ClassOutcome
 class_rest ranges low high drawn [] = BadClass UnclosedClass
 class_rest ranges low high drawn (c ∷ text) =
@@ -59,7 +60,7 @@ abbrev pub past_directories : List ℕ → List ℕ
 past_directories (a ∷ (b ∷ (c ∷ text))) = if nat_eq a 42 && nat_eq b 42 && nat_eq c 47 then past_directories text else a ∷ (b ∷ (c ∷ text))
 past_directories text = text
 
--- what begins a text, at the front of the glob or not
+-- what begins a text, at the front of the glob or not (after globset's documents)
 abbrev pub piece_of : Bool → List ℕ → Piece
 piece_of front text =
     if front && starts_with nat_eq text (codes "**/") then Stands LeadingDirectories (past_directories (drop 3 text)) else (if starts_with nat_eq text (codes "/**/") then Stands InnerDirectories (past_directories (drop 4 text)) else (if nat_eq (length text) 3 && starts_with nat_eq text (codes "/**") then Stands TrailingDirectories [] else first_piece text))
@@ -114,6 +115,6 @@ abbrev pub glob_from : Outcome → Result Glob GlobError
 glob_from (Reads glob text) = Ok glob
 glob_from (Refuses error) = Err error
 
--- the glob that a text reads as, or why it is none: each token is a character or more
+-- the glob that a text reads as, or why it is none: each token is a character or more (after globset's documents)
 abbrev pub read_glob : List ℕ → Result Glob GlobError
 read_glob text = glob_from (read_part (2 * length text + 1) (Tokens true false) text)

@@ -56,7 +56,7 @@ module _ (text : List ℕ) where
   abbrev pub IsDirectories : ℕ → ℕ → Type 0
   IsDirectories i j = (i ≡ j) ⊎ ((m : ℕ) × IsText i m × IsSlash m j)
 
-  -- what suits a token
+  -- what suits a token (after globset's documents)
   abbrev pub SuitsToken : Token → ℕ → ℕ → Type 0
   SuitsToken (One set) i j = IsOne set i j
   SuitsToken AnyText i j = IsText i j
@@ -64,14 +64,14 @@ module _ (text : List ℕ) where
   SuitsToken InnerDirectories i j = (m : ℕ) × IsSlash i m × IsDirectories m j
   SuitsToken TrailingDirectories i j = (m : ℕ) × IsSlash i m × IsText m j
 
-  -- what suits a glob: a part for each token, one alternate of several
+  -- what suits a glob: a part for each token, one alternate of several (after globset's documents)
   abbrev pub Suits : Glob → ℕ → ℕ → Type 0
   Suits Empty i j = i ≡ j
   Suits (Single token) i j = SuitsToken token i j
   Suits (Then a b) i j = (m : ℕ) × Suits a i m × Suits b m j
   Suits (Either a b) i j = Suits a i j ⊎ Suits b i j
 
--- the glob matches the whole text, given by its characters
+-- the glob matches the whole text, given by its characters (after globset's documents)
 abbrev pub GlobMatches : Glob → List ℕ → Type 0
 GlobMatches glob text = Suits text glob 0 (length text)
 

@@ -36,6 +36,7 @@ pub data Matcher : Type 0 where
   Glob : List ℕ → spec.Glob → Bool → Matcher
   Regex : List ℕ → Matcher
 
+-- the matcher as a plain value (from nextest's documents)
 abbrev pub matcher_of : NameMatcher → Matcher
 matcher_of (name.Equal value implicit) = Equal (string_bytes value) implicit
 matcher_of (name.Contains value implicit) = Contains (string_bytes value) implicit
@@ -48,7 +49,7 @@ is_regex (name.Contains value implicit) = false
 is_regex (name.Glob glob implicit) = false
 is_regex (name.Regex regex) = true
 
--- the matcher matches the name
+-- the matcher matches the name (from nextest's documents)
 abbrev pub MatchesName : NameMatcher → List ℕ → Type 0
 MatchesName (name.Equal value implicit) n = string_bytes value ≡ n
 MatchesName (name.Contains value implicit) n = HasSubslice n (string_bytes value)
@@ -62,6 +63,7 @@ identity_of (name.Contains value implicit) = Containing (string_bytes value) imp
 identity_of (name.Glob glob implicit) = OfGlob (tokens_of glob)
 identity_of (name.Regex regex) = OfPattern (regex_source regex.value)
 
+-- matchers that nothing tells apart
 abbrev pub matcher_eq : NameMatcher → NameMatcher → Bool
 matcher_eq a b = identity_eq (identity_of a) (identity_of b)
 

@@ -9,11 +9,12 @@ IsOneAnd set Such [] = ⊥
 IsOneAnd set Such (c ∷ text) = (is_in_set set c ≡ true) × Such text
 
 -- the characters are such, if that may be here, or those behind any of them or, of folders, behind a slash
+-- (after globset's documents)
 abbrev pub IsBehind : Bool → Bool → (List ℕ → Type 0) → List ℕ → Type 0
 IsBehind of_folders here Such [] = (here ≡ true) × Such []
 IsBehind of_folders here Such (c ∷ text) = ((here ≡ true) × Such (c ∷ text)) ⊎ IsBehind of_folders (not of_folders || nat_eq c 47) Such text
 
--- the characters suit the tokens, one after another
+-- the characters suit the tokens, one after another (after globset's documents)
 abbrev pub SuitsTokens : List Token → List ℕ → Type 0
 SuitsTokens [] text = text ≡ []
 SuitsTokens (One set ∷ tokens) text = IsOneAnd set (SuitsTokens tokens) text
@@ -32,7 +33,7 @@ abbrev pub SuitsStop : Stop → Type 0
 SuitsStop End = Unit {0}
 SuitsStop (Gap of_folders tokens text) = IsBehind of_folders true (SuitsTokens tokens) text
 
--- where the single characters at the front of the tokens end
+-- where the single characters at the front of the tokens end (after globset's documents)
 abbrev pub stop_in : List Token → List ℕ → Stop
 stop_in [] text = End
 stop_in (One set ∷ tokens) text = stop_in tokens (drop 1 text)

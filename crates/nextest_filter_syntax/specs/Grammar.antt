@@ -27,6 +27,7 @@ found_at text (suc zero) i = or_at text i
 found_at text (suc (suc level)) i = Nothing
 
 -- parts of level 0 are operands, those of level 1 are operands joined by intersections and differences, and those of level 2 are these, joined by unions; as many parentheses and negations may stand inside each other as there is room for
+-- (from nextest's reference of filtersets)
 mutual
   pub data Reads (text : List ℕ) : ℕ → ℕ → ℕ → Tree SourceSpan → ℕ → Type 0 where
     leaf : {room i j : ℕ} {l : Leaf SourceSpan} → ReadsLeaf text (skip text i) l j → Reads text room 0 i (set_of l) j
@@ -34,7 +35,7 @@ mutual
     parens : {room i m k j : ℕ} {x : Tree SourceSpan} → head_at text (skip text i) ≡ Opens m → Reads text room 2 m x k → Stands text k 41 j → Reads text (suc room) 0 i (parens_of x) j
     chain : {room level i m j : ℕ} {a t : Tree SourceSpan} → Reads text room level i a m → MoreOf text room level m a t j → Reads text room (suc level) i t j
 
-  -- from the place after the tree a on, further parts, which join it from left to right
+  -- from the place after the tree a on, further parts, which join it from left to right (from nextest's reference of filtersets)
   pub data MoreOf (text : List ℕ) : ℕ → ℕ → ℕ → Tree SourceSpan → Tree SourceSpan → ℕ → Type 0 where
     none : {room level k : ℕ} {a : Tree SourceSpan} → MoreOf text room level k a a k
     one : {room level k m n j : ℕ} {op : Operator} {a b t : Tree SourceSpan} → found_at text level (skip text k) ≡ Joins op m → Reads text room level m b n → MoreOf text room level n (joined_of op a b) t j → MoreOf text room level k a t j
@@ -49,5 +50,6 @@ tree_places text (parens_of t) = tree_places text t
 tree_places text (set_of l) = leaf_places text l
 
 -- the whole text is a filter, with at most 256 parentheses and negations inside each other
+-- (from nextest's reference of filtersets)
 abbrev pub ReadsWhole : List ℕ → Tree SourceSpan → Type 0
 ReadsWhole text t = (j : ℕ) × Reads text 256 2 0 t j × (skip text j ≡ length text)

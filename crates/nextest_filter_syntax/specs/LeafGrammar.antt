@@ -45,7 +45,7 @@ unfoldable pub sign_at : List ℕ → ℕ → Sign
 sign_at text i =
     if is_byte text i 47 then Slash else (if is_byte text i 35 then Says Globs else (if is_byte text i 61 then Says Equal else (if is_byte text i 126 then Says Contains else Bare)))
 
--- what a text without a sign says of names
+-- what a text without a sign says of names (from nextest's reference of filtersets)
 abbrev pub default_style : Predicate → Style
 default_style Test = Contains
 default_style Kind = Equal
@@ -61,7 +61,7 @@ abbrev pub glob_made : Bool → List ℕ → Result Glob GlobError → Option Ma
 glob_made implicit text (Ok tokens) = Some (m.Glob text tokens implicit)
 glob_made implicit text (Err error) = None
 
--- the matcher that a text makes; a text that is no glob makes none
+-- the matcher that a text makes; a text that is no glob makes none (from nextest's reference of filtersets)
 abbrev pub made_of : Style → Bool → List ℕ → Option Matcher
 made_of Equal implicit text = Some (m.Equal text implicit)
 made_of Contains implicit text = Some (m.Contains text implicit)
@@ -93,13 +93,13 @@ module _ (text : List ℕ) where
   abbrev pub ReadsSome : ℕ → List ℕ → ℕ → Type 0
   ReadsSome i xs j = ReadsText text i xs j × (0 < length xs)
 
-  -- a text and the matcher that it makes
+  -- a text and the matcher that it makes (from nextest's reference of filtersets)
   pub record TextFrom (style : Style) (implicit : Bool) (i : ℕ) (matcher : Matcher) (j : ℕ) : Type 0 where
     pub bytes : List ℕ
     pub reads : ReadsSome i bytes j
     pub makes : made_of style implicit bytes ≡ Some matcher
 
-  -- a pattern and the slash that ends it
+  -- a pattern and the slash that ends it (from nextest's reference of filtersets)
   pub record PatternFrom (i : ℕ) (matcher : Matcher) (j : ℕ) : Type 0 where
     pub bytes : List ℕ
     pub end : ℕ
@@ -113,10 +113,11 @@ module _ (text : List ℕ) where
   MatcherBy predicate i matcher j (Says style) = TextFrom style false (i + 1) matcher j
   MatcherBy predicate i matcher j Bare = TextFrom (default_style predicate) true i matcher j
 
+  -- a matcher by its sign; a glob has to be readable (from nextest's reference of filtersets)
   abbrev pub ReadsMatcher : Predicate → ℕ → Matcher → ℕ → Type 0
   ReadsMatcher predicate i matcher j = MatcherBy predicate i matcher j (sign_at text i)
 
-  -- after a name: a matcher in parentheses
+  -- after a name: a matcher in parentheses (from nextest's reference of filtersets)
   pub record NamedFrom (predicate : Predicate) (i : ℕ) (leaf : Leaf SourceSpan) (j : ℕ) : Type 0 where
     pub matcher : Matcher
     pub inner : ℕ
@@ -127,6 +128,7 @@ module _ (text : List ℕ) where
     pub is : leaf ≡ Named predicate matcher (between inner end)
 
   -- after `platform`: in parentheses a text which, trimmed of white space, names a platform
+  -- (from nextest's reference of filtersets)
   pub record PlatformFrom (i : ℕ) (leaf : Leaf SourceSpan) (j : ℕ) : Type 0 where
     pub platform : BuildPlatform
     pub bytes : List ℕ
@@ -138,7 +140,7 @@ module _ (text : List ℕ) where
     pub closes : Stands text end 41 j
     pub is : leaf ≡ Platform platform (between inner end)
 
-  -- after the word that begins at start: parentheses with white space alone
+  -- after the word that begins at start: parentheses with white space alone (from nextest's reference of filtersets)
   pub record NullaryFrom (word : Nullary) (start i : ℕ) (leaf : Leaf SourceSpan) (j : ℕ) : Type 0 where
     pub inner : ℕ
     pub end : ℕ
@@ -158,5 +160,6 @@ module _ (text : List ℕ) where
   LeafBy i leaf j (head.Misplaces op n) = ⊥
   LeafBy i leaf j head.Unknown = ⊥
 
+  -- a leaf by the name that it begins with (from nextest's reference of filtersets)
   abbrev pub ReadsLeaf : ℕ → Leaf SourceSpan → ℕ → Type 0
   ReadsLeaf i leaf j = LeafBy i leaf j (head_at text i)

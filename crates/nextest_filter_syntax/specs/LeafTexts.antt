@@ -17,6 +17,7 @@ predicate_name Test = codes "test"
 predicate_name Group = codes "group"
 predicate_name Feature = codes "feature"
 
+-- how a leaf prints (from nextest's documents)
 abbrev pub leaf_text : {S : Type 0} → Leaf S → List ℕ
 leaf_text (Named predicate matcher span) = predicate_name predicate ++ (codes "(" ++ (matcher_text matcher ++ codes ")"))
 leaf_text (Platform platform span) = codes "platform(" ++ (platform_text platform ++ codes ")")

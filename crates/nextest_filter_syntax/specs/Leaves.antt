@@ -18,6 +18,7 @@ pub data Leaf (S : Type 0) : Type 0 where
   All : Leaf S
   None : Leaf S
 
+-- a leaf as a plain value (from nextest's documents)
 abbrev pub leaf_of : {S : Type 0} → ParsedLeaf S → Leaf S
 leaf_of (leaf.Package matcher span) = Named Package (matcher_of matcher) span
 leaf_of (leaf.Deps matcher span) = Named Deps (matcher_of matcher) span

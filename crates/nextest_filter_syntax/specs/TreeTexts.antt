@@ -8,6 +8,7 @@ use Rattle.nextest_filter_syntax.specs.Trees.{Tree, not_of, union_of, intersecti
 abbrev pub joined_text : List ℕ → List ℕ → List ℕ → List ℕ
 joined_text left sign right = left ++ (codes " " ++ (sign ++ (codes " " ++ right)))
 
+-- how a filter prints (from nextest's documents)
 abbrev pub tree_text : {S : Type 0} → Tree S → List ℕ
 tree_text (not_of op x) = not_sign op ++ (codes " " ++ tree_text x)
 tree_text (union_of op x y) = joined_text (tree_text x) (or_sign op) (tree_text y)

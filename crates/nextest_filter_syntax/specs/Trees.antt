@@ -14,6 +14,7 @@ pub data Tree (S : Type 0) : Type 0 where
   parens_of : Tree S → Tree S
   set_of : Leaf S → Tree S
 
+-- a filter as a plain tree (from nextest's documents)
 abbrev pub tree_of : {S : Type 0} → ParsedExpr S → Tree S
 tree_of (Not' op p x) = not_of op (tree_of x)
 tree_of (Union' op p x q y) = union_of op (tree_of x) (tree_of y)

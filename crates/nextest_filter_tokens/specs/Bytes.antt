@@ -13,7 +13,7 @@ byte text i = slice_index_or text i 0
 abbrev pub is_byte : List ℕ → ℕ → ℕ → Bool
 is_byte text i c = nat_lt i (length text) && nat_eq (byte text i) c
 
--- the word stands at a place
+-- the word stands at a place (from nextest's documents)
 abbrev pub has_word : List ℕ → ℕ → List ℕ → Bool
 has_word text i [] = true
 has_word text i (c ∷ word) = is_byte text i c && has_word text (i + 1) word
@@ -23,7 +23,7 @@ abbrev pub is_word_byte : ℕ → Bool
 is_word_byte c =
     (nat_le 48 c && nat_le c 57) || (nat_le 65 c && nat_le c 90) || nat_eq c 95 || (nat_le 97 c && nat_le c 122)
 
--- no word goes on at a place
+-- no word goes on at a place (from nextest's documents)
 abbrev pub is_word_end : List ℕ → ℕ → Bool
 is_word_end text i = not (nat_lt i (length text) && is_word_byte (byte text i))
 
@@ -41,15 +41,15 @@ abbrev pub blanks_from : List ℕ → ℕ → ℕ → ℕ
 blanks_from text zero i = i
 blanks_from text (suc n) i = if nat_eq (blank_length text i) 0 then i else blanks_from text n (i + blank_length text i)
 
--- the place after the blanks
+-- the place after the blanks (from nextest's documents)
 unfoldable pub skip : List ℕ → ℕ → ℕ
 skip text i = blanks_from text (length text) i
 
--- from a place on one blank after another, up to the place where none stands
+-- from a place on one blank after another, up to the place where none stands (from nextest's documents)
 pub data ReadsBlanks (text : List ℕ) : ℕ → ℕ → Type 0 where
   none : {i : ℕ} → blank_length text i ≡ 0 → ReadsBlanks text i i
   one : {i j : ℕ} → (blank_length text i ≡ 0 → ⊥) → ReadsBlanks text (i + blank_length text i) j → ReadsBlanks text i j
 
--- from each place on the blanks end at one place, which is the one after them
+-- from each place on the blanks end at one place, which is the one after them (from nextest's documents)
 abbrev pub BlanksReadOnce : Type 0
 BlanksReadOnce = (text : List ℕ) (i j : ℕ) → ReadsBlanks text i j ↔ (j ≡ skip text i)

@@ -41,7 +41,7 @@ abbrev pub named_at : Option ℕ → ℕ → Escape
 named_at (Some c) i = Means c i
 named_at None i = Invalid
 
--- the character that an escape means, and the place after it
+-- the character that an escape means, and the place after it (from nextest's documents)
 abbrev pub escape_at : List ℕ → ℕ → Escape
 escape_at text i =
     if is_byte text i 117 then (if is_byte text (i + 1) 123 then digits_from text 6 false 0 (i + 2) else Invalid) else (if nat_lt i (length text) then named_at (named_escape (byte text i)) (i + 1) else Invalid)

@@ -7,12 +7,14 @@ use Rattle.nextest_filter_tokens.specs.declared.filterset_kind.FiltersetKind.The
 use Rattle.nextest_filter_tokens.specs.declared.filterset_kind.BannedPredicateReason.{BannedPredicateReason}
 use Rattle.nextest_filter_tokens.specs.declared.filterset_kind.BannedPredicateReason.TheVariants as reason
 
+-- what a kind prints (from nextest's messages)
 abbrev pub kind_text : FiltersetKind → List ℕ
 kind_text kind.Test = codes "test"
 kind_text kind.TestArchive = codes "archive-filter"
 kind_text kind.OverrideFilter = codes "override-filter"
 kind_text kind.DefaultFilter = codes "default-filter"
 
+-- what a reason prints (from nextest's messages)
 abbrev pub reason_text : BannedPredicateReason → List ℕ
 reason_text reason.DefaultInfiniteRecursion = codes "default() causes infinite recursion"
 reason_text reason.GroupCircularDependency = codes "group() creates a circular dependency with overrides"
@@ -48,7 +50,7 @@ plain_text (InvalidPlatformArgument span) = codes "invalid argument for platform
 plain_text (UnsupportedExpression span) = codes "unsupported expression"
 plain_text Unknown = codes "unknown parsing error"
 
--- a banned predicate names its kind, and an operator in an operand's place itself
+-- a banned predicate names its kind, and an operator in an operand's place itself (from nextest's messages)
 abbrev pub fault_text : ParseSingleError → List ℕ
 fault_text (BannedPredicate kind span reason) = codes "predicate not allowed in `" ++ (kind_text kind ++ codes "` expressions")
 fault_text (ExprFoundBinaryOp op suggest span) = codes "expected expression, found `" ++ (op.now ++ codes "`")

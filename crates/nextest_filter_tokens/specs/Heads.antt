@@ -23,7 +23,7 @@ unfoldable pub plain_set_at : List ℕ → ℕ → Head
 plain_set_at text i =
     if has_word text i (codes "platform") then Platform (i + 8) else (if has_word text i (codes "default") then Says Default (i + 7) else (if has_word text i (codes "all") then Says All (i + 3) else (if has_word text i (codes "none") then Says None (i + 4) else sign_at text i)))
 
--- what an operand begins with, and the place after it; `binary_id` is tried before `binary`
+-- what an operand begins with, and the place after it; `binary_id` is tried before `binary` (from nextest's documents)
 unfoldable pub head_at : List ℕ → ℕ → Head
 head_at text i =
     if has_word text i (codes "package") then Names Package (i + 7) else (if has_word text i (codes "deps") then Names Deps (i + 4) else (if has_word text i (codes "rdeps") then Names Rdeps (i + 5) else (if has_word text i (codes "kind") then Names Kind (i + 4) else (if has_word text i (codes "binary_id") then Names BinaryId (i + 9) else (if has_word text i (codes "binary") then Names Binary (i + 6) else (if has_word text i (codes "test") then Names Test (i + 4) else (if has_word text i (codes "group") then Names Group (i + 5) else (if has_word text i (codes "feature") then Names Feature (i + 7) else plain_set_at text i))))))))

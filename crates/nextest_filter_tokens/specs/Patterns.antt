@@ -10,7 +10,7 @@ is_escaped_slash text i = is_byte text i 92 && is_byte text (i + 1) 47
 abbrev pub is_pattern_byte : List ℕ → ℕ → Bool
 is_pattern_byte text i = nat_lt i (length text) && (not (is_byte text i 47) && not (is_escaped_slash text i))
 
--- from a place after a slash, the bytes of a pattern, up to the slash that ends it
+-- from a place after a slash, the bytes of a pattern, up to the slash that ends it (from nextest's documents)
 pub data ReadsPattern (text : List ℕ) : ℕ → List ℕ → ℕ → Type 0 where
   closed : {i : ℕ} → is_byte text i 47 ≡ true → ReadsPattern text i [] i
   slash : {i j : ℕ} {xs : List ℕ} → is_escaped_slash text i ≡ true → ReadsPattern text (i + 2) xs j → ReadsPattern text i (47 ∷ xs) j

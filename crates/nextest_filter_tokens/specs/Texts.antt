@@ -14,7 +14,7 @@ is_text_end text i = not (nat_lt i (length text)) || nat_eq (byte text i) 41 || 
 abbrev pub is_plain : List ℕ → ℕ → Bool
 is_plain text i = not (is_text_end text i) && not (nat_eq (byte text i) 92)
 
--- from a place, the bytes that a text means, up to its end
+-- from a place, the bytes that a text means, up to its end (from nextest's documents)
 pub data ReadsText (text : List ℕ) : ℕ → List ℕ → ℕ → Type 0 where
   ended : {i : ℕ} → is_text_end text i ≡ true → ReadsText text i [] i
   plain : {i j : ℕ} {xs : List ℕ} → is_plain text i ≡ true → ReadsText text (i + 1) xs j → ReadsText text i (byte text i ∷ xs) j

@@ -17,7 +17,7 @@ abbrev pub names_group : FilterLeaf → Bool
 names_group (Named names.Group test span) = true
 names_group _ = false
 
--- the fault of a leaf that is banned where the filter stands
+-- the fault of a leaf that is banned where the filter stands (from nextest)
 abbrev pub ban_of : FiltersetKind → FilterLeaf → List ParseSingleError
 ban_of kind.TestArchive (Named names.Test test span) = BannedPredicate kind.TestArchive span TestNotAvailableInArchive ∷ []
 ban_of kind.TestArchive (Named names.Group test span) = BannedPredicate kind.TestArchive span GroupNotAvailableInArchive ∷ []
@@ -26,7 +26,7 @@ ban_of kind.DefaultFilter (Named names.Group test span) = BannedPredicate kind.D
 ban_of kind.DefaultFilter (Default span) = BannedPredicate kind.DefaultFilter span DefaultInfiniteRecursion ∷ []
 ban_of _ _ = []
 
--- the bans from left to right
+-- the bans from left to right (from nextest)
 abbrev pub bans : FiltersetKind → Formula FilterLeaf → List ParseSingleError
 bans kind (negation a) = bans kind a
 bans kind (either a b) = bans kind a ++ bans kind b
@@ -35,6 +35,7 @@ bans kind (leaf l) = ban_of kind l
 
 module _ (cx : ContextValue) (groups : KnownGroups) where
   -- the matcher of a leaf that names packages, binaries, groups or features matches one of their names; a feature may be off
+  -- (from nextest)
   abbrev pub MatchesSome : FilterLeaf → Type 0
   MatchesSome (Named names.Package test span) = SuitsOneOf test (map (λ p. p.1) cx.packages)
   MatchesSome (Named names.Deps test span) = SuitsOneOf test (map (λ p. p.1) cx.packages)
@@ -45,7 +46,7 @@ module _ (cx : ContextValue) (groups : KnownGroups) where
   MatchesSome (Named names.Feature test span) = SuitsOneOf test cx.features
   MatchesSome _ = Unit {0}
 
-  -- no leaf is banned, and each matches some name that it has to
+  -- no leaf is banned, and each matches some name that it has to (from nextest)
   abbrev pub IsAccepted : FiltersetKind → Formula FilterLeaf → Type 0
   IsAccepted kind f = EachLeaf (λ l. (ban_of kind l ≡ []) × MatchesSome l) f
 
@@ -60,7 +61,7 @@ no_match (Named names.Group test span) = NoGroupMatch span ∷ []
 no_match (Named names.Feature test span) = NoFeatureMatch span ∷ []
 no_match _ = []
 
--- the faults are those of the leaves that match nothing, from left to right
+-- the faults are those of the leaves that match nothing, from left to right (from nextest)
 abbrev pub AreUnmatched : ContextValue → KnownGroups → Formula FilterLeaf → List ParseSingleError → Type 0
 AreUnmatched cx groups (negation a) faults = AreUnmatched cx groups a faults
 AreUnmatched cx groups (either a b) faults = (xs : List ParseSingleError) × (ys : List ParseSingleError) × AreUnmatched cx groups a xs × AreUnmatched cx groups b ys × (faults ≡ xs ++ ys)

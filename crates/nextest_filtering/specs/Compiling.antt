@@ -42,7 +42,7 @@ IsCompiledLeaf cx (Default span) l = l ≡ compiled.Default
 IsCompiledLeaf cx All l = l ≡ compiled.All
 IsCompiledLeaf cx filter.None l = l ≡ compiled.None
 
--- the same operators over leaves that are compiled
+-- the same operators over leaves that are compiled (from nextest)
 abbrev pub IsCompiled : ContextValue → Formula FilterLeaf → Formula Leaf → Type 0
 IsCompiled cx (negation a) (negation c) = IsCompiled cx a c
 IsCompiled cx (either a b) (either c d) = IsCompiled cx a c × IsCompiled cx b d

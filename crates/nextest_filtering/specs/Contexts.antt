@@ -29,11 +29,11 @@ abbrev pub named_binary : Text → Text → Option Text → List (Text × Text)
 named_binary package_name target_name (Some kind) = (binary_id package_name kind target_name, target_name) ∷ []
 named_binary package_name target_name None = []
 
--- the binaries of a package: those of all its targets but build scripts, tested or not
+-- the binaries of a package: those of all its targets but build scripts, tested or not (from nextest)
 abbrev pub binaries_of : Package → List (Text × Text)
 binaries_of p = flat_map (λ (t : Target). named_binary p.name t.name (binary_kind (id_of t.kind t.name))) p.targets
 
--- the names of the features of a package, on or off
+-- the names of the features of a package, on or off (from nextest)
 abbrev pub features_of : Package → List Text
 features_of p = map (λ (f : FeatureEntry). f.name) p.features
 
@@ -42,6 +42,7 @@ abbrev pub AreRowsAt : TableValue → (ℕ → Type 0) → List Package → Type
 AreRowsAt g passes rows = (p : Package) → Contains rows p ↔ ((v : ℕ) × passes v × (slice_get g.packages v ≡ Some p))
 
 -- the context follows the links of one graph, and has the packages of a graph that pass, their binaries and their features; which of these are on is left open
+-- (from nextest)
 pub record IsContextOf (links packages : TableValue) (passes : ℕ → Type 0) (cx : ContextValue) : Type 0 where
   pub graph : cx.graph ≡ links
   pub rows : List Package
@@ -50,7 +51,7 @@ pub record IsContextOf (links packages : TableValue) (passes : ℕ → Type 0) (
   pub built : cx.binaries ≡ flat_map binaries_of rows
   pub featured : cx.features ≡ flat_map features_of rows
 
--- a path, maybe empty, leads from the package with the one id to that with the other
+-- a path, maybe empty, leads from the package with the one id to that with the other (from nextest)
 pub record Leads (g : TableValue) (a b : Text) : Type 0 where
   pub from : ℕ
   pub to : ℕ

@@ -32,6 +32,7 @@ filter_leaf (code.Default span) = Default span
 filter_leaf code.All = All
 filter_leaf code.None = None
 
+-- what a filter says over a context (from nextest's filtersets)
 abbrev pub filter_of : ParsedExpr SourceSpan → Formula FilterLeaf
 filter_of (Not' op p x) = negation (filter_of x)
 filter_of (Union' op p x q y) = either (filter_of x) (filter_of y)

@@ -11,14 +11,14 @@ use Rattle.nextest_filter_evaluation.specs.Meaning.{Gives}
 use Rattle.nextest_filtering.specs.Contexts.{ContextValue, Leads}
 use Rattle.nextest_filtering.specs.Filters.{FilterLeaf, Named, Platform, Default, All, None}
 
--- a package of the context has the id, and a name that suits
+-- a package of the context has the id, and a name that suits (from nextest's filtersets)
 pub record IsMatched (cx : ContextValue) (test : NameTest) (id : Text) : Type 0 where
   pub found : Text × Text
   pub listed : Contains cx.packages found
   pub suits : Suits test found.1
   pub is_its : found.0 ≡ id
 
--- a package of the context has the id, and a feature of it that is said to be on suits
+-- a package of the context has the id, and a feature of it that is said to be on suits (from nextest's filtersets)
 pub record IsFeatured (cx : ContextValue) (test : NameTest) (id : Text) : Type 0 where
   pub found : Text × Text
   pub listed : Contains cx.packages found
@@ -42,15 +42,17 @@ pub record IsReachedOf (cx : ContextValue) (starts : Text → Type 0) (direction
   pub leads : LeadsAlong direction cx.graph start id
 
 -- a package of the context has the id, and a path leads to it from a matched one: it is one of its dependencies
+-- (from nextest's filtersets)
 abbrev pub IsDependency : ContextValue → NameTest → Text → Type 0
 IsDependency cx test id = IsReachedOf cx (IsMatched cx test) Forward id
 
--- the same with a path to a matched one
+-- the same with a path to a matched one (from nextest's filtersets)
 abbrev pub IsDependent : ContextValue → NameTest → Text → Type 0
 IsDependent cx test id = IsReachedOf cx (IsMatched cx test) Reverse id
 
 module _ (cx : ContextValue) where
   -- the leaf holds of the test, where it is said of which matchers' groups the test is a member, and whether the default filter holds
+  -- (from nextest's filtersets)
   abbrev pub FilterLeafHolds : (NameTest → Type 0) → Type 0 → asked.Test → FilterLeaf → Type 0
   FilterLeafHolds member default t (Named names.Package test span) = IsMatched cx test t.binary.package_id
   FilterLeafHolds member default t (Named names.Deps test span) = IsDependency cx test t.binary.package_id
@@ -67,6 +69,7 @@ module _ (cx : ContextValue) where
   FilterLeafHolds member default t None = ⊥
 
   -- the values that the leaf may take of tests of the binary, where it is said which values the default filter may take
+  -- (from nextest's filtersets)
   abbrev pub FilterLeafGives : (Bool → Type 0) → asked.Binary → FilterLeaf → Bool → Type 0
   FilterLeafGives default b (Named names.Package test span) v = Gives (IsMatched cx test b.package_id) v
   FilterLeafGives default b (Named names.Deps test span) v = Gives (IsDependency cx test b.package_id) v

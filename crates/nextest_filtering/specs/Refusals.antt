@@ -29,7 +29,7 @@ module _ (cx : ContextValue) (groups : KnownGroups) (kind : FiltersetKind) where
     pub within : AreWithin (length text) refused.errors.items
     pub faults : (refused.errors.items ≡ bans kind (filter_of parsed)) ⊎ ((bans kind (filter_of parsed) ≡ []) × AreUnmatched cx groups (filter_of parsed) refused.errors.items)
 
-  -- the text comes back with faults of its reading, or a filter was read that is not accepted
+  -- the text comes back with faults of its reading, or a filter was read that is not accepted (from nextest)
   abbrev pub IsRefusal : Text → FiltersetError → Type 0
   IsRefusal text (Parse refused) =
       (string_bytes refused.input ≡ text) × (AreFaultsOf text (unread.Faults refused.errors) ⊎ IsRefused text refused)

@@ -8,14 +8,14 @@ use Rattle.numbered_graph.specs.Links.{link_at}
 use Rattle.numbered_graph.specs.Paths.{any_link, Reaches, AreMutual, LeadsOn}
 use Rattle.numbered_graph.specs.Sets.{has}
 
--- at least one link leads from the node round to itself
+-- at least one link leads from the node round to itself (from guppy's `Cycles`)
 pub record IsOnCycle (links : List Link) (v : ℕ) : Type 0 where
   pub link : ℕ
   pub within : link < length links
   pub there : Reaches links any_link v (link_at links link).from
   pub back : Reaches links any_link (link_at links link).to v
 
--- the nodes that are on cycles, each once, cut into components; none leads on to an earlier one
+-- the nodes that are on cycles, each once, cut into components; none leads on to an earlier one (from guppy's `Cycles`)
 pub record AreCycles (d : Direction) (links : List Link) (cycles : List (List ℕ)) : Type 0 where
   pub once : AllPairs (λ u v. u ≢ v) (flat_map (λ c. c) cycles)
   pub each : (v : ℕ) → Contains (flat_map (λ c. c) cycles) v ↔ IsOnCycle links v
@@ -27,7 +27,7 @@ pub record AreCycles (d : Direction) (links : List Link) (cycles : List (List �
 abbrev pub has_node : ℕ → List ℕ → Bool
 has_node v nodes = list_any (nat_eq v) nodes
 
--- the cycles, joined, are the listing without the nodes that are in none of them
+-- the cycles, joined, are the listing without the nodes that are in none of them (from guppy's `Cycles`)
 abbrev pub AreInListingOrder : List ℕ → List (List ℕ) → Type 0
 AreInListingOrder listing cycles = flat_map (λ c. c) cycles ≡ filter (λ v. has_node v (flat_map (λ c. c) cycles)) listing
 

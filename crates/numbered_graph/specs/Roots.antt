@@ -6,11 +6,11 @@ use Rattle.numbered_graph.specs.Links.{link_at, near_at, far_at}
 use Rattle.numbered_graph.specs.Paths.{any_link, AreMutual}
 use Rattle.numbered_graph.specs.Sets.{has}
 
--- both ends of the link are in the set
+-- both ends of the link are in the set (from guppy's `root_ids`)
 abbrev pub is_inside : List Link → List Bool → ℕ → Bool
 is_inside links set j = has set (link_at links j).from && has set (link_at links j).to
 
--- each link inside the set that leads to the node's component, as seen in the direction, begins in it
+-- each link inside the set that leads to the node's component, as seen in the direction, begins in it (from guppy's `root_ids`)
 abbrev pub IsRoot : Direction → List Link → List Bool → ℕ → Type 0
 IsRoot d links set v =
     (j : ℕ) → j < length links → is_inside links set j ≡ true → AreMutual links any_link (far_at d links j) v → AreMutual links any_link (near_at d links j) v

@@ -16,20 +16,20 @@ Shown = List (ℕ × Bool)
 abbrev pub shown_links : Shown → List ℕ
 shown_links shown = map (λ s. s.0) shown
 
--- the link was shown and accepted
+-- the link was shown and accepted (from guppy's resolves with a resolver)
 abbrev pub is_accepted : Shown → ℕ → Bool
 is_accepted shown j = list_any (λ s. (s.0 == j) && s.1) shown
 
--- accepted links lead from a start to the node, in the direction
+-- accepted links lead from a start to the node, in the direction (from guppy's resolves with a resolver)
 abbrev pub IsIncluded : Direction → List Link → List ℕ → Shown → ℕ → Type 0
 IsIncluded d links starts shown v = IsReached d links (is_accepted shown) starts v
 
--- each link that leaves an included node was shown exactly once, and no other
+-- each link that leaves an included node was shown exactly once, and no other (from guppy's resolves with a resolver)
 pub record IsShowing (d : Direction) (links : List Link) (starts : List ℕ) (shown : Shown) : Type 0 where
   pub once : AllPairs (λ i j. i ≢ j) (shown_links shown)
   pub each : (j : ℕ) → Contains (shown_links shown) j ↔ ((j < length links) × IsIncluded d links starts shown (near_at d links j))
 
--- the link may be shown next: it leaves an included node, and was not shown
+-- the link may be shown next: it leaves an included node, and was not shown (from guppy's resolves with a resolver)
 pub record IsDue (d : Direction) (links : List Link) (starts : List ℕ) (shown : Shown) (j : ℕ) : Type 0 where
   pub within : j < length links
   pub included : IsIncluded d links starts shown (near_at d links j)

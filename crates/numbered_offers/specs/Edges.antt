@@ -56,7 +56,7 @@ is_weak_sort (Weak dep required optional) = true
 abbrev pub is_weak : Edge → Bool
 is_weak x = is_weak_sort x.sort
 
--- a conditional edge has one offer, a weak one has the halves that are there
+-- a conditional edge has one offer, a weak one has the halves that are there (from guppy's feature graph)
 abbrev pub has_offer : EdgeSort → OfferKind → Bool
 has_offer Unconditional kind = false
 has_offer Conditional Unsplit = true
@@ -66,10 +66,11 @@ has_offer (Weak dep required optional) Unsplit = false
 has_offer (Weak dep required optional) Required = required
 has_offer (Weak dep required optional) Optional = optional
 
+-- the edge offers this: one whole, or the halves that are there (from guppy's feature graph)
 abbrev pub is_offer : List Edge → Offer → Bool
 is_offer edges o = nat_lt o.edge (length edges) && has_offer (edge_at edges o.edge).sort o.kind
 
--- forward, an optional half waits for one node more
+-- forward, an optional half waits for one node more (from guppy's feature graph)
 abbrev pub waits : Direction → OfferKind → Bool
 waits Forward Unsplit = false
 waits Forward Required = false

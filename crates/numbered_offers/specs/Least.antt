@@ -24,6 +24,7 @@ module _ (d : Direction) (edges : List Edge) (starts : List ℕ) (accepts : Offe
 abbrev pub AnswersBy : (Offer → Bool) → Run → Type 0
 AnswersBy accepts run = All (λ s. s.1 ≡ accepts s.0) run
 
+-- each run with these verdicts reaches the least closed set
 abbrev pub IsAlwaysLeast : Type 0
 IsAlwaysLeast =
     (d : Direction) (edges : List Edge) (starts : List ℕ) (accepts : Offer → Bool) (run : Run)

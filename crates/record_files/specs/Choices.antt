@@ -48,6 +48,6 @@ choice_of d = do
   extras ← each extra_of extra_items
   Ok (record { standard = base; extras = extras })
 
--- a file that is a choice
+-- a file that is a choice (from `cargo metadata`'s names)
 abbrev pub choice_file : Data → Result Choice Fault
 choice_file d = object_of key.File d >>= choice_of

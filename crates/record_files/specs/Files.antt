@@ -18,7 +18,7 @@ pub record Reads {Y : Type 0} (format : Data → Result Y Fault) (bytes : List �
   pub shape : format value ≡ said
 
 -- What a reader of files answers: the value that the format gives for the bytes, the first fault of
--- their shape, or that they are not JSON. Of want of memory nothing is said.
+-- their shape, or that they are not JSON. Of want of memory nothing is said. (from the docs of `serde_json`)
 abbrev pub ReadsFile : {X Y : Type 0} → (X → Y) → (Data → Result Y Fault) → List ℕ → Result X ReadError → Type 0
 ReadsFile shows format bytes (Ok x) = Reads format bytes (Ok (shows x))
 ReadsFile shows format bytes (Err (BadShape field)) = Reads format bytes (Err (fault_of field))

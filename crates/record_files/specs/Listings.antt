@@ -24,6 +24,6 @@ listing_of id d = ok_or (as_texts d) (at_binary id)
 abbrev pub each_listing : Members → Result (List (Text × List Text)) Fault
 each_listing = each_member listing_of
 
--- a file that is listings
+-- a file that is listings (from `cargo metadata`'s names)
 abbrev pub listings_file : Data → Result (List (Text × List Text)) Fault
 listings_file d = members_of key.File d >>= each_listing

@@ -24,6 +24,6 @@ record_of d = do
   groups ← each group_of group_items
   Ok (record { packages = packages; links = links; workspace = workspace; groups = groups; default_filter = default_filter })
 
--- a file that is a record
+-- a file that is a record (from `cargo metadata`'s names)
 abbrev pub record_file : Data → Result Workspace Fault
 record_file d = object_of key.File d >>= record_of

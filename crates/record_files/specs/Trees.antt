@@ -13,7 +13,7 @@ use Rattle.workspace_record.specs.Records.{Text}
 abbrev pub number_or : Text → Num
 number_or text = unwrap_or (number_of text) (negative (negsuc 0))
 
--- the data of a tree; the last of a key's members counts
+-- the data of a tree; the last of a key's members counts (from the docs of `serde_json`)
 abbrev mutual
   pub data_of : json.Json → Data
   data_of json.null = null
@@ -32,7 +32,7 @@ abbrev mutual
   members_data json.no_members found = found
   members_data (json.member name j ms) found = members_data ms (put name (data_of j) found)
 
--- each number is in range
+-- each number is in range (from the docs of `serde_json`)
 abbrev mutual
   pub has_numbers : json.Json → Bool
   has_numbers json.null = true
@@ -50,7 +50,7 @@ abbrev mutual
   members_have_numbers json.no_members = true
   members_have_numbers (json.member name j ms) = has_numbers j && members_have_numbers ms
 
--- the data of a value
+-- the data of a value (from the docs of `serde_json`)
 abbrev pub seen : Value Global → Data
 seen v = data_of (value_view v)
 

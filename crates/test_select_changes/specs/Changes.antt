@@ -24,11 +24,12 @@ IsWithin path = (is_relative path ≡ true) × All (λ part. part ≢ codes ".."
 abbrev pub joined_parts : Text → Text
 joined_parts path = join_by (λ part. part) (codes "/") (parts path)
 
--- one absolute path lies below another: these parts are what it has more
+-- one absolute path lies below another: these parts are what it has more (Cargo's manifests lie in their packages' folders)
 abbrev pub IsBelow : Text → Text → List Text → Type 0
 IsBelow root path more = (is_relative root ≡ false) × (is_relative path ≡ false) × (parts path ≡ parts root ++ more)
 
 -- the package has its files in the folder of these parts: a member where the record says, another one that has no source below the workspace's root
+-- (Cargo's manifests lie in their packages' folders)
 pub data HasFolder (g : TableValue) (v : ℕ) (folder : List Text) : Type 0 where
   member : {path : Text} → IsSourceAt g v (Workspace path) → folder ≡ parts path → HasFolder g v folder
   beside : {path : Text} → IsSourceAt g v (Path path) → IsBelow g.workspace.root path folder → HasFolder g v folder

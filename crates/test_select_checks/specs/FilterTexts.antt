@@ -19,7 +19,7 @@ use Rattle.nextest_filtering.specs.Filters.{FilterLeaf, filter_of}
 use Rattle.nextest_filtering.specs.Refusals.{IsRefusal}
 use Rattle.nextest_filtering.specs.declared.refusals.FiltersetError.TheVariants.{Parse}
 
--- the text reads as the filter, whose patterns are what their texts say
+-- the text reads as the filter, whose patterns are what their texts say (from nextest's filtersets)
 pub record IsFilterOf (text : Text) (f : Formula FilterLeaf) : Type 0 where
   pub parsed : ParsedExpr SourceSpan
   pub reads : ReadsWhole text (tree_of parsed)
@@ -32,11 +32,11 @@ module _ (cx : ContextValue) (groups : KnownGroups) (kind : FiltersetKind) where
     pub of_text : IsFilterOf text f
     pub accepted : IsAccepted cx groups kind f
 
-  -- the text reads as some filter that is accepted
+  -- the text reads as some filter that is accepted (from nextest's filtersets)
   abbrev pub IsAcceptedText : Text → Type 0
   IsAcceptedText text = (f : Formula FilterLeaf) × IsAcceptedAs text f
 
-  -- the text is refused for these faults
+  -- the text is refused for these faults (from nextest's filtersets)
   abbrev pub IsRefusedText : Text → Vec ParseSingleError Global → Type 0
   IsRefusedText text faults = (input : String Global) × IsRefusal cx groups kind text (Parse (record { input = input; errors = faults }))
 

@@ -11,7 +11,7 @@ use Rattle.test_select_checks.specs.Groups.{IsGroupOf}
 use Rattle.test_select_checks.specs.RecordFilters.{FilterReadings}
 
 module _ (cx : ContextValue) (r : FilterReadings) where
-  -- the default filter holds of the test
+  -- the default filter holds of the test (from nextest's filtersets)
   abbrev pub DefaultHoldsIn : asked.Test → Type 0
   DefaultHoldsIn t = Holds (FilterLeafHolds cx (λ _. ⊥) ⊥ t) r.default
 
@@ -25,14 +25,14 @@ module _ (cx : ContextValue) (r : FilterReadings) where
     pub is_its : IsGroupOf (GroupHoldsIn t) r.groups name
     pub suits : Suits test name
 
-  -- the filter holds of the test
+  -- the filter holds of the test (from nextest's filtersets)
   abbrev pub HoldsIn : asked.Test → Formula FilterLeaf → Type 0
   HoldsIn t f = Holds (FilterLeafHolds cx (IsInGroup t) (DefaultHoldsIn t) t) f
 
-  -- some answers about the tests of the binary give the default filter the value
+  -- some answers about the tests of the binary give the default filter the value (from nextest's filtersets)
   abbrev pub DefaultGivesIn : asked.Binary → Bool → Type 0
   DefaultGivesIn b v = SomeAnswersGive (FilterLeafGives cx (λ _. Unit {0}) b) r.default v
 
-  -- some answers about the tests of the binary give the filter the value true
+  -- some answers about the tests of the binary give the filter the value true (from nextest's filtersets)
   abbrev pub MayHoldIn : asked.Binary → Formula FilterLeaf → Type 0
   MayHoldIn b f = SomeAnswersGive (FilterLeafGives cx (DefaultGivesIn b) b) f true

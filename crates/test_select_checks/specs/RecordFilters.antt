@@ -69,11 +69,12 @@ module _ (cx : ContextValue) where
     pub at : place ≡ length w.groups
     pub refused : IsRefusedDefault w.default_filter faults
 
--- the filters of the record are accepted
+-- the filters of the record are accepted (from nextest's test groups and default filter)
 abbrev pub HasAcceptedFilters : Workspace → Type 0
 HasAcceptedFilters w = (cx : ContextValue) × HasNamesOf w cx × AreAccepted cx w
 
 -- the filter at the place is the first that is refused, for these faults: of a group, or behind all groups the default filter
+-- (from nextest's test groups and default filter)
 abbrev pub RefusesFilter : Workspace → ℕ → Vec ParseSingleError Global → Type 0
 RefusesFilter w place faults = (cx : ContextValue) × HasNamesOf w cx × (RefusesGroup cx w.groups place faults ⊎ RefusesDefault cx w place faults)
 

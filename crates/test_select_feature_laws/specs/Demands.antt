@@ -28,19 +28,19 @@ is_lined (StrongSlash name) = true
 is_lined (WeakSlash name) = false
 is_lined DependenciesSection = true
 
--- the line at a place counts, where it leads from a node
+-- the line at a place counts, where it leads from a node (from Cargo's reference, "Features")
 pub record CountsAt (table : PlatformTable) (g : FeatureGraphValue) (from : ℕ) (place : ℕ × ℕ) : Type 0 where
   pub line : Line
   pub at : line_at g.rows.links place ≡ Some line
   pub counts_by_kind : counts_for (is_some (member_of g.rows (feature_at g from).package_id)) line.kind ≡ true
   pub in_force : is_in_force table line.spec ≡ true
 
--- where the line is optional, the set holds the node for which a weak entry waits
+-- where the line is optional, the set holds the node for which a weak entry waits (from Cargo's reference, "Features")
 abbrev pub Waits : FeatureGraphValue → List FeatureValue → (ℕ → Type 0) → ℕ → Text → Line → Type 0
 Waits g nodes holds from name line = line.optional ≡ true → (waits_for nodes from name < length g.nodes) × holds (waits_for nodes from name)
 
 -- the set goes on along each demand that leads always, and along the others by a line that counts, along a weak entry's
--- optional line only together with the dependency
+-- optional line only together with the dependency (from Cargo's reference, "Features")
 pub record AreDemandsClosed (table : PlatformTable) (g : FeatureGraphValue) (ds : List NumberedValue) (nodes : List FeatureValue) (holds : ℕ → Type 0) : Type 0 where
   pub firm : (d : NumberedValue) → Contains ds d → is_firm d.form ≡ true → holds d.from → holds d.to
   pub lined : (d : NumberedValue) → Contains ds d → is_lined d.form ≡ true → (x : ℕ × ℕ) → d.line ≡ Some x → CountsAt table g d.from x → holds d.from → holds d.to

@@ -19,7 +19,7 @@ use Rattle.test_select_feature_laws.specs.Rules.{HasChosen}
 use Rattle.test_select_rules.specs.RecordRules.{fault_of}
 use Rattle.test_select_feature_laws.specs.Verdicts.{HasCountingLine}
 
--- the graph is built of the rows of the record
+-- the graph is built of the rows of the record (from Cargo's reference, "Features")
 pub record IsBuiltOf (w : Workspace) (g : FeatureGraphValue) : Type 0 where
   pub packages : g.rows.packages ≡ w.packages
   pub links : g.rows.links ≡ w.links
@@ -32,6 +32,7 @@ KeptRecordsHaveGraphs = (w : Workspace) (g : FeatureGraphValue) → fault_of w �
 
 -- what is on under a choice, in a record that keeps the rules, is what lies in each set that has what the choice switches on by
 -- itself and is closed under the edges that lead always and the offers behind which a line counts
+-- (from Cargo's reference, "Features")
 abbrev pub KeptEdgesLeadToWhatIsOn : Type 0
 KeptEdgesLeadToWhatIsOn =
     (w : Workspace) (choice : Choice) (table : PlatformTable) (g : FeatureGraphValue) (accepts : Offer → Bool) (f : FeatureValue)
@@ -40,7 +41,7 @@ KeptEdgesLeadToWhatIsOn =
     → ((o : Offer) → IsTrue (accepts o) ↔ HasCountingLine table (link_of g o))
     → IsOn (rule_list w choice table) f ↔ ((s : FeatureSet) → HasChosen w choice s → AreEdgesClosed Forward (offers_of Forward g) [] accepts (λ v. s (feature_at g v) ≡ true) → s f ≡ true)
 
--- in a record that keeps the rules each workspace package is on
+-- in a record that keeps the rules each workspace package is on (from Cargo's reference, "Features")
 abbrev pub WorkspacePackagesAreOn : Type 0
 WorkspacePackagesAreOn =
     (w : Workspace) (choice : Choice) (table : PlatformTable) (p : Package)
@@ -50,6 +51,7 @@ WorkspacePackagesAreOn =
     → IsOn (rule_list w choice table) (base_of p.id)
 
 -- in a record that keeps the rules each line that is on leads from a package that is on to one that is on
+-- (from Cargo's reference, "Features")
 abbrev pub LinesOnJoinPackagesOn : Type 0
 LinesOnJoinPackagesOn =
     (w : Workspace) (choice : Choice) (table : PlatformTable) (link : Link) (line : Line)

@@ -20,17 +20,19 @@ module _ (packages : List Package) (links : List Link) where
     pub is_to : position (bytes_eq b) (ids_of packages) ≡ Some to
     pub path : Reaches (links_among packages links) passes from to
 
-  -- a package leads to one that is listed after it only where that one leads back
+  -- a package leads to one that is listed after it only where that one leads back (Cargo builds dependencies first)
   abbrev pub AreBehind : (ℕ → Bool) → List Text → Type 0
   AreBehind passes ids = AllPairs (λ a b. Leads passes a b → Leads passes b a) ids
 
   -- the ids are those that a graph of the packages with these links lists in Reverse, without those of packages that are off
+  -- (Cargo builds dependencies first)
   pub record IsListedInReverse (on : List FeatureValue) (ids : List Text) : Type 0 where
     pub listing : List ℕ
     pub is_listing : IsListing (links_among packages links) (has (firm_flags links)) (λ v. nat_lt v (length packages)) listing
     pub ids_are : ids ≡ filter (λ id. concluded_set on (base_of id)) (map (λ v. slice_index_or (ids_of packages) v []) (reverse listing))
 
   -- the packages that are on, each once, dependencies first: by all links, and by those with a normal or a build line alone
+  -- (Cargo builds dependencies first)
   pub record IsDependencyOrder (on : List FeatureValue) (ids : List Text) : Type 0 where
     pub members : (id : Text) → Contains ids id ↔ (IsPackageId packages id × Contains on (base_of id))
     pub once : AllPairs (λ a b. a ≢ b) ids

@@ -26,11 +26,11 @@ link_on in_workspace on table link =
 abbrev pub is_line_on : TableValue → List FeatureValue → PlatformTable → Link → Line → Bool
 is_line_on g on table link line = line_is_on (is_workspace_package (rows_of g) link.from) on table link line
 
--- a link is on where one of its lines is
+-- a link is on where one of its lines is (from Cargo's reference, "Features")
 abbrev pub is_link_on : TableValue → List FeatureValue → PlatformTable → Link → Bool
 is_link_on g on table link = list_any (is_line_on g on table link) link.lines
 
--- the link with just its lines that are on
+-- the link with just its lines that are on (from Cargo's reference, "Features")
 abbrev pub with_lines_on : TableValue → List FeatureValue → PlatformTable → Link → Link
 with_lines_on g on table link = record link { lines = filter (is_line_on g on table link) link.lines }
 
@@ -38,6 +38,6 @@ with_lines_on g on table link = record link { lines = filter (is_line_on g on ta
 abbrev pub link_on_of : TableValue → List FeatureValue → PlatformTable → Link → List Link
 link_on_of g on table link = link_on (is_workspace_package (rows_of g) link.from) on table link
 
--- the links that are on, each with just its lines that are
+-- the links that are on, each with just its lines that are (from Cargo's reference, "Features")
 abbrev pub links_on : TableValue → List FeatureValue → PlatformTable → List Link
 links_on g on table = map (with_lines_on g on table) (filter (is_link_on g on table) g.links)

@@ -25,10 +25,12 @@ use Rattle.test_select_tests.specs.Selecting.{IsAsked, IsAvailableBinary, IsRepo
 use Rattle.test_select_tests.specs.declared.asked_binaries.AskedBinaries.{AskedBinaries}
 
 -- the graph has the packages of the declared one, and just the lines that are on where these features are
+-- (from nextest's filtersets)
 abbrev pub IsSwitchedOn : TableValue → List FeatureValue → PlatformTable → TableValue → Type 0
 IsSwitchedOn declared on table g = IsTableOf declared.packages (links_on declared on table) declared.workspace g
 
 -- what `deps` and `rdeps` find by links that are on, they find by declared links, among the same packages or more
+-- (from nextest's filtersets)
 abbrev pub SwitchedDependenciesAreDeclared : Type 0
 SwitchedDependenciesAreDeclared =
     (switched declared : ContextValue) (on : List FeatureValue) (table : PlatformTable) (test : NameTest) (id : Text)

@@ -3,7 +3,7 @@ use Rattle.workspace_record.specs.Records.{Text}
 use Rattle.nextest_binaries.specs.Queries as asked
 use Rattle.test_select_rules.specs.Binaries.{Binary, kind_text, platform_of}
 
--- a binary of the record, as filters are asked about it
+-- a binary of the record, as filters are asked about it (from nextest)
 abbrev pub binary_asked : Binary → asked.Binary
 binary_asked b = record {
   package_id = b.owner.id;
@@ -13,6 +13,6 @@ binary_asked b = record {
   platform = platform_of b.target.kind;
 }
 
--- a test of it
+-- a test of it (from nextest)
 abbrev pub test_asked : Binary → Text → asked.Test
 test_asked b test = record { binary = binary_asked b; name = test }

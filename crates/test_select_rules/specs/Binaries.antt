@@ -9,7 +9,7 @@ use Rattle.nextest_binaries.specs.BinaryIds as ids
 use Rattle.nextest_binaries.specs.declared.build_platform.BuildPlatform.{BuildPlatform}
 use Rattle.nextest_binaries.specs.declared.build_platform.BuildPlatform.TheVariants as platform
 
--- a target of a package, its owner, which is built into a test binary under an id of its own
+-- a target of a package, its owner, which is built into a test binary under an id of its own (from nextest's binary ids)
 pub record Binary : Type 0 where
   pub id : Text
   pub owner : Package
@@ -57,6 +57,6 @@ binary_of p t = record { id = binary_id p.name t.kind t.name; owner = p; target 
 abbrev pub binaries_of : Package → List Binary
 binaries_of p = map (binary_of p) (filter (λ t. t.tested && may_have_tests t.kind) p.targets)
 
--- the binaries of the members, by package and then target
+-- the binaries of the members, by package and then target (from nextest's binary ids)
 abbrev pub binaries : Workspace → List Binary
 binaries w = flat_map binaries_of (filter (λ p. is_member w p.id) w.packages)

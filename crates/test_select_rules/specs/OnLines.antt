@@ -7,7 +7,7 @@ use Rattle.feature_account_rules.specs.Lines.{counts}
 use Rattle.feature_account_rules.specs.RuleList.{line_start, named_of}
 use Rattle.test_select_rules.specs.Binaries.{Binary}
 
--- a line is on where it counts and its start is: its source, or the optional dependency
+-- a line is on where it counts and its start is: its source, or the optional dependency (from Cargo's reference, "Cargo Targets")
 pub record LineIsOn (w : Workspace) (table : PlatformTable) (on : FeatureValue → Type 0) (link : Link) (line : Line) : Type 0 where
   pub declared : Contains link.lines line
   pub counts : counts w table link.from line ≡ true
@@ -17,6 +17,6 @@ pub record LineIsOn (w : Workspace) (table : PlatformTable) (on : FeatureValue �
 abbrev pub HasRequired : (FeatureValue → Type 0) → Text → Target → Type 0
 HasRequired on package_id target = (name : Text) → Contains target.required_features name → on (named_of package_id name)
 
--- a binary is available where its required features are on
+-- a binary is available where its required features are on (from Cargo's reference, "Cargo Targets")
 abbrev pub IsAvailable : (FeatureValue → Type 0) → Binary → Type 0
 IsAvailable on b = HasRequired on b.owner.id b.target

@@ -21,6 +21,7 @@ abbrev pub has_optional_name : Workspace → Link → Bool
 has_optional_name w l = option_map_or (λ p. has_optional p l.name) (package_of w l.from) false
 
 -- a link with an optional line has its name among its source's optional dependencies
+-- (from Cargo's reference, "Optional dependencies")
 abbrev pub names_its_optional_lines : Workspace → Link → Bool
 names_its_optional_lines w l = not (has_optional_line l) || has_optional_name w l
 

@@ -5,7 +5,7 @@ use Rattle.nextest_binaries.specs.declared.build_platform.BuildPlatform.{BuildPl
 use Rattle.nextest_binaries.specs.declared.binary_info.BinaryInfo.{BinaryInfo}
 use Rattle.test_select_rules.specs.Binaries.{Binary, platform_of}
 
--- a binary's id, its package's id, and its target's name, kind and platform
+-- a binary's id, its package's id, and its target's name, kind and platform (from nextest)
 pub record Told : Type 0 where
   pub id : Text
   pub package_id : Text
@@ -13,7 +13,7 @@ pub record Told : Type 0 where
   pub kind : TargetKind
   pub platform : BuildPlatform
 
--- what is to be told of a binary
+-- what is to be told of a binary (from nextest)
 abbrev pub told_of : Binary → Told
 told_of b = record { id = b.id; package_id = b.owner.id; name = b.target.name; kind = b.target.kind; platform = platform_of b.target.kind }
 

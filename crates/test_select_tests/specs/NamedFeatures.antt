@@ -14,5 +14,6 @@ abbrev pub named_pair : FeatureValue → List (Text × Text)
 named_pair f = named_by f.package_id f.label
 
 -- the features that are said to be on are the named ones among these, each by the id of its package and its name
+-- (from Cargo's features)
 abbrev pub AreNamedOn : List FeatureValue → List (Text × Text) → Type 0
 AreNamedOn on named = (f : Text × Text) → Contains named f ↔ Contains on (named_of f.0 f.1)

@@ -10,7 +10,7 @@ pub record WritesNumber (text : Text) (number : ℕ) : Type 0 where
   pub value : number ≡ digits_value 10 (without_leading_plus text)
   pub fits : number < 2 ^ 64
 
--- the text is `count:M/N` for this part of so many parts, from 1
+-- the text is `count:M/N` for this part of so many parts, from 1 (from nextest)
 pub record AsksForPart (text : Text) (part parts : ℕ) : Type 0 where
   pub first : Text
   pub second : Text
@@ -20,10 +20,10 @@ pub record AsksForPart (text : Text) (part parts : ℕ) : Type 0 where
   pub from_one : 1 ≤ part
   pub within : part ≤ parts
 
--- the place, from 0, is one of this part of so many parts
+-- the place, from 0, is one of this part of so many parts (from nextest)
 abbrev pub is_in_part : ℕ → ℕ → ℕ → Bool
 is_in_part part parts place = place % parts == part - 1
 
--- what stands at the places of the part, in their order
+-- what stands at the places of the part, in their order (from nextest)
 abbrev pub part_of : {A : Type 0} → ℕ → ℕ → List A → List A
 part_of part parts xs = map (λ e. e.1) (filter (λ e. is_in_part part parts e.0) (enumerate_from 0 xs))

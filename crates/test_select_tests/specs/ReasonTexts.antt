@@ -22,6 +22,7 @@ binary_text binary.DefaultFilter = codes "default filter cannot hold"
 binary_text binary.NoFilter = codes "no filter can hold"
 binary_text binary.Asked = codes "asked"
 
+-- what a reason prints
 abbrev pub reason_text : Reason → Text
 reason_text (NoBinary id) = codes "no binary " ++ id.now
 reason_text (Off owner feature) = codes "off: needs " ++ (owner.now ++ (codes "/" ++ feature.now))

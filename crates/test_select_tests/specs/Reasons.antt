@@ -36,6 +36,7 @@ says_yes (OfBinary why) = is_asked why
 
 -- the reason is a test's, where these say whether it is listed, whether the default filter holds of it, which of the texts' filters hold, and whether texts are given
 module _ {F : Type 0} (listed default : Type 0) (holds : F → Type 0) (filters : List F) (given : Type 0) where
+  -- why a test of an available binary is chosen or not: the first of these that applies
   abbrev pub IsTestReason : TestReason → Type 0
   IsTestReason NotListed = listed → ⊥
   IsTestReason DefaultFilter = listed × (default → ⊥)
@@ -45,20 +46,21 @@ module _ {F : Type 0} (listed default : Type 0) (holds : F → Type 0) (filters 
 
 -- the reason is a binary's, where these say whether some answers let it through the default filter, and whether some let it through a text's
 module _ {F : Type 0} (default : Type 0) (may_hold : F → Type 0) (filters : List F) where
+  -- why an available binary is asked or not
   abbrev pub IsBinaryReason : BinaryReason → Type 0
   IsBinaryReason binary.DefaultFilter = default → ⊥
   IsBinaryReason binary.NoFilter = default × (((f : F) × Contains filters f × may_hold f) → ⊥)
   IsBinaryReason binary.Asked = default × ((f : F) × Contains filters f × may_hold f)
 
 module _ (on : FeatureValue → Type 0) where
-  -- the feature is the first that the binary requires and that is off
+  -- the feature is the first that the binary requires and that is off (from Cargo's reference, "Cargo Targets")
   pub record IsFirstOff (b : Binary) (feature : Text) : Type 0 where
     pub place : ℕ
     pub at : slice_get b.target.required_features place ≡ Some feature
     pub off : on (named_of b.owner.id feature) → ⊥
     pub before : (name : Text) → Contains (take place b.target.required_features) name → on (named_of b.owner.id name)
 
-  -- there is such a feature, or the binary is available
+  -- there is such a feature, or the binary is available (from Cargo's reference, "Cargo Targets")
   abbrev pub FindsOff : Binary → Option Text → Type 0
   FindsOff b (Some feature) = IsFirstOff b feature
   FindsOff b None = IsAvailable on b

@@ -31,7 +31,7 @@ use Rattle.test_select_tests.specs.Readings.{AreReadings, Readings}
 use Rattle.test_select_tests.specs.Selections.{Selected}
 
 module _ (q : Question) where
-  -- a test binary of the workspace, whose required features are on
+  -- a test binary of the workspace, whose required features are on (from Cargo's reference, "Cargo Targets"; nextest)
   pub record IsAvailableBinary (b : Binary) : Type 0 where
     pub declared : Contains (binaries q.workspace) b
     pub available : IsAvailable (IsFeatureOn q) b
@@ -47,6 +47,7 @@ module _ (q : Question) where
     DefaultHolds b test = DefaultHoldsIn r.context r.filters (test_asked b test)
 
     -- some answers about its tests let the binary through one of the texts, and some through the default filter
+    -- (from Cargo's reference, "Cargo Targets"; nextest)
     abbrev pub IsLetThrough : Binary → Type 0
     IsLetThrough b = ((f : Formula FilterLeaf) × Contains r.texts f × MayHoldIn r.context r.filters (binary_asked b) f) × DefaultGivesIn r.context r.filters (binary_asked b) true
 
@@ -55,6 +56,7 @@ module _ (q : Question) where
     IsWanted b = WantedIn q.asks (IsLetThrough b)
 
     -- the test of a binary: it is available, its listing holds the test, one of the texts holds, and the default filter does
+    -- (from nextest)
     pub record IsChosen (listing_of : Text → Option (List Text)) (pair : Text × Text) : Type 0 where
       pub binary : Binary
       pub available : IsAvailableBinary binary

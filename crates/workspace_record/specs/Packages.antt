@@ -13,18 +13,18 @@ abbrev pub first_of_each : List Package → List Package
 first_of_each [] = []
 first_of_each (p ∷ ps) = p ∷ filter (λ q. not (bytes_eq p.id q.id)) (first_of_each ps)
 
--- the package's manifest names the feature
+-- the package's manifest names the feature (from Cargo's reference, "Features", "Workspaces")
 abbrev pub has_feature : Package → Text → Bool
 has_feature p name = list_any (λ f. bytes_eq name f.name) p.features
 
--- the package has an optional dependency of this name
+-- the package has an optional dependency of this name (from Cargo's reference, "Features", "Workspaces")
 abbrev pub has_optional : Package → Text → Bool
 has_optional p name = list_any (bytes_eq name) p.optional
 
--- the id stands among the members
+-- the id stands among the members (from Cargo's reference, "Features", "Workspaces")
 abbrev pub is_member : Workspace → Text → Bool
 is_member w id = list_any (λ m. bytes_eq id m.package_id) w.workspace.members
 
--- a workspace package stands among the packages and among the members
+-- a workspace package stands among the packages and among the members (from Cargo's reference, "Features", "Workspaces")
 abbrev pub is_workspace_package : Workspace → Text → Bool
 is_workspace_package w id = list_any (λ p. bytes_eq id p.id) w.packages && is_member w id
