@@ -38,6 +38,7 @@ pub(crate) fn first_fault<'r, 'a>(
     Ok(None)
 }
 
+// Public, so that the crates above look rules up by what stands already.
 /// The rule with this number.
 pub fn rule_of<'r, 'a>(rules: &'r [LentRule<'a>], number: usize) -> &'r LentRule<'a>
     requires known { number < length rules.now }

@@ -10,6 +10,9 @@ use indexmap::IndexSet;
 use std::alloc::{AllocError, Global};
 use workspace_record::Feature;
 
+// It goes over the account from its end with the features that are needed, and takes an entry that concludes
+// one of them. Of the account's sublists just one can explain a feature, since no two entries conclude the
+// same; no law says so.
 /// The entries of an account, in its order, that the conclusion of the feature rests on, that one last;
 /// none where no entry concludes the feature.
 ///

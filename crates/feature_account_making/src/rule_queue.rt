@@ -8,6 +8,7 @@ use indexmap::IndexMap;
 use std::alloc::{AllocError, Global};
 use std::collections::BTreeSet;
 
+// A set of all numbers would say the same, and half of the search went into it.
 /// Those from `next` on, none of which was ever looked at, and those before it that were woken since.
 #[derive(Drop)]
 pub(crate) struct RuleQueue {

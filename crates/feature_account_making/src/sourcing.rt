@@ -15,6 +15,7 @@ use workspace_record::{
     WorkspaceRecord,
 };
 
+// Several rules may be equal and come from different entries; each keeps its own.
 /// The rules that `feature_account::rules` lists, in its order, each with what it comes from.
 ///
 /// The work grows as that of `rules`.

@@ -4,6 +4,8 @@ ghost use Rattle.feature_account_making.specs.declared.write_account_error.Write
 use std::alloc::AllocError;
 use std::io;
 
+// A writer can itself fail for want of memory, so this is told apart: where `Memory` is answered nothing was
+// written.
 /// Why an account was not written whole.
 #[derive(Debug, Drop)]
 pub enum WriteAccountError {

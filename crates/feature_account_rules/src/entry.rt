@@ -17,6 +17,8 @@ pub(crate) enum Entry<'a> {
     Weak(&'a str, &'a str),
 }
 
+// By the letter: `dep:d/x` names the optional dependency `d/x`; `/x`, `?/x` and `d/` have empty names; of
+// `d??/x` one question mark is taken off.
 pub(crate) fn entry_of(text: &str) -> Entry<'_>
     ensures { entry_view result ≡ entry_value text.entry.now }
 {

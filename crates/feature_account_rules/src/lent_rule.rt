@@ -48,6 +48,9 @@ impl<'a> LentPremises<'a> {
     }
 }
 
+// A `Rule` owns its features' texts, as callers want to keep it; a list of them for a record would copy each
+// id several times, which took an eighth of an account's time. So the rules are made here, lent, and `Rule`s
+// are copies of them.
 /// A rule of Cargo's features, whose texts are lent. In contracts it is the rule.
 #[derive(Debug, Drop)]
 pub struct LentRule<'a> {

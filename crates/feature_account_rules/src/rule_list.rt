@@ -53,6 +53,9 @@ pub fn rules_in(
     copies_of(alloc, &rules)
 }
 
+// Packages, members, features and links are found in an index, which contracts see as its record: so the code
+// can be read beside its definition. A repeated feature or optional name gives its rules once for each entry,
+// a repeated `default` is chosen once, and a rule whose conclusion is among its premises keeps its number.
 /// The same rules, whose texts the record and the choice lend.
 pub fn lent_rules<'a>(
     alloc: Global,

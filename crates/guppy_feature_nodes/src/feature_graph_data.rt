@@ -221,6 +221,8 @@ impl<'g> FeatureGraphData<'g> {
         &self.forward
     }
 
+    // Another graph for one reason: an optional half that waits for a dependency that there is not is never due
+    // forward, and due at once in reverse. No node stands for what is not there.
     /// The edges as they are offered in reverse, which the graph does not keep.
     pub fn reverse_offers(&self, alloc: Global) -> Result<OfferGraph, AllocError>
         ensures offers { IfOk result (λ g. g ≡ offered Reverse self.now) }

@@ -12,6 +12,7 @@ use guppy_package_parts::DependencyDirection;
 use std::alloc::{AllocError, Global};
 
 impl<'g> PackageSet<'g> {
+    // A loop of its own beside that of `partition`, so that no set is made of what is refused.
     /// The packages of the set that the callback accepts. It is asked about each once, in the order in
     /// which the set is listed.
     pub fn filter<F: FnMut(PackageMetadata<'g>) -> bool>(

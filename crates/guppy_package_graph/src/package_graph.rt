@@ -97,6 +97,7 @@ impl PackageGraph {
         Ok(PackageGraph { table, members })
     }
 
+    // The listing keeps its order; the other indices are made anew.
     /// An equal graph, with links of its own.
     pub fn copy(&self, alloc: Global) -> Result<PackageGraph, AllocError>
         ensures same { IfOk result (λ g. g ≡ self.now) }
@@ -219,6 +220,8 @@ impl PackageGraph {
         self.table.id_at(place)
     }
 
+    // Public, since links of features name links of packages by numbers, and to look for one from its package
+    // would be a scan.
     /// The link with a number.
     pub fn link_at(&self, number: usize) -> PackageLink<'_>
         requires { number < length self.now.links }

@@ -156,6 +156,8 @@ impl<'g> PackageSet<'g> {
         Ok(PackageSet::of(self.graph, included))
     }
 
+    // It takes no memory: it goes over the graph's listing and passes over what is not in the set. Its exact length
+    // is counted when it is asked for.
     /// The packages of the set: components together, links between components forward, and those
     /// forward too that have a normal or a build line, unless they lie on a cycle of such links. In
     /// Reverse that list reversed.

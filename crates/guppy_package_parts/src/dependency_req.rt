@@ -116,6 +116,8 @@ impl<'g> DependencyReq<'g> {
         self.status_of_part(Part::NotAskingDefaults)
     }
 
+    // It keeps the row's own text, so that the caller's may be shorter-lived; where no line lists the feature both
+    // statuses are Never.
     /// Where a feature of the dependency is on.
     pub fn feature_status(&self, feature: &str) -> EnabledStatus<'g>
         ensures { HasStatus (filter (lists feature.now) (requirement_lines self.now)) result }
@@ -129,6 +131,7 @@ impl<'g> DependencyReq<'g> {
         }
     }
 
+    // It takes no memory: it looks for the lowest name above the last one each time. Lines of one link are few.
     /// The features that are asked for: the names in required lines ascending, each once, and then
     /// those in optional lines likewise.
     pub fn features(&self) -> RequirementFeatures<'g>

@@ -64,6 +64,7 @@ impl<T: Ord> SortedSet<T> {
 }
 
 impl<T: Ord + Clone> SortedSet<T> {
+    // A clone is what the element's type says it is and may compare otherwise, so the copy is put in order anew.
     /// The set of clones of the elements, in memory of its own.
     pub fn copy(&self, alloc: Global) -> Result<SortedSet<T>, AllocError>
         ensures clones { IfOk result (HoldsClones T.is_clone T.eq T.cmp self.now) }

@@ -77,6 +77,8 @@ pub(crate) fn first_repeated_name(
     first_repeated_text(alloc, &names)
 }
 
+// The name of a member is that of the first package with its id. The rule on members comes before, so each has
+// one.
 fn member_names<'a>(
     alloc: Global,
     packages: &'a [PackageRecord],

@@ -19,6 +19,8 @@ use crate::target_rules::first_repeated_target;
 use std::alloc::Global;
 use workspace_record::{LinkRecord, PackageRecord, WorkspaceInfo};
 
+// Versions and requirements are read where their rules are tested, so the rules stand in three parts round the
+// two readings; that the first broken one of the whole list is told is proved of the parts.
 /// What is read in these rows, which keep the rules on packages, links and members; or the first of the
 /// rules that they break, with the first place that breaks it. Places count packages, links, members or
 /// default members from 0, as the rule says; of two equal entries the later one breaks it.

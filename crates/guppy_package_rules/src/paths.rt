@@ -7,6 +7,7 @@ ghost use Rattle.guppy_package_rules.specs.Paths.{is_relative, is_part, parts, c
 
 use std::cmp::Ordering;
 
+// As with Rust's paths; `..` is a part like others. The empty path and `.` are one path, `/` is another.
 /// Compares two paths by their components: those that begin with a `/` come first, and then parts
 /// are compared in turn, byte by byte. Empty parts and `.` do not count.
 pub fn compare_paths(a: &str, b: &str) -> Ordering

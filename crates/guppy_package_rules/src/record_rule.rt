@@ -2,6 +2,8 @@
 
 use std::fmt;
 
+// It names every rule of records, since it is what a caller matches on; `first_broken` has no place for those
+// that rows of packages, links and members cannot break.
 /// A rule that records keep, printed by its code, as `K5`.
 #[derive(Clone, Copy, Debug, PartialEq, Eq, Hash)]
 pub enum RecordRule {

@@ -41,6 +41,7 @@ fn target_keys(alloc: Global, targets: &[TargetRecord]) -> Result<Vec<String>, A
     Ok(keys)
 }
 
+// A library and a procedural macro share a key, build scripts have one; others are told apart by kind and name.
 fn target_key(alloc: Global, kind: TargetKind, name: &str) -> Result<String, AllocError>
     ensures { IfOk result (λ key. string_bytes key ≡ target_key kind name.now) }
 {

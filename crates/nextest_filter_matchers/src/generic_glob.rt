@@ -33,6 +33,8 @@ impl GenericGlob {
     ghost use Rattle.nextest_filter_matchers.specs.Globs.{GlobMatches};
     ghost use Rattle.nextest_filter_matchers.specs.Matchers.{glob_text, tokens_of, is_glob_read};
 
+    // The outer `Result` is for want of memory, the inner for a text that is no glob. The first fault from the left
+    // is told, that of a class before the braces that hold it.
     /// Reads a glob, or says why the text is none.
     pub fn new(alloc: Global, text: String) -> Result<Result<GenericGlob, GlobError>, AllocError>
         ensures { IfOk result (λ r. is_glob_read (string_bytes text) r) }
@@ -60,6 +62,9 @@ impl GenericGlob {
         self.text.as_str()
     }
 
+    // It takes no memory. Without braces two places are enough: the first place where the tokens behind a gap go on
+    // is as good as any later one (`first_is_best`). With braces one walk over the name has a flag or two for each
+    // token, on the stack. A glob whose tokens are its text's characters is compared as text.
     /// Whether the glob matches the whole text, in time of its tokens times the text's characters. Only one
     /// with braces and more than 65,536 tokens may take longer.
     pub fn is_match(&self, text: &str) -> bool

@@ -11,6 +11,7 @@ pub enum Style {
     Glob,
 }
 
+// Public, since the definitions of the grammar speak of it and the crate of printing cites these.
 /// What a matcher begins with.
 #[derive(Clone, Copy, Debug, PartialEq, Eq)]
 pub enum Sign {

@@ -103,6 +103,7 @@ impl ParseContext<'_> {
     }
 }
 
+// So `query_directed` never refuses one: where a package of a context is not in its graph no path leads from it.
 /// Those of the ids that are of packages of the graph.
 fn known_to<'a>(
     alloc: Global,

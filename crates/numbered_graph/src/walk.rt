@@ -14,6 +14,7 @@ use std::alloc::{AllocError, Global};
 use std::marker::Model;
 use std::sync::ledger::Ledger;
 
+// What was shown stays in memory for contracts alone, which tell a run by it.
 /// A walk from some nodes in a direction. `take` gives a link that leaves an included node, `answer`
 /// says whether it is accepted, and then its far end is included too. After `new` nothing takes
 /// memory, so that a caller may ask somebody between the two.

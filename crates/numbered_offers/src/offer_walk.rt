@@ -16,6 +16,9 @@ use std::alloc::{AllocError, Global};
 use std::marker::Model;
 use std::sync::ledger::Ledger;
 
+// `take` gives both halves at once, where the dependency was reached before the edge was met: both are due at
+// one moment, and nothing has to be held back. A look is counted where a node leaves the work list, once each
+// link that waits for it was met.
 /// A walk from some nodes in a direction. `take` gives what is offered next, `answer` says what of it
 /// is accepted. After `new` nothing takes memory, so that a caller may ask somebody between the two.
 #[derive(Drop)]

@@ -25,6 +25,8 @@ pub struct Asked {
     pub second: bool,
 }
 
+// An edge has two counts, also where it has no such offer: a count for each offer alone would need a table
+// from edges to counts.
 /// A walk over all links, the link that was taken last, how many premises are not reached, of each
 /// edge those of its unsplit offer or required half and those of its optional half, and what was asked.
 #[derive(Drop)]

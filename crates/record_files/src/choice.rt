@@ -83,6 +83,7 @@ pub(crate) fn extra_of(alloc: Global, value: &Value<'_>) -> Result<Feature, Read
     Ok(Feature { package, label })
 }
 
+// Public, so that a word of the command line is read as a choice is.
 /// The label that a text names, as in a choice: the empty text the package itself, `dep:d` the optional
 /// dependency `d`, and any other text the feature of that name.
 pub fn label_of(alloc: Global, text: &str) -> Result<Label, AllocError>

@@ -1,6 +1,8 @@
 use crate::key::Key;
 use std::fmt;
 
+// A binary's id is told apart from a key, so an id that is spelled as a key is not taken for one. A wrong
+// answer of a table is a fault of `answers`, since a spec is no name that a user gave.
 /// What is missing or of the wrong kind.
 #[derive(Debug, Drop, PartialEq, Eq)]
 pub enum Field {

@@ -19,6 +19,9 @@ use std::convert::AsStr;
 use std::io::Write;
 use test_select_files::{FileSource, print_verdict};
 
+// What was read is let go of here too: to leave it to the system would save a thirtieth of a run, and be
+// another function than the one that is promised and tested. A refused flush is `cannot write`, as is each
+// fault of the writer, its want of memory included: what was written cannot be told.
 /// Runs the program on a command line, whose first word is the program's name, and answers the
 /// status that it ends with: 0 if all was done, 1 if something was refused or failed, and 2 for a
 /// bad command line.

@@ -43,6 +43,8 @@ impl<'t> LineVerdict<'t> {
         Ok(LineVerdict { table, platform })
     }
 
+    // All lines behind an edge lead from one package, that of the feature from which the edge leads: so whether it
+    // is a member is asked once for a link.
     /// Whether a line behind the link counts.
     pub fn accepts(&self, link: ConditionalLink<'_>) -> bool
         ensures counting { IsTrue result ↔ HasCountingLine (table_of self.now)

@@ -14,6 +14,8 @@ use std::marker::Model;
 use test_select_rules::FeaturesOn;
 use workspace_record::{Feature, Label};
 
+// Ids of packages begin alike, so a search by halving reads each of them far; lines of optional dependencies
+// are few, and found by halving.
 /// The features that are on, and the ids of the packages that are, in a set that finds them at once:
 /// most lines start at a package. In contracts it is the features.
 pub(crate) struct IndexedFeatures<'a> {

@@ -28,6 +28,8 @@ use test_select_feature_laws::laws::edges_lead_to_what_is_on;
 use test_select_rules::FeaturesOn;
 use workspace_record::{Feature, FeatureChoice, PlatformTable, Standard, WorkspaceRecord};
 
+// `LineVerdict` is asked by a closure: a value that is lent as `&mut dyn FeatureLinkVisitor` inside a proved
+// function is still seen to answer by its trait, but no longer to be the one that was lent.
 /// The features that are on under a choice and a table, in ascending order: those that the feature graph
 /// of the record's package graph leads to from the features of members that are standard ones of the
 /// choice or extras, over the links behind which a line counts.

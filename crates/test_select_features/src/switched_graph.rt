@@ -12,6 +12,8 @@ use std::alloc::{AllocError, Global};
 use test_select_rules::FeaturesOn;
 use workspace_record::{LinkRecord, PlatformTable};
 
+// Made of the graph, not of the record: `PackageGraph::with_links` shares the rows of packages and of the
+// workspace by a count of owners, and makes anew what depends on links alone.
 /// The graph of the same packages with exactly the lines that are on where these features are: those
 /// that count on the table's platform and whose start is among the features. A link stays where a line
 /// of it does. Takes time in proportion to packages, lines and features, and to the logarithm of the

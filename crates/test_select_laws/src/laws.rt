@@ -25,6 +25,7 @@ pub fn declared_selections_agree()
     ensures agree { DeclaredSelectionsAgree }
 {}
 
+// Groups keep their order, since a test is in the first whose filter holds.
 /// Another order of packages, targets, features, entries, optional dependencies, links, lines and
 /// members, with the same groups and default filter, changes neither the texts that are accepted, nor
 /// the report over the same listings, nor the binaries that are asked, in either scope.

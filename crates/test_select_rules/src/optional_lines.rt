@@ -5,6 +5,7 @@ ghost use Rattle.test_select_rules.specs.RecordRules.{has_optional_line, has_opt
 
 use workspace_record::{LinkRecord, RecordIndex};
 
+// The package is found by its id, so this rule comes behind those on ids and ends.
 /// The first link with an optional line whose name is not among its source's optional dependencies.
 pub(crate) fn first_unnamed_link(index: &RecordIndex<'_>) -> Option<usize>
     ensures { result ≡ position (λ l. not (names_its_optional_lines index.now l)) index.now.links }

@@ -4,6 +4,8 @@ ghost use Rattle.test_select_rules.specs.Binaries.{kind_text};
 use nextest_binaries::{PackageId, RustBinaryId, RustTestBinaryKind};
 use workspace_record::{PackageRecord, TargetRecord};
 
+// It holds its whole package: a contract on the id alone would let it point to another package with that id,
+// which `binaries` takes, though the rules refuse such records.
 /// A target of a package, which is built into a test binary under an id of its own. Binaries are
 /// compared by their ids, which are distinct in a record that keeps the rules.
 pub struct TestBinary<'a> {

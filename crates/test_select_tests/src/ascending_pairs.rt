@@ -9,6 +9,8 @@ ghost use Rattle.list_facts.specs.Texts.{pair_of};
 use list_facts::sorted_pairs;
 use std::alloc::AllocError;
 
+// Binaries are planned in the order of their ids, so what is chosen ascends as it is made; it is sorted only
+// where it does not.
 /// The pairs, each once, by their first texts, those with one first text by their second. Pairs that
 /// ascend are left as they are.
 pub(crate) fn ascending_pairs(
