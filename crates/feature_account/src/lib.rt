@@ -1,6 +1,10 @@
 //! Checkers of accounts of what is on, and of explanations why a feature is. It gives out the rules
 //! that these are about.
 //!
+//! It shares the list of rules with the search for an account (`feature_account_making`), and
+//! nothing else. Both checkers read entries by one loop (`soundness.rt`); that of explanations then
+//! goes back over them once, with the set of the premises seen.
+//!
 //! Begin with `specs/Accounts.antt`, then `account_check.rt`. It is what a stranger trusts, and stays
 //! small: nothing here searches, and nothing of the graphs stands below.
 #![tactic(auto)]

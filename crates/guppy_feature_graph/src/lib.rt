@@ -1,6 +1,12 @@
 //! guppy's feature graph: features and the links between them, walks over them that a visitor steers,
 //! and sets of features. It gives out all of the nodes and views.
 //!
+//! A resolve is the loop over `OfferWalk` in `resolving.rt`, once with a `&mut dyn
+//! FeatureLinkVisitor` and once with a closure. `ask_due` asks about what is offered at once, of two
+//! halves about the required one first; `ask` makes the link and the context. The loop's invariant
+//! says that the walk is the query's (`IsWalkOf`), that what was shown chains by the visitor's
+//! steps, that no call changed the steps, and how many looks were taken.
+//!
 //! Begin with `feature_graph.rt`, then `feature_query.rt` and `feature_set.rt`; `specs/Resolves.antt`
 //! says what a resolve answers. Each public item is a name of guppy's.
 

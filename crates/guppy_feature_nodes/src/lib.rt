@@ -2,6 +2,16 @@
 //! what leads from one to another. What is demanded between two nodes is joined in one edge where it is
 //! crossed in the same way.
 //!
+//! A build goes so: the rows give the list of all features, of which the first of each is a node
+//! (`NodeTable`, found by hash); nodes and links give what each feature, entry and line demands, by
+//! names; the ends become numbers, and what has an unknown end or leads to itself is dropped; of the
+//! demands that join in one edge the first is kept with the sorted lines of all, and those that give
+//! way go. A node is kept as the place of its package and its label (`NodeName`), so it lends no
+//! text. The data keeps, in its invariant (`IsKept`), the edges as they are offered forward, and
+//! with each edge the links of the lines behind it (`EdgeLinks`); which lines are of a kind and
+//! declare what is shown is asked of the lines themselves. Default features, the graph of the edges
+//! and its listing are worked out once, when it is built.
+//!
 //! Begin with `feature_graph_data.rt` and `specs/GraphEdges.antt`, then `joining.rt`. How demands are
 //! sorted and joined is private; the rows of nodes and edges are what queries and laws stand on.
 

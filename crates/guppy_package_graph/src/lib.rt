@@ -1,6 +1,14 @@
 //! guppy's package graph: packages and the links between them, walks over them that a visitor steers,
 //! sets of packages and the order in which they are listed. It gives out all of the parts.
 //!
+//! `PackageMetadata` and `PackageLink` are a graph with a place or a number, and deref to what the
+//! row says. Sets and queries have models (`SetValue`, `QueryValue`); views that are `Copy` have
+//! none and are seen by functions of `specs/Views.antt`. A resolve is the loop over `Walk` in
+//! `resolving.rt`, once with a `&mut dyn PackageLinkVisitor` and once with a closure: a small
+//! function asks about one link. A part of a set that a callback chooses is the loop in
+//! `choosing.rt` over `Listed`: all memory is taken first, and its invariant (`IsChoosing`) says
+//! what was asked, in which order, and how the answers chain.
+//!
 //! Begin with `package_graph.rt`, then `package_query.rt` and `package_set.rt`; `specs/Resolves.antt`
 //! says what a resolve answers. Each public item is a name of guppy's.
 

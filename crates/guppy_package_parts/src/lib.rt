@@ -2,6 +2,10 @@
 //! what they build; on which platforms a dependency is on, and what is required of it. Beside these
 //! stand the errors and the warnings of graphs.
 //!
+//! A view of a row (`BuildTarget`, `DependencyReq`, `PlatformEval`) holds references and no memory;
+//! contracts see it by a function of `specs/..View(s).antt`. A status keeps no list: it keeps where
+//! its lines are (`Lines`) and goes over them by `split_first`.
+//!
 //! Begin with `platform_status.rt` and `specs/Statuses.antt` for platforms, `package_source.rt` and
 //! `specs/Sources.antt` for sources. Both graphs give these types out: their clauses are public, how a
 //! text is taken apart is private.

@@ -1,6 +1,13 @@
 //! The rows of a package graph with what is found in them at once: packages by id, members by path and
 //! by name, the links of a package by both ends, and what the accessors of one row lend.
 //!
+//! The table keeps in its invariant ids with their places, the versions that were read while the
+//! rules were tested, the members (`IndexesPackages`); requirements, and the graph of the places
+//! with its listing (`IndexesLinks`). Tables that differ in their links alone share the former with
+//! the rows (`SharedRows`). In contracts a table is its rows and its listing (`TableValue`). Links
+//! are seen as links of places (`numbered_links`), so paths, walks, listings and cycles are those of
+//! `numbered_graph`.
+//!
 //! Begin with `specs/Tables.antt`, then `table.rt`. How members and ids are found is private; that a
 //! table is one of its rows (`IsTableOf`) is what graphs stand on.
 

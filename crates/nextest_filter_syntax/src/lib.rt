@@ -1,6 +1,16 @@
 //! Filters as trees: their grammar, the leaves, how they are read, with their faults, and how they are
 //! printed.
 //!
+//! A filter is read in one pass over the bytes that goes on after a fault. Each function takes the
+//! place where its part begins and the list of faults, and answers the part (`None`: spoiled) and
+//! the place after it. A level of the grammar is a number (operands, intersections and differences,
+//! unions), and `tree_from` reads all three by one loop; `operand_from` and `tree_from` call each
+//! other, at most 256 deep. `proofs/GrammarFacts.antt` takes a reading apart by what stands at its
+//! beginning (`operand_at`) and behind a tree (`behind_at`), `proofs/StepFacts.antt` has one lemma
+//! for each step. That no text reads as two trees makes `read` and `only` into one answer at the top
+//! (`parse_with_faults`). What is built along the left side is built from the outside in, and then
+//! turned over without memory (`turned_over`).
+//!
 //! Begin with `specs/Grammar.antt` and `specs/LeafGrammar.antt`, then `parsing.rt`. The trees are
 //! nextest's; the reader's steps are private. No walk along the left side of a tree takes a frame of
 //! the stack for an operand.

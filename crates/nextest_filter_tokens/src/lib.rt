@@ -2,6 +2,14 @@
 //! texts and patterns of matchers. And the faults of filter texts with their spans, and the list of
 //! them.
 //!
+//! All readers say the same, in the words of `specs/ReadingSteps.antt`: `goes_on` (the place after
+//! is no earlier one and within the text, no fault was taken back), `spoils` (a part is answered and
+//! no pattern was refused, or there is a fault; `keeps` where there is always an answer), `read`
+//! (clean now, then the grammar reads the answer between the two places; `unbuilt`: some part also
+//! where a refused pattern spoiled it), `only` (clean before, and the grammar reads a part from
+//! here, then up to the same place, and clean now). A list without faults of the syntax is clean
+//! (`IsClean`).
+//!
 //! Begin with `specs/Texts.antt` and `specs/Operators.antt`, then `parse_error.rt` for the faults. The
 //! variants and fields of faults are nextest's; how a place is looked at is private.
 

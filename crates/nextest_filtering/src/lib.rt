@@ -1,6 +1,11 @@
 //! Filters over a package graph: texts compiled, and asked about binaries and tests. It gives out all
 //! of the syntax and of what filters are asked.
 //!
+//! `Filterset::parse` reads the text; bans, and then leaves that match nothing, are gathered from
+//! left to right. A `deps` or `rdeps` leaf asks `query_directed` from all matched packages, resolves
+//! it, and keeps the context's packages that were reached; a `feature` leaf keeps those with a
+//! feature that is said to be on, and becomes packages like these.
+//!
 //! Begin with `filterset.rt`, then `compiling.rt`; `specs/Meaning.antt` says what each leaf matches.
 //! Each public item is a name of nextest's.
 

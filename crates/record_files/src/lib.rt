@@ -2,6 +2,10 @@
 //! listings of tests. Each is JSON, and is read whole or refused with the first fault;
 //! `docs/FORMATS.md` has their keys.
 //!
+//! A file is a tree of `json` that lends its texts. Contracts see it as the data that `serde_json`
+//! would make of it (`seen`, `specs/Trees.antt`), of which the formats speak; what the two trees
+//! have to do with each other is in `proofs/Trees.antt` alone.
+//!
 //! Begin with `specs/Files.antt`, then `record.rt`. How a value is gone through is private. The keys,
 //! the shapes and which fault comes first are public, and the checker's program stands on no more than
 //! this and the rules: keep it lean.

@@ -2,8 +2,15 @@
 //! along the edges that lead always and the links behind which a line counts. Its account, why a
 //! feature is on, and the order in which the packages that are on build.
 //!
+//! `switched_on` asks each link's lines whether they are on (`links_on`, in `specs/LinesOn.antt`)
+//! and makes the graph of the same packages with the links that are left, which keep the rules
+//! (`kept_on`): none is tested again. A resolve gives the least set of nodes (`IsLeastBy`), whose
+//! features are what leads on from where it begins (`proofs/LeadingFacts.antt`). It begins at more
+//! than the choice switches on by itself, at what a member's `default` enables in its own package
+//! too; that leads to the same set (`proofs/StartFacts.antt`).
+//!
 //! Begin with `resolving.rt` and `switching.rt`; `specs/Switching.antt` has what each answers. The
-//! papers' calls are thin: each tests the record and the extras of the choice, and hands on what is
+//! public calls are thin: each tests the record and the extras of the choice, and hands on what is
 //! found. How lines that are on are numbered is private.
 
 #![tactic(auto)]

@@ -2,6 +2,15 @@
 //! is to be asked, what a lister answers, what is chosen and reported, in parts and by binary too; and
 //! whether and why a test is chosen, or a binary asked.
 //!
+//! The plan (`plan.rt`) asks nobody; its clause `Plans` says of each part what the question says
+//! (`proofs/PlanFacts.antt`; `proofs/PassFacts.antt`: compiled filters and filters as they were read
+//! say the same). Carrying it out (`asking.rt`) asks for each planned binary by `ask_each`, and
+//! keeps the names of which some filter is true; its clause `CarriesOut` speaks of the plan alone.
+//! `proofs/SelectingFacts.antt` joins the two to `Answers`, which speaks of no table of the code. A
+//! reason (`explaining.rt`) takes the same way up to the filters, finds the binary and what it lacks
+//! (`finding.rt`), and asks one filter after another (`holding.rt`) for one test, or asks what is
+//! known of the binary.
+//!
 //! Begin with `specs/Selecting.antt` and `specs/Questions.antt`, then `selecting.rt`. How a plan is
 //! made and carried out (`plan.rt`, `asking.rt`) is private; `select`, `why` and their clauses are what
 //! the program and its callers stand on.

@@ -3,6 +3,13 @@
 //! found in a record at once: packages by id, members, the features of a package by name, and links by
 //! the names that packages give them.
 //!
+//! In a contract a record is one of `specs/Records.antt` with the same fields, a text the list of
+//! its bytes, a vector a list: a clause says `find (λ p. bytes_eq id p.id) record.packages`. In
+//! `specs/` the struct's own name stands for that record. Equality is written by hand, field by
+//! field (`specs/RecordEquality.antt`), and proved to hold exactly of equal values, by
+//! `Equality.decide_by`. `PlatformTable` has no model: contracts ask it by `answer`, or list its
+//! answers by `answered`. A copy is an inherent `copy` that takes the allocator.
+//!
 //! Begin with `specs/Records.antt`, then `workspace.rt` and `package.rt`; `record_index.rt` finds
 //! things. How an index keeps what it finds is private; fields, their order and equality are what
 //! files, graphs and rules stand on.
