@@ -70,9 +70,9 @@ fn selects_by_a_lister_of_its_own(rt: HostRuntime) {
     };
     let selection = select(alloc, record, choice, table, scope, &texts, &mut lister);
     let selection = selection.expect(&rt, "a selection");
-    let mut report = Vec::new(alloc);
+    let mut report: Vec<u8> = Vec::new(alloc);
     assert!(rt; write_report(&selection, &mut report).is_ok());
-    let wanted: &[u8] = b"app starts\napp::net starts\n";
-    assert!(rt; report.as_slice() == wanted);
+    let expected: &[u8] = b"app starts\napp::net starts\n";
+    assert!(rt; report.as_slice() == expected);
     assert_eq!(rt; lister.asked.len(), 2);
 }
