@@ -16,6 +16,8 @@ impl FeatureFilter for Box<dyn FeatureFilter + Drop> {
     }
 }
 
+// Of a lent one a call says what the reference shows as it returns; that it is the same reference stands in no
+// contract.
 impl FeatureFilter for &mut dyn FeatureFilter {
     ghost state = { λ f. (FeatureFilter-dyn f.now).state f.now.1 };
 

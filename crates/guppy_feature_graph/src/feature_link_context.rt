@@ -35,6 +35,7 @@ impl<'a> FeatureLinkContext<'a> {
         self.query.direction()
     }
 
+    // By reference, as in guppy; a link of another graph is compared by the number of its near feature.
     /// Whether the link's near end, `from` in direction Forward, is an initial.
     pub fn starts_from_initial(&self, link: &ConditionalLink<'_>) -> bool
         ensures initial { IsTrue result ↔ Contains (query_of self.now).initials

@@ -122,6 +122,7 @@ impl<'g> ConditionalLink<'g> {
         PlatformStatus::over_chosen(built.package_graph().link_rows(), lines, choice)
     }
 
+    // A link with no line at all, which no resolve shows, is dev only too.
     /// Whether it stands on no normal and no build line.
     pub fn dev_only(&self) -> bool
         ensures answer { IsTrue result ↔ ((line_places (link_view self.now) Normal ≡ [])

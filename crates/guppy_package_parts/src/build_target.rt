@@ -139,6 +139,8 @@ impl<'g> BuildTarget<'g> {
     }
 }
 
+// An example is a program where each of its crate types is `bin`, also where it has none or lists `bin` twice;
+// one other crate type makes it a library.
 // An example is a program, unless it has another crate type.
 fn example_kind<'g>(crate_types: &'g [String]) -> BuildTargetKind<'g>
     ensures { kind_view result ≡ built_as Example (texts crate_types.entry.now) }

@@ -1,6 +1,7 @@
 use std::alloc::{AllocError, AllocFailed};
 use thiserror::Error;
 
+// Its texts are guppy's words without the ids; warnings have no printed text.
 /// Why a question to a package graph or a feature graph has no answer.
 #[derive(Clone, Copy, Debug, PartialEq, Eq, Error)]
 pub enum Error {

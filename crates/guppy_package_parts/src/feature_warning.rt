@@ -54,6 +54,7 @@ impl FeatureBuildStage {
 /// What is odd about the features of a record, but does not keep a feature graph from being built.
 #[derive(Debug, Drop, PartialEq, Eq)]
 pub enum FeatureGraphWarning {
+    // The name is the printed label: `dep:d` for an optional dependency.
     /// The package lacks a feature that is named at this stage.
     MissingFeature {
         stage: FeatureBuildStage,

@@ -22,6 +22,7 @@ impl<'g> PackageSource<'g> {
     pub const CRATES_IO_REGISTRY: &'static str =
         "registry+https://github.com/rust-lang/crates.io-index";
 
+    // The member's path is handed over, since a package's row does not say whether it is a member.
     /// The source of a row's package, which is a member of the workspace where it has a path there.
     pub fn of(row: &'g PackageRecord, member_path: Option<&'g str>) -> PackageSource<'g>
         ensures { source_view result ≡ source_of (option_map (λ p. p.now) member_path.entry)

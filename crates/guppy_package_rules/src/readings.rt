@@ -89,6 +89,7 @@ fn read_requirement(
     }
 }
 
+// Once the rules are kept, `semver` refuses for want of memory alone, told by the error that it makes of it.
 /// Why a text is refused: the rule is broken at the place, unless memory ran out.
 fn unread(error: Error, rule: RecordRule, place: usize) -> PackageGraphError
     ensures { result ≢ Memory → (result ≡ Broken rule place) × (error ≢ memory_error) }

@@ -16,6 +16,7 @@ use nextest_filter_tokens::{FaultList, ParseSingleError, skip_blanks};
 use std::alloc::{AllocError, Global};
 use thiserror::Error;
 
+// It prints `invalid filter` and `out of memory`: no text was given for it.
 /// Why no tree was made of a text.
 #[derive(Debug, Drop, PartialEq, Eq, Error)]
 pub enum ParseExprError {

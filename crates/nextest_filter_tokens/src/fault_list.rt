@@ -59,6 +59,7 @@ impl FaultList {
         Ok(())
     }
 
+    // A list is closed by a fault, so a closed list is never empty.
     /// Adds that the text is not supported from there on, unless the list is closed, and takes no more after it.
     pub fn close(&mut self, span: SourceSpan) -> Result<(), AllocError>
         ensures grows { OnOk result (vec_len self.old.list ≤ vec_len self.new.list) }

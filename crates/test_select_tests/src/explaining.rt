@@ -31,6 +31,8 @@ use test_select_rules::FeaturesOn;
 use test_select_rules::binaries::TestBinary;
 use workspace_record::{FeatureChoice, PlatformTable, WorkspaceRecord};
 
+// With a test the lister is asked also where `select` would not ask: whether the test is listed comes before
+// the filters. A binary may be asked though none of its tests is chosen then.
 /// Why the test of the binary with this id is chosen or not; without a test, why the binary is asked or
 /// not. `select` chooses the test, or asks the binary, exactly where the reason says yes.
 ///

@@ -30,6 +30,7 @@ use test_select_features::switched_on;
 use test_select_rules::FeaturesOn;
 use workspace_record::{PlatformTable, WorkspaceRecord};
 
+// Where there is no text, or no default filter, the filter of all tests is made; no text `all()` is read for it.
 /// The filters of the record and of the texts. Names are matched over the packages that the members need
 /// by declared links, paths follow the links of the scope, and `feature` finds the named features that
 /// are on.

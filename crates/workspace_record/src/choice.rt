@@ -64,6 +64,7 @@ fn copy_features(alloc: Global, features: &[Feature]) -> Result<Vec<Feature>, Al
     Ok(copies)
 }
 
+// Answers are compared as `IndexMap` does, without regard to their order; a copy keeps the order too.
 /// The answers that are known of one platform: whether it is the one that a spec names. A spec
 /// without an answer counts as `unknown_counts` says.
 #[derive(Debug, Drop, PartialEq, Eq)]
