@@ -18,6 +18,13 @@ def libraries():
     return {name: [it for it in used if it in uses] for name, used in uses.items()}
 
 
+def archives():
+    """The crates that are static libraries."""
+    with open(f"{TOP}/crates.txt", encoding="utf-8") as it:
+        names = [line.split("#")[0].partition(":")[0].split() for line in it]
+    return {name[0] for name in names if name[1:2] == ["staticlib"]}
+
+
 def with_below(names):
     """These crates and all that they stand on, lowest first."""
     uses, found = libraries(), []
@@ -40,7 +47,7 @@ def lay_out(folder, crates):
     for name in crates:
         shutil.copytree(f"{TOP}/crates/{name}", f"{folder}/crates/{name}", ignore=shutil.ignore_patterns("out", *TIERS))
     with open(f"{TOP}/crates.txt", encoding="utf-8") as it:
-        lines = [line for line in it if line.split(":")[0].split("#")[0].strip() in crates]
+        lines = [line for line in it if (line.split("#")[0].split(":")[0].split() or [""])[0] in crates]
     with open(f"{folder}/crates.txt", "w", encoding="utf-8") as it:
         it.writelines(lines)
     shutil.copyfile(f"{TOP}/HANDLES", f"{folder}/HANDLES")

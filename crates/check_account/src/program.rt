@@ -1,10 +1,17 @@
 //! The program, over any files and any two streams.
 
-ghost use Rattle.std.specs.Prelude.{◌≡◌, ◌≤◌, IfErr};
+ghost use Rattle.std.specs.Prelude.{◌≡◌, ◌≤◌, [], Err, IfErr, IfOk, map, Ok};
+ghost use Rattle.clap.specs.Words.{app_of, fault_of, kind_of, matches_of};
+ghost use Rattle.clap.specs.declared.error.ErrorKind.TheVariants.{OutOfMemory};
 ghost use Rattle.test_select_files.specs.Failures.{status_of};
+ghost use Rattle.test_select_files.specs.Reading.{Asks};
+ghost use Rattle.test_select_files.specs.Verdicts.{EndsCheck};
+ghost use Rattle.test_select_files.specs.declared.run_failure.RunFailure.TheVariants.{Memory};
+ghost use Rattle.check_account.specs.Checker.{checker};
 
 use crate::command_line::PROGRAM;
-use std::alloc::Global;
+use clap::{Command, Error};
+use std::alloc::{AllocError, Global};
 use std::convert::AsStr;
 use std::io::Write;
 use test_select_files::{FileSource, RunFailure, print_verdict};
@@ -25,6 +32,14 @@ pub(crate) fn run<S: AsStr, O: Write, E: Write>(
     ensures statuses { result ≤ 2 }
     ensures quiet { result ≡ 0 → E.contents err.new ≡ E.contents err.old }
     ensures bad_words { result ≡ 2 → O.contents out.new ≡ O.contents out.old }
+    ensures done { result ≡ 0 → fault_of checker (map S.text words.now) ≡ []
+        → Asks (answers files.old) (state files.old) (state files.new)
+        (EndsCheck (matches_of checker (map S.text words.now)) (Ok tt) (O.contents out.old)
+        (O.contents out.new)) }
+    ensures failed { result ≡ 1 → fault_of checker (map S.text words.now) ≡ []
+        → (f : RunFailure) × Asks (answers files.old) (state files.old) (state files.new)
+        (EndsCheck (matches_of checker (map S.text words.now)) (Err f) (O.contents out.old)
+        (O.contents out.new)) }
 {
     match try_run(alloc, words, files, out) {
         Ok(()) => 0,
@@ -41,13 +56,38 @@ fn try_run<'a, S: AsStr, O: Write>(
     files: &mut dyn FileSource,
     out: &mut O,
 ) -> Result<(), RunFailure<'a>>
-    ensures { IfErr result (λ f. status_of f ≡ 2 → O.contents out.new ≡ O.contents out.old) }
+    ensures bad_words { IfErr result (λ f. status_of f ≡ 2
+        → O.contents out.new ≡ O.contents out.old) }
+    ensures ends { fault_of checker (map S.text words.now) ≡ []
+        → Asks (answers files.old) (state files.old) (state files.new)
+        (EndsCheck (matches_of checker (map S.text words.now)) result (O.contents out.old)
+        (O.contents out.new)) }
 {
-    match PROGRAM.command(alloc)?.try_get_matches_from(words) {
-        Ok(matches) => print_verdict(alloc, &matches, files, out)?,
-        Err(shown) if !shown.use_stderr() => write!(out, "{shown}")?,
-        Err(error) => return Err(RunFailure::from(error)),
+    match command(alloc)?.try_get_matches_from(words) {
+        Ok(matches) => print_verdict(alloc, &matches, files, out),
+        Err(shown) => show(shown, out),
     }
+}
+
+/// The program's command, as `clap` reads it.
+fn command<'a>(alloc: Global) -> Result<Command<'a>, AllocError>
+    ensures app { IfOk result (λ c. app_of c ≡ checker) }
+{
+    PROGRAM.command(alloc)
+}
+
+/// Shows what was asked for in place of a check: the help, or the version. A command line that is refused
+/// is not shown here.
+fn show<'a, O: Write>(shown: Error, out: &mut O) -> Result<(), RunFailure<'a>>
+    ensures bad_words { IfErr result (λ f. status_of f ≡ 2
+        → O.contents out.new ≡ O.contents out.old) }
+    ensures memory { kind_of shown ≡ OutOfMemory → (result ≡ Err Memory)
+        × (O.contents out.new ≡ O.contents out.old) }
+{
+    if shown.use_stderr() {
+        return Err(RunFailure::from(shown));
+    }
+    write!(out, "{shown}")?;
     out.flush()?;
     Ok(())
 }

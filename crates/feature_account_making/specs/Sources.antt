@@ -4,7 +4,7 @@ use Rattle.std.specs.List.{flat_map}
 use Rattle.workspace_record.specs.Records.{Text, FeatureEntry, Package, Link, Workspace}
 use Rattle.workspace_record.specs.Choices.{Choice}
 use Rattle.workspace_record.specs.declared.choice.PlatformTable.{PlatformTable}
-use Rattle.feature_account_rules.specs.Entries.{entry_value}
+use Rattle.workspace_record.specs.Entries.{entry_value}
 use Rattle.feature_account_rules.specs.Lines.{first_of_each}
 use Rattle.feature_account_rules.specs.RuleList.{base_rules, chosen_features, given, link_rules, named_of, rules_of_entry}
 use Rattle.feature_account_rules.specs.declared.rule.Rule.{Rule}

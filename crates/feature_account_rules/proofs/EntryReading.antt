@@ -11,9 +11,9 @@ use Rattle.std.proofs.lemmas.Slice.Eq.{bytes_eq-Decides}
 use Rattle.list_facts.proofs.Membership.{Contains-append_left, Contains-append_right, Contains-append_cases, Contains-cons_cases, Contains-none, Contains-first, Contains-rest}
 use Rattle.list_facts.proofs.Quantifiers.{list_any-from_Contains, list_any_cases}
 use Rattle.workspace_record.specs.Records.{Text}
-use Rattle.feature_account_rules.specs.Entries.{EntryValue, OwnFeature, Dependency, Strong, Weak, is_slash, slash_entry, entry_value}
+use Rattle.workspace_record.specs.Entries.{EntryValue, OwnFeature, Dependency, Strong, Weak, is_slash, slash_entry, entry_value}
 use Rattle.feature_account_rules.specs.IsEntry.{HasNoPrefix, HasNoSlash, IsEntry, dependency, weak, strong, own_feature}
-use Rattle.feature_account_rules.proofs.EntryFacts.{list_any_from_position_or_len}
+use Rattle.list_facts.proofs.Quantifiers.{list_any_from_position_or_len}
 
 -- a text that begins with another is that text and the rest
 front_of : (s p : Text) → starts_with nat_eq s p ≡ true → s ≡ p ++ drop (length p) s

@@ -1,4 +1,3 @@
-pub mod EntryFacts
 pub mod EntryReading
 pub mod FoundFacts
 pub mod KeptLinks

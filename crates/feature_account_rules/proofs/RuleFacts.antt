@@ -12,7 +12,7 @@ use Rattle.workspace_record.specs.Choices.{Choice}
 use Rattle.workspace_record.specs.declared.choice.PlatformTable.{PlatformTable}
 use Rattle.workspace_record.specs.declared.kinds.Standard.{Standard}
 use Rattle.workspace_record.specs.declared.kinds.Standard.TheVariants as standard
-use Rattle.feature_account_rules.specs.Entries.{EntryValue, OwnFeature, Dependency, Strong, Weak, entry_value}
+use Rattle.workspace_record.specs.Entries.{EntryValue, OwnFeature, Dependency, Strong, Weak, entry_value}
 use Rattle.feature_account_rules.specs.IsEntry.{IsEntry}
 use Rattle.feature_account_rules.specs.IsRule.{IsFound, IsMember, HasFeature, HasEntry, TargetHas, IsInForce, Counts, LeadsTo, IsRule, member_base, member_default, member_named, member_dep, extra, named_base, dep_base, own_entry, dependency_entry, strong_feature, strong_dependency, strong_name, weak_required, weak_optional, line_base, line_default, line_feature}
 use Rattle.feature_account_rules.specs.Lines.{package_of, first_of_each, is_member, counting_lines}

@@ -1,7 +1,7 @@
 -- What an entry of a feature's list says, by what the text is made of.
 use Rattle.std.specs.Prelude.{◌≡◌, ◌≢◌, ◌++◌, codes, Contains}
 use Rattle.workspace_record.specs.Records.{Text}
-use Rattle.feature_account_rules.specs.Entries.{EntryValue, OwnFeature, Dependency, Strong, Weak}
+use Rattle.workspace_record.specs.Entries.{EntryValue, OwnFeature, Dependency, Strong, Weak}
 
 -- the text does not begin with `dep:`
 abbrev pub HasNoPrefix : Text → Type 0

@@ -7,7 +7,7 @@ use Rattle.workspace_record.specs.Tables.{answer}
 use Rattle.workspace_record.specs.declared.choice.PlatformTable.{PlatformTable}
 use Rattle.workspace_record.specs.declared.kinds.LineKind.TheVariants.{Dev}
 use Rattle.workspace_record.specs.declared.kinds.Standard.TheVariants.{Default, All}
-use Rattle.feature_account_rules.specs.Entries.{OwnFeature, Dependency, Strong, Weak}
+use Rattle.workspace_record.specs.Entries.{OwnFeature, Dependency, Strong, Weak}
 use Rattle.feature_account_rules.specs.IsEntry.{IsEntry}
 use Rattle.feature_account_rules.specs.Lines.{package_of}
 use Rattle.feature_account_rules.specs.RuleList.{base_of, named_of, dep_of, given, implies, both_imply, default_name, line_start}

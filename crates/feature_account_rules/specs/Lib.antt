@@ -1,7 +1,5 @@
 pub mod Lines
 pub mod Closed
-pub mod Entries
-pub mod EntryView
 pub mod Found
 pub mod IsEntry
 pub mod IsRule

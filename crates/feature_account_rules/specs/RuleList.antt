@@ -1,29 +1,20 @@
 -- The rules of a record, a choice and a table, in their order.
+pub use Rattle.workspace_record.specs.Features.{base_of, named_of, dep_of, line_start}
 pub use Rattle.workspace_record.specs.Packages.{has_feature, has_optional}
 use Rattle.std.specs.Prelude.{Bool, false, ◌&&◌, List, [], ◌∷◌, ◌++◌, map, filter, codes, if◌then◌else◌}
 use Rattle.std.specs.List.{flat_map}
 use Rattle.std.specs.Option.{option_map_or}
 use Rattle.std.specs.Str.{bytes_eq}
 use Rattle.workspace_record.specs.Records.{Text, FeatureEntry, Package, Line, Link, Workspace}
-use Rattle.workspace_record.specs.Features.{Base, Named, Dep, FeatureValue}
+use Rattle.workspace_record.specs.Features.{FeatureValue}
 use Rattle.workspace_record.specs.Choices.{Choice}
 use Rattle.feature_account_rules.specs.Lines.{package_of, first_of_each, is_member, counting_lines}
-use Rattle.feature_account_rules.specs.Entries.{EntryValue, OwnFeature, Dependency, Strong, Weak, entry_value}
+use Rattle.workspace_record.specs.Entries.{EntryValue, OwnFeature, Dependency, Strong, Weak, entry_value}
 use Rattle.workspace_record.specs.declared.choice.PlatformTable.{PlatformTable}
 use Rattle.workspace_record.specs.declared.kinds.Standard.{Standard}
 use Rattle.workspace_record.specs.declared.kinds.Standard.TheVariants as standard
 use Rattle.feature_account_rules.specs.declared.rule.Premises.TheVariants as premises
 use Rattle.feature_account_rules.specs.declared.rule.Rule.{Rule}
-
--- a feature of the package with this id
-abbrev pub base_of : Text → FeatureValue
-base_of id = record { package_id = id; label = Base }
-
-abbrev pub named_of : Text → Text → FeatureValue
-named_of id name = record { package_id = id; label = Named name }
-
-abbrev pub dep_of : Text → Text → FeatureValue
-dep_of id name = record { package_id = id; label = Dep name }
 
 -- the feature is on whatever else is
 abbrev pub given : FeatureValue → Rule
@@ -116,10 +107,6 @@ feature_rules w table p f =
 -- the rules of the entries of a package's features, in their order
 abbrev pub entry_rules : Workspace → PlatformTable → Package → List Rule
 entry_rules w table p = flat_map (feature_rules w table p) p.features
-
--- where a line starts: at its source's Base, or at the optional dependency
-abbrev pub line_start : Link → Line → FeatureValue
-line_start link line = if line.optional then dep_of link.from link.name else base_of link.from
 
 -- what a line asks for of a target that is found, beside its Base: its default features, and those that it lists
 abbrev pub asked_features : Text → Line → Package → List FeatureValue

@@ -11,7 +11,6 @@
 
 #![tactic(auto)]
 
-mod entry;
 mod feature_ref;
 pub mod found;
 mod lent_rule;

@@ -2,10 +2,9 @@
 //! the list of them again.
 
 ghost use Rattle.std.specs.Prelude.{◌≡◌, IfOk};
-ghost use Rattle.feature_account_rules.specs.Entries.{entry_value};
+ghost use Rattle.workspace_record.specs.Entries.{entry_value};
 ghost use Rattle.feature_account_rules.specs.RuleList.{base_rules, given, link_rules, named_of, rules_of_entry};
 
-use crate::entry::entry_of;
 use crate::feature_ref::FeatureRef;
 use crate::lent_rule::copies_of;
 use crate::rule::{Premises, Rule};
@@ -13,6 +12,7 @@ use crate::rule_list::{push_base_rules, push_link_rules, push_rules_of_entry};
 use std::alloc::{AllocError, Global};
 use workspace_record::{
     Feature, FeatureRecord, LinkRecord, PackageIndex, PackageRecord, PlatformTable, RecordIndex,
+    entry_of,
 };
 
 /// The rule of a feature that the choice switches on by itself.

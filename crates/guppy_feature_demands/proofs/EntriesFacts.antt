@@ -5,7 +5,7 @@ use Rattle.workspace_record.specs.Records.{FeatureEntry, Link, Package}
 use Rattle.guppy_package_parts.specs.Warnings.{Warning}
 use Rattle.workspace_record.specs.Features.{FeatureValue}
 use Rattle.guppy_feature_demands.specs.Demands.{NumberedValue, base_demands, demands_of, kept_demands, link_demands, package_demands, same_name}
-use Rattle.guppy_feature_demands.specs.Entries.{entry_value}
+use Rattle.workspace_record.specs.Entries.{entry_value}
 use Rattle.guppy_feature_demands.specs.EntriesAt.{EntryPlace, at_demands, at_warnings, feature_entries, package_entries}
 use Rattle.guppy_feature_demands.specs.Nodes.{first_of_each, nodes_of}
 use Rattle.guppy_feature_demands.specs.Numbered.{numbered, numbered_from}

@@ -1,5 +1,4 @@
 pub mod EntriesFacts
-pub mod EntryFacts
 pub mod FirstFacts
 pub mod KeptFacts
 pub mod LinkFacts

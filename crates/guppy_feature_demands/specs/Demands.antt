@@ -1,11 +1,12 @@
 -- What leads from one feature to another, as Cargo's reference says it of manifests: each rule of the rows makes demands, and those
 -- between two different nodes are what the edges of a feature graph are joined from.
+pub use Rattle.workspace_record.specs.Features.{line_start}
 use Rattle.std.specs.Prelude.{ℕ, Bool, not, ◌&&◌, ◌==◌, nat_lt, List, [], ◌∷◌, ◌++◌, Option, Some, None, map, filter, length, codes, if◌then◌else◌}
 use Rattle.std.specs.List.{flat_map}
 use Rattle.std.specs.Str.{bytes_eq}
 use Rattle.workspace_record.specs.Records.{Text, FeatureEntry, Package, Line, Link}
 use Rattle.workspace_record.specs.Features.{FeatureValue}
-use Rattle.guppy_feature_demands.specs.Entries.{EntryValue, OwnFeature, Dependency, Strong, Weak, entry_value}
+use Rattle.workspace_record.specs.Entries.{EntryValue, OwnFeature, Dependency, Strong, Weak, entry_value}
 use Rattle.guppy_feature_demands.specs.Nodes.{base_of, named_of, dep_of, first_of_each, nodes_of, is_node, number_of}
 use Rattle.guppy_feature_demands.specs.Numbered.{numbered, lines_of, links_named}
 
@@ -66,10 +67,6 @@ same_name f g = bytes_eq f.name g.name
 -- what the entries of a package's features demand
 abbrev pub package_demands : List FeatureValue → List (ℕ × Link) → Package → List DemandValue
 package_demands nodes links p = flat_map (feature_demands nodes links p.id) (first_of_each same_name p.features)
-
--- where a line starts: at its source, or at the optional dependency
-abbrev pub line_start : Link → Line → FeatureValue
-line_start link line = if line.optional then dep_of link.from link.name else base_of link.from
 
 -- the feature `default`, where the line asks for it
 abbrev pub default_of : Text → Line → List FeatureValue

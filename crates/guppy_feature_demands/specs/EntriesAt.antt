@@ -5,7 +5,7 @@ use Rattle.workspace_record.specs.Records.{Text, FeatureEntry, Package, Link}
 use Rattle.workspace_record.specs.Features.{FeatureValue}
 use Rattle.guppy_package_parts.specs.Warnings.{Warning}
 use Rattle.guppy_feature_demands.specs.Demands.{DemandValue, entry_demands, same_name}
-use Rattle.guppy_feature_demands.specs.Entries.{EntryValue, entry_value}
+use Rattle.workspace_record.specs.Entries.{EntryValue, entry_value}
 use Rattle.guppy_feature_demands.specs.Nodes.{first_of_each, named_of}
 use Rattle.guppy_feature_demands.specs.Warnings.{entry_warnings}
 

@@ -1,5 +1,5 @@
 use Rattle.guppy_feature_demands.specs.EntriesAt.{EntryPlace}
-use Rattle.guppy_feature_demands.specs.EntryView.{entry_view}
+use Rattle.workspace_record.specs.EntryView.{entry_view}
 use Rattle.guppy_feature_demands.specs.declared.entries.EntryAt.{EntryAt}
 
 -- what contracts see of an entry where it stands

@@ -3,8 +3,6 @@ pub mod LabelViews
 pub mod Printing
 pub mod IdViews
 pub mod Equivalences
-pub mod Entries
-pub mod EntryView
 pub mod Nodes
 pub mod Numbered
 pub mod NumberedViews

@@ -1,18 +1,9 @@
 -- The nodes of a feature graph: the features of its packages.
+pub use Rattle.workspace_record.specs.Features.{base_of, named_of, dep_of}
 use Rattle.std.specs.Prelude.{ℕ, Bool, not, List, [], ◌∷◌, ◌++◌, map, filter}
 use Rattle.std.specs.List.{flat_map, list_any, position_or_len}
 use Rattle.workspace_record.specs.Records.{Text, Package}
-use Rattle.workspace_record.specs.Features.{Base, Named, Dep, FeatureValue, feature_eq}
-
--- the features of the package with an id: itself, one that it names, an optional dependency
-abbrev pub base_of : Text → FeatureValue
-base_of id = record { package_id = id; label = Base }
-
-abbrev pub named_of : Text → Text → FeatureValue
-named_of id name = record { package_id = id; label = Named name }
-
-abbrev pub dep_of : Text → Text → FeatureValue
-dep_of id name = record { package_id = id; label = Dep name }
+use Rattle.workspace_record.specs.Features.{FeatureValue, feature_eq}
 
 -- a package's features: itself, those that it names, and its optional dependencies
 abbrev pub features_of : Package → List FeatureValue

@@ -6,7 +6,7 @@ use Rattle.workspace_record.specs.Records.{Text, FeatureEntry, Package, Line, Li
 use Rattle.workspace_record.specs.Features.{FeatureValue}
 use Rattle.guppy_package_parts.specs.Warnings.{Stage, AddNamedFeatureEdges, AddDependencyEdges, Warning, MissingFeature, SelfLoop}
 use Rattle.guppy_feature_demands.specs.Printing.{label_text}
-use Rattle.guppy_feature_demands.specs.Entries.{EntryValue, OwnFeature, Dependency, Strong, Weak, entry_value}
+use Rattle.workspace_record.specs.Entries.{EntryValue, OwnFeature, Dependency, Strong, Weak, entry_value}
 use Rattle.guppy_feature_demands.specs.Nodes.{named_of, dep_of, first_of_each, nodes_of, is_node}
 use Rattle.guppy_feature_demands.specs.Numbered.{numbered, links_named}
 use Rattle.guppy_feature_demands.specs.Demands.{same_name}

@@ -13,7 +13,6 @@ ghost use Rattle.guppy_feature_demands.specs.NumberedViews.{ends_view, line_view
 
 use crate::demand::{Demand, EdgeKind};
 use crate::entries::EntryAt;
-use crate::entry::Entry;
 use crate::feature_key::FeatureKey;
 use crate::hashed_id::HashedId;
 use crate::link_ends::LinkEnds;
@@ -22,6 +21,7 @@ use crate::nodes::NodeTable;
 use crate::numbered::{LineAt, NumberedLink};
 use guppy_package_parts::LineRow;
 use std::alloc::{AllocError, Global};
+use workspace_record::Entry;
 
 /// Each feature leads to its package.
 pub(crate) fn base_demands<'g>(
@@ -31,7 +31,10 @@ pub(crate) fn base_demands<'g>(
     ensures { IfOk result (λ v. map demand_view v.items ≡ base_demands nodes.now) }
 {
     let mut demands: Vec<Demand<'g>> = Vec::with_capacity(alloc, nodes.len())?;
-    push_base_demands(nodes.names(), &mut demands)?;
+    let names = nodes.names();
+    for name in names {
+        demands.push(base_demand(*name))?;
+    }
     Ok(demands)
 }
 
@@ -46,7 +49,9 @@ pub(crate) fn entry_demands<'g>(
         ≡ flat_map (at_demands nodes.now links.now) (map entry_at_view entries.now)) }
 {
     let mut demands: Vec<Demand<'g>> = Vec::new(alloc);
-    push_entries(entries, nodes, links, &mut demands)?;
+    for at in entries {
+        push_entry(*at, nodes, links, &mut demands)?;
+    }
     Ok(demands)
 }
 
@@ -58,21 +63,11 @@ pub(crate) fn link_demands<'g>(
     ensures { IfOk result (λ v. map demand_view v.items ≡ flat_map link_demands links.now) }
 {
     let mut demands: Vec<Demand<'g>> = Vec::new(alloc);
-    push_links(links.all(), &mut demands)?;
-    Ok(demands)
-}
-
-fn push_base_demands<'g>(
-    names: &[FeatureKey<'g>],
-    demands: &mut Vec<Demand<'g>>,
-) -> Result<(), AllocError>
-    ensures { OnOk result (map demand_view demands.new.items
-        ≡ map demand_view demands.old.items ++ base_demands (map hashed_view names.now)) }
-{
-    for name in names {
-        demands.push(base_demand(*name))?;
+    let all = links.all();
+    for link in all {
+        push_link(*link, &mut demands)?;
     }
-    Ok(())
+    Ok(demands)
 }
 
 fn base_demand<'g>(name: FeatureKey<'g>) -> Demand<'g>
@@ -84,22 +79,6 @@ fn base_demand<'g>(name: FeatureKey<'g>) -> Demand<'g>
         form: EdgeKind::FeatureToBase,
         line: None,
     }
-}
-
-fn push_entries<'g>(
-    entries: &[EntryAt<'g>],
-    nodes: &NodeTable<'g>,
-    links: &LinkTable<'g>,
-    demands: &mut Vec<Demand<'g>>,
-) -> Result<(), AllocError>
-    ensures { OnOk result (map demand_view demands.new.items
-        ≡ map demand_view demands.old.items
-        ++ flat_map (at_demands nodes.now links.now) (map entry_at_view entries.now)) }
-{
-    for at in entries {
-        push_entry(*at, nodes, links, demands)?;
-    }
-    Ok(())
 }
 
 fn push_entry<'g>(
@@ -267,16 +246,6 @@ fn push_by_line<'g>(
         form,
         line,
     })?;
-    Ok(())
-}
-
-fn push_links<'g>(links: &[LinkEnds<'g>], demands: &mut Vec<Demand<'g>>) -> Result<(), AllocError>
-    ensures { OnOk result (map demand_view demands.new.items
-        ≡ map demand_view demands.old.items ++ flat_map link_demands (map ends_view links.now)) }
-{
-    for link in links {
-        push_link(*link, demands)?;
-    }
     Ok(())
 }
 

@@ -2,16 +2,16 @@
 
 ghost use Rattle.std.specs.Prelude.{◌≡◌, ◌++◌, IfOk, OnOk, map, string_bytes};
 ghost use Rattle.std.specs.List.{flat_map};
-ghost use Rattle.guppy_feature_demands.specs.Entries.{entry_value};
+ghost use Rattle.workspace_record.specs.Entries.{entry_value};
 ghost use Rattle.guppy_feature_demands.specs.EntriesAt.{feature_entries, package_entries};
 ghost use Rattle.guppy_feature_demands.specs.EntryAtView.{entry_at_view};
 ghost use Rattle.guppy_feature_demands.specs.NamedRows.{named_view};
 
-use crate::entry::{Entry, entry_of};
 use crate::hashed_id::HashedId;
 use crate::named_entries::{NamedRow, named_entries};
 use crate::package_at::PackageAt;
 use std::alloc::{AllocError, Global};
+use workspace_record::{Entry, entry_of};
 
 /// An entry of a feature's list, the name of the feature, and the id of its package.
 #[derive(Clone, Copy)]

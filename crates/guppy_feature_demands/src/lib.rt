@@ -11,7 +11,6 @@
 mod demand;
 mod demands;
 mod entries;
-mod entry;
 mod feature_id;
 mod feature_key;
 mod feature_kind;

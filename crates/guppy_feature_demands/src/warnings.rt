@@ -16,7 +16,6 @@ ghost use Rattle.guppy_feature_demands.specs.StageViews.{place_view};
 ghost use Rattle.guppy_feature_demands.specs.Warnings.{line_warnings, link_warnings, missing, optional_warnings, own_warnings, slash_warnings};
 
 use crate::entries::EntryAt;
-use crate::entry::Entry;
 use crate::feature_key::FeatureKey;
 use crate::hashed_id::HashedId;
 use crate::link_ends::LinkEnds;
@@ -25,6 +24,7 @@ use crate::nodes::NodeTable;
 use crate::numbered::NumberedLink;
 use guppy_package_parts::{FeatureBuildStage, FeatureGraphWarning, LineRow, PackageId};
 use std::alloc::{AllocError, Global};
+use workspace_record::Entry;
 
 /// Where a feature is named: by an entry of a package's feature, or by a package's dependency.
 #[derive(Clone, Copy)]

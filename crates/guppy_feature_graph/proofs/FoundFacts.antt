@@ -7,7 +7,7 @@ use Rattle.list_facts.proofs.Membership.{Contains-map, Contains-map_cases}
 use Rattle.list_facts.proofs.Quantifiers.{Any-from_Contains, Any_cases}
 use Rattle.workspace_record.specs.Features.{FeatureValue, feature_eq}
 use Rattle.guppy_feature_demands.specs.Nodes.{base_of, is_node, number_of}
-use Rattle.guppy_feature_demands.proofs.EntryFacts.{list_any_from_position_or_len}
+use Rattle.list_facts.proofs.Quantifiers.{list_any_from_position_or_len}
 use Rattle.guppy_feature_nodes.specs.Graphs.{FeatureGraphValue}
 use Rattle.guppy_feature_graph.specs.Finding.{IsNamed, IsNumber, IsUnknown}
 

@@ -1,9 +1,7 @@
 pub mod ResolveFacts
 pub mod FoundFacts
 pub mod SetFacts
-pub mod ChoiceFacts
 pub mod DependFacts
-pub mod CycleFacts
 pub mod PackageFacts
 pub mod TakeFacts
 pub mod ListFacts

@@ -6,15 +6,13 @@ use Rattle.std.proofs.lemmas.List.Kept.{AllPairs-filter}
 use Rattle.list_facts.proofs.Membership.{Contains-filter, Contains-filter_cases, Contains-map, Contains-map_cases, Contains-none}
 use Rattle.list_facts.proofs.Quantifiers.{All-from_Contains}
 use Rattle.numbered_graph.specs.Sets.{has}
+use Rattle.numbered_graph.proofs.ChoiceFacts.{Chain-push, HasAnswered, put}
 use Rattle.guppy_package_parts.specs.declared.dependency_direction.DependencyDirection.{DependencyDirection}
 use Rattle.guppy_package_graph.specs.Visits.{Chain}
-use Rattle.guppy_package_graph.proofs.ChoiceFacts.{HasAnswered}
-use Rattle.guppy_package_graph.proofs.ResolveFacts.{Chain-push}
 use Rattle.guppy_feature_nodes.specs.Graphs.{FeatureGraphValue, feature_at}
 use Rattle.guppy_feature_graph.specs.Judging.{AreJudged, Judged, shown_features}
 use Rattle.guppy_feature_graph.specs.Queries.{AreInitials, AreStarts, IsQueryOf, QueryValue}
 use Rattle.workspace_record.specs.Features.{FeatureValue}
-use Rattle.guppy_feature_graph.proofs.ChoiceFacts.{put}
 
 -- the numbers that were taken, in the order in which they were asked about
 abbrev taken_of : Judged → List ℕ

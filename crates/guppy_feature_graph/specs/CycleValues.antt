@@ -1,10 +1,10 @@
 -- Features that lead to each other.
-use Rattle.std.specs.Prelude.{◌↔◌, ℕ, ◌<◌, All, Bool, List, Result, Ok, Err, IsTrue, length}
+use Rattle.std.specs.Prelude.{◌≡◌, ◌↔◌, ℕ, ◌<◌, All, Bool, List, Result, Ok, Err, IsTrue, length}
 use Rattle.numbered_graph.specs.declared.direction.Direction.TheVariants.{Reverse}
+use Rattle.numbered_graph.specs.CycleNumbers.{AreCyclic, NumberedCyclesValue}
 use Rattle.numbered_graph.specs.Cycles.{AreCycles}
 use Rattle.guppy_package_parts.specs.declared.error.Error.{Error}
 use Rattle.workspace_record.specs.Features.{FeatureValue}
-use Rattle.guppy_package_graph.specs.CycleValues.{AreCyclic, AreNumbers}
 use Rattle.guppy_feature_nodes.specs.GraphEdges.{edge_ends}
 use Rattle.guppy_feature_nodes.specs.Graphs.{FeatureGraphValue}
 use Rattle.guppy_feature_graph.specs.Depending.{IsUnknownPair}
@@ -28,7 +28,7 @@ AnswersCyclic g a b (Ok answer) = SaysCyclic g a b answer
 AnswersCyclic g a b (Err error) = IsUnknownPair g a b error
 
 -- the cycles of a graph, none after one that leads to it, with the number of each feature's cycle
-pub record AreNumbered (g : FeatureGraphValue) (cycles : List (List ℕ)) (numbers : List ℕ) : Type 0 where
-  pub cyclic : AreCycles Reverse (edge_ends g.edges) cycles
-  pub within : All (λ c. All (λ v. v < length g.nodes) c) cycles
-  pub numbered : AreNumbers (length g.nodes) cycles 0 numbers
+pub record AreNumbered (g : FeatureGraphValue) (c : NumberedCyclesValue) : Type 0 where
+  pub cyclic : AreCycles Reverse (edge_ends g.edges) c.cycles
+  pub within : All (λ c. All (λ v. v < length g.nodes) c) c.cycles
+  pub counted : c.nodes ≡ length g.nodes

@@ -1,9 +1,8 @@
 //! Features that lead to each other.
 
-ghost use Rattle.std.specs.Prelude.{◌≡◌, ◌↔◌, ◌<◌, ◌≤◌, ℕ, All, IfOk, IsTrue, length, map, slice_index_or, if◌then◌else◌};
+ghost use Rattle.std.specs.Prelude.{◌≡◌, IfOk};
 ghost use Rattle.numbered_graph.specs.Cycles.{AreCycles};
 ghost use Rattle.numbered_graph.specs.declared.direction.Direction.TheVariants.{Reverse};
-ghost use Rattle.guppy_package_graph.specs.CycleValues.{AreNumbers, has_node};
 ghost use Rattle.guppy_feature_demands.specs.IdViews.{id_view};
 ghost use Rattle.guppy_feature_nodes.specs.GraphEdges.{edge_ends};
 ghost use Rattle.guppy_feature_views.specs.CycleViews.{cycles_graph_of, cycles_left};
@@ -14,7 +13,7 @@ use crate::feature_graph::FeatureGraph;
 use guppy_feature_nodes::FeatureId;
 use guppy_feature_views::AllCycles;
 use guppy_package_graph::Error;
-use numbered_graph::{Direction, cycles};
+use numbered_graph::{Direction, NumberedCycles, cycles};
 use std::alloc::{AllocError, Global};
 use std::fmt;
 use std::marker::Model;
@@ -23,20 +22,18 @@ use std::marker::Model;
 #[derive(Drop)]
 pub struct Cycles<'g> {
     graph: FeatureGraph<'g>,
-    cycles: Vec<Vec<usize>>,
-    numbers: Vec<usize>,
+    cycles: NumberedCycles,
 }
 
 impl<'g> Model for Cycles<'g> {
-    ghost use Rattle.std.specs.Prelude.{map};
     ghost use Rattle.guppy_feature_graph.specs.CycleValues.{AreNumbered, CyclesValue};
     ghost use Rattle.guppy_feature_graph.specs.Views.{feature_graph_of};
 
     ghost Value = { CyclesValue };
 
-    ghost view = { λ c. record { graph = feature_graph_of c.graph; cycles = map (λ x. x.items) c.cycles.items } };
+    ghost view = { λ c. record { graph = feature_graph_of c.graph; cycles = c.cycles.cycles } };
 
-    ghost invariant = { λ c. AreNumbered (feature_graph_of c.graph) (map (λ x. x.items) c.cycles.items) c.numbers.items };
+    ghost invariant = { λ c. AreNumbered (feature_graph_of c.graph) c.cycles };
 }
 
 impl<'g> FeatureGraph<'g> {
@@ -47,11 +44,10 @@ impl<'g> FeatureGraph<'g> {
             (edge_ends (feature_graph_of self.now).edges) c.cycles) }
     {
         let components = cycles(alloc, self.built().edge_graph(), Direction::Reverse)?;
-        let numbers = numbers_of(alloc, self.feature_count(), &components)?;
+        let cycles = NumberedCycles::of(alloc, self.feature_count(), components)?;
         Ok(Cycles {
             graph: *self,
-            cycles: components,
-            numbers,
+            cycles,
         })
     }
 }
@@ -67,7 +63,7 @@ impl<'g> Cycles<'g> {
             (id_view feature_b.entry) result }
     {
         match self.graph.numbers_of_both(feature_a, feature_b) {
-            Ok((a, b)) => Ok(is_cyclic(&self.numbers, self.cycles.len(), a, b)),
+            Ok((a, b)) => Ok(self.cycles.is_cyclic(a, b)),
             Err(error) => Err(error),
         }
     }
@@ -79,47 +75,12 @@ impl<'g> Cycles<'g> {
         ensures cycles { cycles_left result ≡ self.now.cycles }
         ensures cyclic { AreCycles Reverse (edge_ends self.now.graph.edges) self.now.cycles }
     {
-        AllCycles::of(self.graph.built(), &self.cycles)
+        AllCycles::of(self.graph.built(), self.cycles.lists())
     }
 }
 
 impl fmt::Debug for Cycles<'_> {
     fn fmt<W: fmt::Write>(&self, f: &mut fmt::Formatter<W>) -> fmt::Result {
         f.debug_tuple("Cycles").field(&self.all_cycles()).finish()
-    }
-}
-
-fn is_cyclic(numbers: &[usize], cycles: usize, a: usize, b: usize) -> bool
-    requires { (a < length numbers.now) × (b < length numbers.now) }
-    ensures { IsTrue result ↔ ((slice_index_or numbers.now a 0 < cycles)
-        × (slice_index_or numbers.now a 0 ≡ slice_index_or numbers.now b 0)) }
-{
-    numbers[a] < cycles && numbers[a] == numbers[b]
-}
-
-// For each node the number of the first cycle that it is in, or how many cycles there are.
-fn numbers_of(alloc: Global, nodes: usize, cycles: &[Vec<usize>]) -> Result<Vec<usize>, AllocError>
-    ensures { IfOk result (λ numbers.
-        AreNumbers nodes (map (λ c. c.items) cycles.now) 0 numbers.items) }
-{
-    let mut numbers = vec![in alloc; cycles.len(); nodes]?;
-    let mut number = cycles.len();
-    while number > 0 {
-        number -= 1;
-        number_cycle(&mut numbers, &cycles[number], number);
-    }
-    Ok(numbers)
-}
-
-fn number_cycle(numbers: &mut Vec<usize>, cycle: &[usize], number: usize)
-    ensures sized { length numbers.new.items ≡ length numbers.old.items }
-    ensures each { (v : ℕ) → v < length numbers.old.items
-        → slice_index_or numbers.new.items v 0
-        ≡ (if has_node v cycle.now then number else slice_index_or numbers.old.items v 0) }
-{
-    for node in cycle {
-        if *node < numbers.len() {
-            numbers[*node] = number;
-        }
     }
 }

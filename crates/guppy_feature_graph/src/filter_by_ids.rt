@@ -1,6 +1,8 @@
-ghost use Rattle.std.specs.Prelude.{◌≡◌, map};
+ghost use Rattle.std.specs.Prelude.{◌≡◌, map, true};
 ghost use Rattle.std.specs.List.{list_any};
-ghost use Rattle.workspace_record.specs.Features.{feature_eq};
+ghost use Rattle.std.specs.List.Sorted.{IsSorted};
+ghost use Rattle.std.specs.Ordering.{on};
+ghost use Rattle.workspace_record.specs.Features.{feature_cmp, feature_eq};
 ghost use Rattle.guppy_feature_demands.specs.IdViews.{id_view};
 ghost use Rattle.guppy_feature_graph.specs.WrappedFilters.{is_listed};
 
@@ -13,9 +15,12 @@ use guppy_feature_nodes::FeatureId;
 pub struct FeatureIdFilter<'a, B: FeatureFilter> {
     base: B,
     feature_ids: &'a [FeatureId<'a>],
+    ascending: bool,
+    ghost ordered: { ascending ≡ true → IsSorted (on id_view feature_cmp) feature_ids.now },
 }
 
-/// A filter that takes what the base takes, and each of these features.
+/// A filter that takes what the base takes, and each of these features. Where they ascend, each is looked
+/// up by halving; else all are gone through for each feature that is asked about.
 pub fn feature_id_filter<'a, B: FeatureFilter>(
     base: B,
     feature_ids: &'a [FeatureId<'a>],
@@ -23,7 +28,12 @@ pub fn feature_id_filter<'a, B: FeatureFilter>(
     ensures base { result.base ≡ base }
     ensures feature_ids { result.feature_ids.now ≡ feature_ids.entry.now }
 {
-    FeatureIdFilter { base, feature_ids }
+    let ascending = feature_ids.is_sorted();
+    FeatureIdFilter {
+        base,
+        feature_ids,
+        ascending,
+    }
 }
 
 impl<B: FeatureFilter> FeatureIdFilter<'_, B> {
@@ -31,7 +41,11 @@ impl<B: FeatureFilter> FeatureIdFilter<'_, B> {
         ensures { result ≡ is_listed (map id_view self.now.feature_ids.now)
             (id_view feature_id.entry) }
     {
-        has_id(self.feature_ids, feature_id)
+        if self.ascending {
+            self.feature_ids.binary_search(&feature_id).is_ok()
+        } else {
+            has_id(self.feature_ids, feature_id)
+        }
     }
 }
 

@@ -6,7 +6,7 @@ ghost use Rattle.guppy_feature_graph.specs.Filters.{AreAsked};
 ghost use Rattle.guppy_feature_graph.specs.Sets.{IsSetOf};
 ghost use Rattle.guppy_feature_graph.specs.Views.{feature_graph_of};
 
-use crate::choosing::{choose, choose_accepted, choose_some};
+use crate::choosing::{choose, choose_accepted};
 use crate::feature_graph::FeatureGraph;
 use crate::feature_set::FeatureSet;
 use guppy_feature_views::FeatureMetadata;
@@ -87,7 +87,7 @@ impl<'g> FeatureSet<'g> {
             × IsSetOf self.now.graph (λ v. Contains asked (v, false)) parts.1) }
         ensures err { OnErr result (callback.new ≡ callback.old) }
     {
-        let (accepted, refused) = choose(alloc, self, direction, callback)?;
+        let (accepted, refused) = choose(alloc, self, direction, callback, true, false)?;
         both_found(self.graph(), accepted, refused)
     }
 
@@ -126,7 +126,8 @@ impl<'g> FeatureSet<'g> {
             × IsSetOf self.now.graph (λ v. Contains asked (v, Some false)) parts.1) }
         ensures err { OnErr result (callback.new ≡ callback.old) }
     {
-        let (first, second) = choose_some(alloc, self, direction, callback)?;
+        let (yes, no) = (Some(true), Some(false));
+        let (first, second) = choose(alloc, self, direction, callback, yes, no)?;
         both_found(self.graph(), first, second)
     }
 }

@@ -6,7 +6,6 @@ ghost use Rattle.guppy_package_table.specs.Tables.{ids_of};
 ghost use Rattle.guppy_feature_graph.specs.PackageFeatures.{IsOfSet};
 ghost use Rattle.guppy_feature_graph.specs.Views.{feature_graph_of};
 
-use crate::choosing::put_if;
 use crate::feature_graph::FeatureGraph;
 use guppy_package_graph::PackageSet;
 use numbered_graph::NodeSet;
@@ -26,7 +25,7 @@ pub(crate) fn features_of_packages(
 {
     let mut features = NodeSet::none(alloc, graph.feature_count())?;
     for node in 0..graph.feature_count() {
-        put_if(&mut features, node, is_of_set(graph, packages, node));
+        features.insert_if(node, is_of_set(graph, packages, node));
     }
     Ok(features)
 }

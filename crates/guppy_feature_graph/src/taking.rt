@@ -8,7 +8,6 @@ ghost use Rattle.guppy_feature_graph.specs.Judging.{AreJudged, Judged, shown_fea
 ghost use Rattle.guppy_feature_graph.specs.Queries.{AreStarts};
 ghost use Rattle.guppy_feature_graph.specs.Views.{feature_graph_of};
 
-use crate::choosing::put_if;
 use crate::feature_filter::FeatureFilter;
 use crate::feature_graph::FeatureGraph;
 use numbered_graph::NodeSet;
@@ -48,7 +47,7 @@ pub(crate) fn take_by_filter<F: FeatureFilter>(
     let mut starts = Vec::with_capacity(alloc, nodes.len())?;
     for node in &nodes {
         let accepted = ask_filter(filter, graph, *node);
-        put_if(&mut included, *node, accepted);
+        included.insert_if(*node, accepted);
         push_within(&mut starts, *node, accepted);
     }
     Ok(Taken { included, starts })

@@ -14,7 +14,7 @@ use Rattle.numbered_graph.specs.Sets.{has}
 use Rattle.numbered_graph.proofs.Numbers.{numbers-all, numbers-small}
 use Rattle.workspace_record.specs.Records.{Text, Package, Link}
 use Rattle.workspace_record.specs.Features.{Base, Named, Dep, FeatureValue, LabelValue, feature_eq, features_decide}
-use Rattle.guppy_feature_demands.specs.Entries.{EntryValue, OwnFeature, Dependency, Strong, Weak, entry_value}
+use Rattle.workspace_record.specs.Entries.{EntryValue, OwnFeature, Dependency, Strong, Weak, entry_value}
 use Rattle.guppy_feature_demands.specs.Numbered.{numbered, lines_of, links_named}
 use Rattle.guppy_feature_demands.specs.Nodes.{base_of, dep_of, named_of, features_of, first_of_each, is_node, nodes_of, number_of}
 use Rattle.guppy_feature_demands.specs.Demands.{DemandValue, FormValue, NumberedValue, NamedFeature, NamedFeatureDepColon, StrongSlash, WeakSlash, DependenciesSection, FeatureToBase, leads, leads_by, base_demands, slash_demands, dependency_demands, entry_demands, feature_demands, package_demands, same_name, line_start, line_targets, line_demands, link_demands, demands_of, is_between_nodes, with_numbers}

@@ -16,7 +16,7 @@ use Rattle.guppy_package_parts.specs.Lines.{IsLineAt}
 use Rattle.guppy_package_table.specs.Tables.{TableValue, ids_of, place_among}
 use Rattle.guppy_feature_demands.specs.declared.link_declarations.LinkDeclarations.{LinkDeclarations}
 use Rattle.guppy_feature_demands.specs.Nodes.{base_of, nodes_of}
-use Rattle.guppy_feature_demands.proofs.EntryFacts.{list_any_from_position_or_len}
+use Rattle.list_facts.proofs.Quantifiers.{list_any_from_position_or_len}
 use Rattle.guppy_feature_demands.proofs.NumberFacts.{at_end, at_place}
 use Rattle.guppy_feature_nodes.specs.GraphEdges.{AreEdges, AreEdgesWithin, EdgeValue, IsEdgeWithin, edge_at}
 use Rattle.guppy_feature_nodes.specs.Graphs.{AreListed, FeatureGraphValue, IsFeatureGraph, feature_at}

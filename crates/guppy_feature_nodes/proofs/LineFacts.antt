@@ -7,7 +7,7 @@ use Rattle.list_facts.proofs.Membership.{Contains-none, Contains-cons_cases, Con
 use Rattle.workspace_record.specs.Records.{Text, FeatureEntry, Package, Line, Link}
 use Rattle.workspace_record.specs.Features.{FeatureValue}
 use Rattle.guppy_package_parts.specs.Lines.{IsLineAt, line_at}
-use Rattle.guppy_feature_demands.specs.Entries.{EntryValue, OwnFeature, Dependency, Strong, Weak, entry_value}
+use Rattle.workspace_record.specs.Entries.{EntryValue, OwnFeature, Dependency, Strong, Weak, entry_value}
 use Rattle.guppy_feature_demands.specs.Numbered.{numbered, numbered_from, lines_of, links_named, is_named_link}
 use Rattle.guppy_feature_demands.specs.Nodes.{base_of, dep_of, named_of, first_of_each, is_node, nodes_of}
 use Rattle.guppy_feature_demands.specs.Demands.{DemandValue, FormValue, NamedFeature, NamedFeatureDepColon, StrongSlash, WeakSlash, DependenciesSection, FeatureToBase, leads, leads_by, base_demands, slash_demands, dependency_demands, entry_demands, feature_demands, package_demands, same_name, line_start, line_targets, line_demands, link_demands, demands_of}

@@ -2,11 +2,9 @@ pub mod LastFacts
 pub mod FoundFacts
 pub mod ReachFacts
 pub mod ResolveFacts
-pub mod ChoiceFacts
 pub mod DirectFacts
 pub mod PlaceFacts
 pub mod StartFacts
 pub mod QueryFacts
 pub mod SetFacts
 pub mod DependFacts
-pub mod CycleFacts

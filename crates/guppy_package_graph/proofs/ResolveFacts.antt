@@ -1,4 +1,5 @@
 -- One step more of a resolve.
+pub use Rattle.numbered_graph.proofs.ChoiceFacts.{Chain-push}
 use Rattle.std.proofs.Common.{◌≡◌, ◌↔◌, ℕ, Bool, List, [], ◌∷◌, ◌++◌, None, Some, length, refl, sym, subst, ap, ◌∙◌, IsTrue}
 use Rattle.std.proofs.lemmas.List.{map-append}
 use Rattle.numbered_graph.specs.declared.direction.Direction.{Direction}
@@ -16,10 +17,6 @@ pub record IsWalkOf (q : QueryValue) (w : WalkValue) : Type 0 where
   pub direction : w.direction ≡ direction_of q.direction
   pub starts : w.starts ≡ q.initials
   pub idle : w.waiting ≡ None
-
-pub Chain-push : {S X A : Type 0} (R : S → X → A → S → Type 0) (xs : List (X × A)) (s m t : S) (x : X) (b : A) → Chain R s xs m → R m x b t → Chain R s (xs ++ (x, b) ∷ []) t
-Chain-push R [] s m t x b e step = (t, subst (λ p. R p x b t) e step, refl)
-Chain-push R (o ∷ xs) s m t x b (n, first, rest) step = (n, first, Chain-push R xs n m t x b rest step)
 
 pub SameSteps-refl : {S X : Type 0} (P : S → X → Bool → S → Type 0) → SameSteps P P
 SameSteps-refl P = record { there = λ s x b t h. h; back = λ s x b t h. h }

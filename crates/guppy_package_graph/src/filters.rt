@@ -5,7 +5,7 @@ ghost use Rattle.std.specs.Prelude.{◌≡◌, ℕ, Bool, List, Option, Some, tr
 ghost use Rattle.guppy_package_graph.specs.Filters.{AreAsked};
 ghost use Rattle.guppy_package_graph.specs.SetValues.{IsSetOf};
 
-use crate::choosing::{choose, choose_accepted, choose_some};
+use crate::choosing::{choose, choose_accepted};
 use crate::package_metadata::PackageMetadata;
 use crate::package_set::PackageSet;
 use guppy_package_parts::DependencyDirection;
@@ -85,7 +85,7 @@ impl<'g> PackageSet<'g> {
             × IsSetOf self.now.graph (λ v. Contains asked (v, false)) parts.1) }
         ensures err { OnErr result (callback.new ≡ callback.old) }
     {
-        let (accepted, refused) = choose(alloc, self, direction, callback)?;
+        let (accepted, refused) = choose(alloc, self, direction, callback, true, false)?;
         let graph = self.graph();
         Ok((
             PackageSet::of(graph, accepted),
@@ -128,7 +128,8 @@ impl<'g> PackageSet<'g> {
             × IsSetOf self.now.graph (λ v. Contains asked (v, Some false)) parts.1) }
         ensures err { OnErr result (callback.new ≡ callback.old) }
     {
-        let (first, second) = choose_some(alloc, self, direction, callback)?;
+        let (yes, no) = (Some(true), Some(false));
+        let (first, second) = choose(alloc, self, direction, callback, yes, no)?;
         let graph = self.graph();
         Ok((PackageSet::of(graph, first), PackageSet::of(graph, second)))
     }

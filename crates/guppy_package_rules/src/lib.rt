@@ -18,6 +18,6 @@ pub mod text_sets;
 
 pub use crate::package_graph_error::PackageGraphError;
 pub use crate::package_rules::read_rows;
-pub use crate::paths::{PathText, compare_paths, same_path};
+pub use crate::paths::{PathText, compare_paths, is_part, is_relative, same_path};
 pub use crate::readings::{RowReadings, read_requirements};
 pub use crate::record_rule::RecordRule;

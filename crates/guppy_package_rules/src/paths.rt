@@ -25,7 +25,8 @@ pub fn same_path(a: &str, b: &str) -> bool
     compare_paths(a, b).is_eq()
 }
 
-fn is_relative(path: &str) -> bool
+/// Whether a path does not begin with a `/`.
+pub fn is_relative(path: &str) -> bool
     ensures { result ≡ is_relative path.now }
 {
     !path.starts_with('/')
@@ -83,7 +84,8 @@ fn cut_at_slash(path: &str) -> (&str, &str)
     }
 }
 
-fn is_part(text: &str) -> bool
+/// Whether what stands between two slashes counts: it is not empty, and not `.`.
+pub fn is_part(text: &str) -> bool
     ensures { result ≡ is_part text.now }
 {
     !text.is_empty() && text != "."

@@ -1,4 +1,5 @@
 -- Places of ids that are known.
+pub use Rattle.list_facts.proofs.Quantifiers.{ends_before}
 use Rattle.std.proofs.Common.{◌≡◌, refl, sym, subst, ap, ◌∙◌, ℕ, zero, suc, ◌+◌, ◌<◌, List, [], ◌∷◌, Bool, true, not, cond, map, length, get_or, All, arith, slice_get, find}
 use Rattle.std.proofs.lemmas.List.Folds.{find_at}
 use Rattle.std.proofs.lemmas.List.{length-map, get_or-map}
@@ -9,11 +10,6 @@ use Rattle.std.specs.Str.{bytes_eq}
 use Rattle.workspace_record.specs.Records.{Text, Package, Link, Member, WorkspaceDetails}
 use Rattle.guppy_package_rules.specs.Kept.{IsMemberId, IsPackageId}
 use Rattle.guppy_package_table.specs.Tables.{AreKnownEnds, ids_of, place_among}
-
-pub ends_before : {X : Type 0} (p : X → Bool) (xs : List X) (k : ℕ) (d : X) → k < length xs → p (get_or xs k d) ≡ true → position_or_len p xs < length xs
-ends_before p [] k d lt passes = absurd (omega (arith, lt))
-ends_before p (x ∷ xs) zero d lt passes = grind (arith, passes)
-ends_before p (x ∷ xs) (suc k) d lt passes = let less = ends_before p xs k d (omega (arith, lt)) passes in grind (arith, less)
 
 pub place_known : (packages : List Package) (id : Text) → IsPackageId packages id → place_among (ids_of packages) id < length (ids_of packages)
 place_known packages id (k, x, lt, is, e) =

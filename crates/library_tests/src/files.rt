@@ -9,6 +9,12 @@ use test_select::{FileFault, FileSource};
 pub(crate) struct Files;
 
 impl FileSource for Files {
+    ghost use Rattle.std.specs.Prelude.{[]};
+
+    ghost state = { λ _. [] };
+
+    ghost answers = { λ _ _ _ _ _. Unit {0} };
+
     fn read(&mut self, alloc: Global, name: &str) -> Result<Vec<u8>, FileFault> {
         let bytes = match name {
             "record.json" => RECORD,

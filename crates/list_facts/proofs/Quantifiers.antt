@@ -1,6 +1,6 @@
 -- A test of the elements of a list, against the elements that the list holds.
-use Rattle.std.proofs.Common.{◌≡◌, Bool, true, ◌||◌, List, [], ◌∷◌, map, refl, ap, get_or, ◌↔◌, IsTrue, Any, All, Contains}
-use Rattle.std.specs.List.{list_any}
+use Rattle.std.proofs.Common.{◌≡◌, ℕ, zero, suc, ◌+◌, ◌<◌, Bool, true, false, cond, not, ◌||◌, List, [], ◌∷◌, length, map, refl, ap, arith, get_or, ◌↔◌, IsTrue, Any, All, Contains}
+use Rattle.std.specs.List.{list_any, position_or_len}
 use Rattle.std.proofs.lemmas.List.Elements.{Contains-get_or, All-contains}
 use Rattle.std.proofs.lemmas.List.Folds.{Any-from_list_any, list_any-from_Any}
 
@@ -37,3 +37,18 @@ module _ {X : Type 0} (p : X → Bool) where
 pub list_any-map : {X Y : Type 0} (test : Y → Bool) (f : X → Y) (xs : List X) → list_any test (map f xs) ≡ list_any (λ x. test (f x)) xs
 list_any-map test f [] = refl
 list_any-map test f (x ∷ xs) = ap (λ b. test (f x) || b) (list_any-map test f xs)
+
+-- where some element passes, the first that does stands before the end
+pub ends_before : {X : Type 0} (p : X → Bool) (xs : List X) (k : ℕ) (d : X) → k < length xs → p (get_or xs k d) ≡ true → position_or_len p xs < length xs
+ends_before p [] k d lt passes = absurd (omega (arith, lt))
+ends_before p (x ∷ xs) zero d lt passes = grind (arith, passes)
+ends_before p (x ∷ xs) (suc k) d lt passes = let less = ends_before p xs k d (omega (arith, lt)) passes in grind (arith, less)
+
+step : {X : Type 0} (p : X → Bool) (x : X) (xs : List X) (b : Bool) → p x ≡ b → (position_or_len p xs ≡ length xs → list_any p xs ≡ false) → cond (not b) (1 + position_or_len p xs) 0 ≡ suc (length xs) → (b || list_any p xs) ≡ false
+step p x xs true e more h = absurd (omega arith)
+step p x xs false e more h = more (omega arith)
+
+-- where the first that passes stands at the end, none passes
+pub list_any_from_position_or_len : {X : Type 0} (p : X → Bool) (xs : List X) → position_or_len p xs ≡ length xs → list_any p xs ≡ false
+list_any_from_position_or_len p [] h = refl
+list_any_from_position_or_len p (x ∷ xs) h = step p x xs (p x) refl (list_any_from_position_or_len p xs) h

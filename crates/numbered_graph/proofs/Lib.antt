@@ -19,3 +19,5 @@ pub mod RootFacts
 pub mod RunFacts
 pub mod CycleFacts
 pub mod LevelFacts
+pub mod CycleNumbering
+pub mod ChoiceFacts

@@ -11,4 +11,6 @@ pub mod Listings
 pub mod Places
 pub mod Roots
 pub mod Cycles
+pub mod CycleNumbers
+pub mod Asking
 pub mod ListedViews

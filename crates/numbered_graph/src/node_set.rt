@@ -70,6 +70,18 @@ impl NodeSet {
         self.flags[node] = true;
     }
 
+    /// Puts a node in where it is wanted.
+    pub fn insert_if(&mut self, node: usize, wanted: bool)
+        requires { node < length self.old }
+        ensures sized { length self.new ≡ length self.old }
+        ensures members { (v : ℕ) → IsTrue (has self.new v)
+            ↔ (IsTrue (has self.old v) ⊎ (IsTrue wanted × (v ≡ node))) }
+    {
+        if wanted {
+            self.insert(node);
+        }
+    }
+
     pub(crate) fn from_flags(flags: Vec<bool>) -> NodeSet
         ensures { result ≡ flags.items }
     {

@@ -2,17 +2,24 @@
 
 ghost use Rattle.std.specs.Prelude.{◌≡◌, ◌↔◌, IfOk, List, Some};
 ghost use Rattle.workspace_record.specs.Records.{Text};
-ghost use Rattle.guppy_package_rules.specs.Paths.{is_part, is_relative, parts};
+ghost use Rattle.guppy_package_rules.specs.Paths.{parts};
 ghost use Rattle.test_select_changes.specs.Changes.{IsBelow};
 ghost use Rattle.test_select_changes.specs.PartViews.{found_parts, lent_parts};
 
+use guppy_package_rules::{is_part, is_relative};
 use std::alloc::{AllocError, Global};
 
 /// The parts of a path, lent from it: what stands between slashes, but nothing empty and no `.`.
 pub fn parts_of<'a>(alloc: Global, path: &'a str) -> Result<Vec<&'a str>, AllocError>
     ensures { IfOk result (λ found. lent_parts found.items ≡ parts path.entry.now) }
 {
-    path.split('/').filter(|part| is_part(*part)).collect(alloc)
+    let mut parts = Vec::new(alloc);
+    for part in path.split('/') {
+        if is_part(part) {
+            parts.push(part)?;
+        }
+    }
+    Ok(parts)
 }
 
 /// What an absolute path has behind the parts of an absolute root, where it begins with them.
@@ -33,17 +40,4 @@ pub fn parts_below<'a>(
         Some(more) => Ok(Some(Vec::from_slice(alloc, more)?)),
         None => Ok(None),
     }
-}
-
-/// Whether a path does not begin with a `/`.
-pub fn is_relative(path: &str) -> bool
-    ensures { result ≡ is_relative path.now }
-{
-    !path.starts_with('/')
-}
-
-fn is_part(text: &str) -> bool
-    ensures { result ≡ is_part text.now }
-{
-    !text.is_empty() && text != "."
 }

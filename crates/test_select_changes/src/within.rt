@@ -4,7 +4,7 @@ ghost use Rattle.std.specs.Prelude.{◌≡◌, ◌↔◌, All, IsTrue, MatchOpti
 ghost use Rattle.workspace_record.specs.Records.{Text};
 ghost use Rattle.test_select_changes.specs.Changes.{IsWithin};
 
-use crate::path_parts::is_relative;
+use guppy_package_rules::is_relative;
 
 /// The place of the first path that is absolute or steps up.
 pub fn first_outside(paths: &[&str]) -> Option<usize>

@@ -6,16 +6,15 @@ use Rattle.std.specs.Str.{bytes_eq}
 use Rattle.list_facts.proofs.Membership.{Contains-none, Contains-append_cases, Contains-cons_cases, Contains-map_cases, Contains-filter_cases, Contains-flat_map_cases}
 use Rattle.workspace_record.specs.Records.{Text, Line, Link, Package}
 use Rattle.workspace_record.specs.Features.{FeatureValue}
-use Rattle.feature_account_rules.specs.Entries as account
 use Rattle.feature_account_rules.specs.IsEntry.{IsEntry}
+use Rattle.feature_account_rules.proofs.EntryReading.{entry_reads}
 use Rattle.feature_account_rules.specs.IsRule.{HasEntry}
 use Rattle.guppy_feature_demands.specs.Demands.{DemandValue, FormValue, FeatureToBase, NamedFeature, NamedFeatureDepColon, StrongSlash, WeakSlash, DependenciesSection, base_demands, demands_of, dependency_demands, entry_demands, feature_demands, leads, leads_by, line_demands, line_start, line_targets, link_demands, package_demands, same_name, slash_demands}
-use Rattle.guppy_feature_demands.specs.Entries.{EntryValue, OwnFeature, Dependency, Strong, Weak, entry_value}
+use Rattle.workspace_record.specs.Entries.{EntryValue, OwnFeature, Dependency, Strong, Weak, entry_value}
 use Rattle.guppy_feature_demands.specs.Nodes.{base_of, dep_of, first_of_each, is_node, named_of, nodes_of}
 use Rattle.guppy_feature_demands.specs.Numbered.{is_named_link, lines_of, links_named, numbered}
 use Rattle.guppy_feature_nodes.proofs.EdgeFacts.{first_of_each-among}
 use Rattle.guppy_feature_nodes.proofs.LineFacts.{numbered-at}
-use Rattle.test_select_feature_laws.proofs.EntryFacts.{as_rule, reads_as}
 
 -- the place names the line of the link
 pub record IsPlaced (links : List Link) (place : ℕ × ℕ) (link : Link) (line : Line) : Type 0 where
@@ -26,14 +25,14 @@ pub data IsDemand (packages : List Package) (links : List Link) : DemandValue �
   -- a feature leads to its package
   to_base : {f : FeatureValue} → Contains (nodes_of packages) f → IsDemand packages links (leads FeatureToBase f (base_of f.package_id))
   -- an entry leads to a feature of the package, or to an optional dependency
-  to_own : {p : Package} {name entry other : Text} → Contains packages p → HasEntry p name entry → IsEntry entry (account.OwnFeature other) → IsDemand packages links (leads NamedFeature (named_of p.id name) (named_of p.id other))
-  to_dependency : {p : Package} {name entry other : Text} → Contains packages p → HasEntry p name entry → IsEntry entry (account.Dependency other) → IsDemand packages links (leads NamedFeatureDepColon (named_of p.id name) (dep_of p.id other))
+  to_own : {p : Package} {name entry other : Text} → Contains packages p → HasEntry p name entry → IsEntry entry (OwnFeature other) → IsDemand packages links (leads NamedFeature (named_of p.id name) (named_of p.id other))
+  to_dependency : {p : Package} {name entry other : Text} → Contains packages p → HasEntry p name entry → IsEntry entry (Dependency other) → IsDemand packages links (leads NamedFeatureDepColon (named_of p.id name) (dep_of p.id other))
   -- a strong entry leads to an optional dependency, and where there is one to the feature of its name
-  strong_dependency : {p : Package} {name entry other x : Text} → Contains packages p → HasEntry p name entry → IsEntry entry (account.Strong other x) → IsDemand packages links (leads NamedFeatureDepColon (named_of p.id name) (dep_of p.id other))
-  strong_name : {p : Package} {name entry other x : Text} → Contains packages p → HasEntry p name entry → IsEntry entry (account.Strong other x) → is_node (nodes_of packages) (dep_of p.id other) ≡ true → IsDemand packages links (leads NamedFeature (named_of p.id name) (named_of p.id other))
+  strong_dependency : {p : Package} {name entry other x : Text} → Contains packages p → HasEntry p name entry → IsEntry entry (Strong other x) → IsDemand packages links (leads NamedFeatureDepColon (named_of p.id name) (dep_of p.id other))
+  strong_name : {p : Package} {name entry other x : Text} → Contains packages p → HasEntry p name entry → IsEntry entry (Strong other x) → is_node (nodes_of packages) (dep_of p.id other) ≡ true → IsDemand packages links (leads NamedFeature (named_of p.id name) (named_of p.id other))
   -- strong and weak entries lead by lines
-  strong_line : {p : Package} {name entry other x : Text} {place : ℕ × ℕ} {link : Link} {line : Line} → Contains packages p → HasEntry p name entry → IsEntry entry (account.Strong other x) → IsPlaced links place link line → link.from ≡ p.id → link.name ≡ other → IsDemand packages links (leads_by (StrongSlash other) (named_of p.id name) (named_of link.to x) place)
-  weak_line : {p : Package} {name entry other x : Text} {place : ℕ × ℕ} {link : Link} {line : Line} → Contains packages p → HasEntry p name entry → IsEntry entry (account.Weak other x) → IsPlaced links place link line → link.from ≡ p.id → link.name ≡ other → IsDemand packages links (leads_by (WeakSlash other) (named_of p.id name) (named_of link.to x) place)
+  strong_line : {p : Package} {name entry other x : Text} {place : ℕ × ℕ} {link : Link} {line : Line} → Contains packages p → HasEntry p name entry → IsEntry entry (Strong other x) → IsPlaced links place link line → link.from ≡ p.id → link.name ≡ other → IsDemand packages links (leads_by (StrongSlash other) (named_of p.id name) (named_of link.to x) place)
+  weak_line : {p : Package} {name entry other x : Text} {place : ℕ × ℕ} {link : Link} {line : Line} → Contains packages p → HasEntry p name entry → IsEntry entry (Weak other x) → IsPlaced links place link line → link.from ≡ p.id → link.name ≡ other → IsDemand packages links (leads_by (WeakSlash other) (named_of p.id name) (named_of link.to x) place)
   -- a line leads to what it asks for
   by_line : {place : ℕ × ℕ} {link : Link} {line : Line} {f : FeatureValue} → IsPlaced links place link line → Contains (line_targets link line) f → IsDemand packages links (leads_by DependenciesSection (line_start link line) f place)
 
@@ -68,7 +67,7 @@ module _ (packages : List Package) (links : List Link) where
     f = named_of p.id name
 
     -- a strong entry demands what it leads to always
-    dependency_cases : (other x : Text) → IsEntry entry (account.Strong other x) → (d : DemandValue) → Contains (dependency_demands nodes p.id f other) d → Is d
+    dependency_cases : (other x : Text) → IsEntry entry (Strong other x) → (d : DemandValue) → Contains (dependency_demands nodes p.id f other) d → Is d
     dependency_cases other x reads d h =
         ⊎_elim (λ e. subst Is e (strong_dependency listed has reads)) (by (is_node nodes (dep_of p.id other)) refl) (Contains-cons_cases (leads NamedFeatureDepColon f (dep_of p.id other)) (cond (is_node nodes (dep_of p.id other)) (leads NamedFeature f (named_of p.id other) ∷ []) []) d h)
       where
@@ -77,7 +76,7 @@ module _ (packages : List Package) (links : List Link) where
         by false e k = absurd (Contains-none d k)
 
     -- an entry demands what it leads to
-    entry_cases : (v : EntryValue) → IsEntry entry (as_rule v) → (d : DemandValue) → Contains (entry_demands nodes (numbered links) p.id f v) d → Is d
+    entry_cases : (v : EntryValue) → IsEntry entry v → (d : DemandValue) → Contains (entry_demands nodes (numbered links) p.id f v) d → Is d
     entry_cases (OwnFeature other) reads d h = subst Is (only (leads NamedFeature f (named_of p.id other)) d h) (to_own listed has reads)
     entry_cases (Dependency other) reads d h = subst Is (only (leads NamedFeatureDepColon f (dep_of p.id other)) d h) (to_dependency listed has reads)
     entry_cases (Strong other x) reads d h =
@@ -88,7 +87,7 @@ module _ (packages : List Package) (links : List Link) where
   package_cases p listed d h =
       let (f, hf, hd) = Contains-flat_map_cases (feature_demands nodes (numbered links) p.id) (first_of_each same_name p.features) d h in
       let (e, he, hv) = Contains-flat_map_cases (λ e. entry_demands nodes (numbered links) p.id (named_of p.id f.name) (entry_value e)) f.enables d hd in
-      entry_cases p listed f.name e (f.enables, first_of_each-among same_name p.features f hf, he) (entry_value e) (reads_as e) d hv
+      entry_cases p listed f.name e (f.enables, first_of_each-among same_name p.features f hf, he) (entry_value e) (entry_reads e) d hv
 
   link_cases : (link : ℕ × Link) → Contains (numbered links) link → (d : DemandValue) → Contains (link_demands link) d → Is d
   link_cases link within d h =

@@ -10,7 +10,7 @@ use Rattle.workspace_record.specs.Features.{LabelValue, Base, Named, Dep, Featur
 use Rattle.workspace_record.specs.declared.choice.PlatformTable.{PlatformTable}
 use Rattle.guppy_package_rules.specs.Kept.{IsPackageId}
 use Rattle.feature_account_rules.specs.Closed.{FeatureSet, has_premises}
-use Rattle.feature_account_rules.specs.Entries as account
+use Rattle.workspace_record.specs.Entries.{Strong, Weak}
 use Rattle.feature_account_rules.specs.IsEntry.{IsEntry}
 use Rattle.feature_account_rules.specs.IsRule.{Counts, HasEntry, IsFound, IsRule, LeadsTo, TargetHas, member_base, member_default, member_named, member_dep, extra, named_base, dep_base, own_entry, dependency_entry, strong_feature, strong_dependency, strong_name, weak_required, weak_optional, line_base, line_default, line_feature}
 use Rattle.feature_account_rules.specs.RuleList.{default_name}
@@ -177,14 +177,14 @@ module _ (w : Workspace) (table : PlatformTable) (g : FeatureGraphValue) (s : Fe
           target = named_of link.to feature
 
           -- a strong entry leads to a feature of a dependency
-          strong_leads : IsEntry entry (account.Strong dependency feature) → s f ≡ true → s target ≡ true
+          strong_leads : IsEntry entry (Strong dependency feature) → s f ≡ true → s target ≡ true
           strong_leads reads =
               let (place, at) = place_of w.links link line to.listed to.counts.declared in
               let d = leads_by (StrongSlash dependency) f target place in
               lined place link line at to.counts d (between d (demand.strong_line listed has reads at to.from to.named) from_node (target_node link feature to.target) apart) refl refl (sym to.from)
 
           -- so does a weak one, by an optional line where the set has the dependency
-          weak_leads : IsEntry entry (account.Weak dependency feature) → (line.optional ≡ true → s (dep_of p.id dependency) ≡ true) → s f ≡ true → s target ≡ true
+          weak_leads : IsEntry entry (Weak dependency feature) → (line.optional ≡ true → s (dep_of p.id dependency) ≡ true) → s f ≡ true → s target ≡ true
           weak_leads reads over =
               let (place, at) = place_of w.links link line to.listed to.counts.declared in
               let d = leads_by (WeakSlash dependency) f target place in

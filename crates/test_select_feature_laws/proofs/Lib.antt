@@ -1,5 +1,4 @@
 pub mod FirstFacts
-pub mod EntryFacts
 pub mod RecordFacts
 pub mod NodeFacts
 pub mod DemandFacts

@@ -7,7 +7,7 @@ use Rattle.workspace_record.specs.Records.{Text, Line, Link, Package, Workspace}
 use Rattle.workspace_record.specs.Features.{LabelValue, Base, Named, Dep, FeatureValue, feature_eq, features_decide}
 use Rattle.workspace_record.specs.declared.choice.PlatformTable.{PlatformTable}
 use Rattle.feature_account_rules.specs.Closed.{FeatureSet}
-use Rattle.feature_account_rules.specs.Entries.{Weak}
+use Rattle.workspace_record.specs.Entries.{Weak}
 use Rattle.feature_account_rules.specs.IsEntry.{IsEntry}
 use Rattle.feature_account_rules.specs.IsRule as rules
 use Rattle.feature_account_rules.specs.IsRule.{Counts, HasEntry, IsFound, IsRule, LeadsTo, TargetHas}

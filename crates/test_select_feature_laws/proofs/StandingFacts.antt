@@ -10,7 +10,7 @@ use Rattle.workspace_record.specs.Features.{FeatureValue}
 use Rattle.workspace_record.specs.Choices.{Choice}
 use Rattle.workspace_record.specs.declared.choice.PlatformTable.{PlatformTable}
 use Rattle.workspace_record.specs.declared.kinds.Standard.TheVariants as standard
-use Rattle.feature_account_rules.specs.Entries.{EntryValue, OwnFeature, Dependency, Strong, Weak, entry_value}
+use Rattle.workspace_record.specs.Entries.{EntryValue, OwnFeature, Dependency, Strong, Weak, entry_value}
 use Rattle.feature_account_rules.specs.IsRule.{IsFound, IsRule}
 use Rattle.feature_account_rules.specs.Lines.{package_of, first_of_each, counting_lines}
 use Rattle.feature_account_rules.specs.RuleList.{base_of, base_rules, both_imply, chosen_features, dep_of, entry_rules, feature_rules, given, has_feature, has_optional, implies, line_features, line_rules, line_start, link_rules, named_of, own_features, rules_of_entry, slash_lines, strong_features, weak_rule, weak_rules}

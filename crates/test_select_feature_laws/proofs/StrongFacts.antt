@@ -2,7 +2,7 @@
 use Rattle.std.proofs.Common.{◌≡◌, ℕ, List, All, Contains, Some, refl, sym, subst, ap, ◌∙◌}
 use Rattle.workspace_record.specs.Records.{Text, Line, Link, Package}
 use Rattle.workspace_record.specs.Features.{FeatureValue, label_name}
-use Rattle.feature_account_rules.specs.Entries as account
+use Rattle.workspace_record.specs.Entries.{Strong}
 use Rattle.feature_account_rules.specs.IsEntry.{IsEntry}
 use Rattle.feature_account_rules.specs.IsRule.{HasEntry}
 use Rattle.guppy_feature_demands.specs.Demands.{DemandValue, StrongSlash, WeakSlash, NumberedValue, demands_of, kept_demands, leads_by}
@@ -36,7 +36,7 @@ module _ (packages : List Package) (links : List Link) where
     target : Text
     listed : Contains packages p
     has : HasEntry p name entry
-    reads : IsEntry entry (account.Strong n x)
+    reads : IsEntry entry (Strong n x)
     from_is : named_of p.id name ≡ d.from
     to_is : named_of target x ≡ d.to
 
@@ -60,7 +60,7 @@ module _ (packages : List Package) (links : List Link) where
   of_strong d (strong_name listed has reads there) n e = absurd cc
   of_strong d (strong_line {p = p} {name = name} {entry = entry} {other = other} {x = x} {link = link} listed has reads at from named) n e =
       let same : other ≡ n = cc in
-      record { p = p; name = name; entry = entry; x = x; target = link.to; listed = listed; has = has; reads = subst (λ m. IsEntry entry (account.Strong m x)) same reads; from_is = refl; to_is = refl }
+      record { p = p; name = name; entry = entry; x = x; target = link.to; listed = listed; has = has; reads = subst (λ m. IsEntry entry (Strong m x)) same reads; from_is = refl; to_is = refl }
   of_strong d (weak_line listed has reads at from named) n e = absurd cc
   of_strong d (by_line at h) n e = absurd cc
 

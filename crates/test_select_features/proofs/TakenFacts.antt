@@ -1,6 +1,8 @@
 -- What a choice's filter takes of the features of members.
-use Rattle.std.proofs.Common.{◌≡◌, ◌↔◌, ◌⊎◌, ⊎_elim, inl, inr, ℕ, Bool, true, false, ◌||◌, List, [], ◌∷◌, Contains, IsTrue, refl, sym, subst, ap, ◌∙◌}
+use Rattle.std.proofs.Common.{◌≡◌, ◌↔◌, ◌⊎◌, ⊎_elim, inl, inr, ℕ, Bool, true, false, ◌||◌, List, [], ◌∷◌, Contains, IsTrue, map, refl, sym, subst, ap, ◌∙◌}
 use Rattle.std.proofs.lemmas.Bool.{false≢true}
+use Rattle.std.proofs.lemmas.List.Sorted.{Contains-permutation, IsPermutation-sym}
+use Rattle.std.specs.List.Sorted.{IsPermutation}
 use Rattle.list_facts.proofs.Membership.{Contains-cons_cases, Contains-map, Contains-map_cases, Contains-none}
 use Rattle.list_facts.proofs.Quantifiers.{list_any-from_Contains, list_any_cases}
 use Rattle.workspace_record.specs.Choices.{Choice}
@@ -20,6 +22,13 @@ listed_iff : (features : List FeatureValue) (f : FeatureValue) → IsTrue (is_li
 listed_iff features f = (
   λ h. let (x, there, same) = list_any_cases (λ x. feature_eq x f) features h in subst (Contains features) ((features_decide x f).0 same) there,
   λ h. list_any-from_Contains (λ x. feature_eq x f) features f h ((features_decide f f).1 refl),
+)
+
+-- what is listed in another order is listed
+pub Contains_map-permutation : {A B : Type 0} (f : A → B) (xs ys : List A) (b : B) → IsPermutation xs ys → Contains (map f ys) b ↔ Contains (map f xs) b
+Contains_map-permutation f xs ys b moved = (
+  λ h. let (y, there, at) = Contains-map_cases f ys b h in subst (Contains (map f xs)) at (Contains-map f xs y (Contains-permutation ys xs y (IsPermutation-sym xs ys moved) there)),
+  λ h. let (x, there, at) = Contains-map_cases f xs b h in subst (Contains (map f ys)) at (Contains-map f ys x (Contains-permutation xs ys x moved there)),
 )
 
 -- one of two answers
@@ -45,9 +54,10 @@ taken_iff g choice judged are says v = (
 )
 
 -- what one step of a choice's filter says
-pub filter_step : (standard s : StandardFeatures) (g : FeatureGraphValue) (features extras : List FeatureValue) (f : FeatureValue) (b taken : Bool) → s ≡ standard → features ≡ extras → Accepts s g f taken → b ≡ (taken || is_listed features f) → IsTrue b ↔ (Takes standard g f ⊎ Contains extras f)
+pub filter_step : (standard s : StandardFeatures) (g : FeatureGraphValue) (features extras : List FeatureValue) (f : FeatureValue) (b taken : Bool) → s ≡ standard → Contains features f ↔ Contains extras f → Accepts s g f taken → b ≡ (taken || is_listed features f) → IsTrue b ↔ (Takes standard g f ⊎ Contains extras f)
 filter_step standard s g features extras f b taken same are accepts is =
-    either_iff taken (is_listed features f) b (subst (λ x. IsTrue taken ↔ Takes x g f) same accepts) (subst (λ xs. IsTrue (is_listed features f) ↔ Contains xs f) are (listed_iff features f)) is
+    let listed = listed_iff features f in
+    either_iff taken (is_listed features f) b (subst (λ x. IsTrue taken ↔ Takes x g f) same accepts) (λ h. are.0 (listed.0 h), λ h. listed.1 (are.1 h)) is
 
 -- what all its steps say
 pub filter_says : {S : Type 0} (R : S → FeatureGraphValue × FeatureValue → Bool → S → Type 0) (g : FeatureGraphValue) (choice : Choice) → ((s : S) (f : FeatureValue) (b : Bool) (t : S) → R s (g, f) b t → IsTrue b ↔ (Takes (standard_of choice.standard) g f ⊎ Contains choice.extras f)) → (judged : Judged) (s t : S) → Chain R s (shown_features g judged) t → (j : ℕ × Bool) → Contains judged j → IsTrue j.1 ↔ (Takes (standard_of choice.standard) g (feature_at g j.0) ⊎ Contains choice.extras (feature_at g j.0))

@@ -34,8 +34,8 @@ use workspace_record::{Feature, FeatureChoice, PlatformTable, Standard, Workspac
 /// of the record's package graph leads to from the features of members that are standard ones of the
 /// choice or extras, over the links behind which a line counts.
 ///
-/// The work grows with the packages, features, entries, links and lines, up to sorting, and with the
-/// extras for each feature of a member.
+/// The work grows with the packages, features, entries, links, lines and extras, up to sorting and to
+/// looking each feature of a member up among the extras by halving.
 pub fn resolved_features(
     alloc: Global,
     record: &WorkspaceRecord,
@@ -95,7 +95,8 @@ fn query_by<'g>(
         (IsStart (feature_graph_of graph.entry) choice.now)) }
 {
     let package_ids = package_ids(alloc, &choice.extras)?;
-    let extras = feature_ids(alloc, &choice.extras, &package_ids)?;
+    let mut extras = feature_ids(alloc, &choice.extras, &package_ids)?;
+    extras.sort_unstable();
     let mut filter = feature_id_filter(standard_of(choice.standard), &extras);
     graph.query_workspace(alloc, &mut filter)
 }

@@ -1,3 +1,9 @@
+pub mod Apps
 pub mod Defaults
 pub mod Failures
+pub mod Files
+pub mod Listed
+pub mod Reading
+pub mod Refusals
 pub mod Verdicts
+pub mod Words

@@ -1,5 +1,18 @@
 //! Command lines as data: what a program is called, its subcommands, and the words that each takes.
 
+ghost use Rattle.std.specs.Prelude.{◌≡◌, IfOk, false, fold, not};
+ghost use Rattle.clap.specs.Walk.{is_empty};
+ghost use Rattle.clap.specs.Words.{app_of, new_app, rule_of};
+ghost use Rattle.clap.specs.declared.builder.Command.TheViews.{out-Command as fields_of};
+ghost use Rattle.test_select_files.specs.Apps.{
+  bare_app,
+  program_app,
+  subcommand_app,
+  with_sub,
+  with_word,
+  word_rule,
+};
+
 use clap::{Arg, ArgAction, Command};
 use std::alloc::{AllocError, Global};
 
@@ -58,18 +71,29 @@ pub enum Shape {
 
 impl Program {
     /// The command, as `clap` reads it. Without any word it shows its help.
-    pub fn command<'a>(&self, alloc: Global) -> Result<Command<'a>, AllocError> {
+    pub fn command<'a>(&self, alloc: Global) -> Result<Command<'a>, AllocError>
+        ensures app { IfOk result (λ c. app_of c ≡ program_app self.now) }
+        ensures local { IfOk result (λ c. (fields_of c).has_globals ≡ false) }
+    {
+        let bare = self.bare(alloc)?;
+        let worded = with_words(alloc, bare, self.words)?;
+        with_subcommands(alloc, worded, self.subcommands)
+    }
+
+    /// The command without its words and its subcommands.
+    fn bare<'a>(&self, alloc: Global) -> Result<Command<'a>, AllocError>
+        ensures app { IfOk result (λ c. app_of c
+            ≡ bare_app self.now.name.now (not (is_empty self.now.subcommands.now))) }
+        ensures local { IfOk result (λ c. (fields_of c).has_globals ≡ false) }
+    {
         let named = Command::new(alloc, self.name).bin_name(self.name)?;
-        let described = named
-            .version("0.1.0")
-            .about(self.about)
-            .after_help(self.help)
-            .subcommand_required(!self.subcommands.is_empty())
-            .arg_required_else_help(true);
-        with_subcommands(
-            alloc,
-            with_words(alloc, described, self.words)?,
-            self.subcommands,
+        Ok(
+            named
+                .version("0.1.0")
+                .about(self.about)
+                .after_help(self.help)
+                .subcommand_required(!self.subcommands.is_empty())
+                .arg_required_else_help(true),
         )
     }
 }
@@ -78,22 +102,37 @@ fn with_subcommands<'a>(
     alloc: Global,
     command: Command<'a>,
     subcommands: &[Subcommand],
-) -> Result<Command<'a>, AllocError> {
+) -> Result<Command<'a>, AllocError>
+    ensures app { IfOk result (λ c. app_of c
+        ≡ fold with_sub (app_of command.entry) subcommands.now) }
+    ensures local { IfOk result (λ c. (fields_of c).has_globals
+        ≡ (fields_of command.entry).has_globals) }
+{
     let mut command = command;
     for subcommand in subcommands {
-        command = command.subcommand(subcommand.command(alloc)?)?;
+        let below = subcommand.command(alloc)?;
+        let grown = command.subcommand(below)?;
+        command = grown;
     }
     Ok(command)
 }
 
 impl Subcommand {
-    fn command<'a>(&self, alloc: Global) -> Result<Command<'a>, AllocError> {
-        let named = Command::new(alloc, self.name);
-        with_words(
-            alloc,
-            named.about(self.about).after_help(self.help),
-            self.words,
-        )
+    fn command<'a>(&self, alloc: Global) -> Result<Command<'a>, AllocError>
+        ensures app { IfOk result (λ c. app_of c ≡ subcommand_app self.now) }
+        ensures local { IfOk result (λ c. (fields_of c).has_globals ≡ false) }
+    {
+        with_words(alloc, self.bare(alloc), self.words)
+    }
+
+    /// The command without its words.
+    fn bare<'a>(&self, alloc: Global) -> Command<'a>
+        ensures app { app_of result ≡ new_app self.now.name.now }
+        ensures local { (fields_of result).has_globals ≡ false }
+    {
+        Command::new(alloc, self.name)
+            .about(self.about)
+            .after_help(self.help)
     }
 }
 
@@ -101,40 +140,63 @@ fn with_words<'a>(
     alloc: Global,
     command: Command<'a>,
     words: &[Word],
-) -> Result<Command<'a>, AllocError> {
+) -> Result<Command<'a>, AllocError>
+    ensures app { IfOk result (λ c. app_of c ≡ fold with_word (app_of command.entry) words.now) }
+    ensures local { IfOk result (λ c. (fields_of c).has_globals
+        ≡ (fields_of command.entry).has_globals) }
+{
     let mut command = command;
     for word in words {
-        command = command.arg(word.argument(alloc))?;
+        let argument = word.argument(alloc);
+        let grown = command.arg(argument)?;
+        command = grown;
     }
     Ok(command)
 }
 
 impl Word {
     /// The word, as `clap` takes it.
-    pub fn argument<'a>(&self, alloc: Global) -> Arg<'a> {
+    pub fn argument<'a>(&self, alloc: Global) -> Arg<'a>
+        ensures rule { rule_of result ≡ word_rule self.now }
+        ensures local { result.global ≡ false }
+    {
         let named = Arg::new(alloc, self.name).help(self.help);
-        let (named, value, action) = match self.shape {
-            Shape::Flag => return named.long(self.name).action(ArgAction::SetTrue),
-            Shape::Option(value) => (named.long(self.name).required(true), value, ArgAction::Set),
-            Shape::MaybeOption(value) => (named.long(self.name), value, ArgAction::Set),
-            Shape::Choice(value, values) => (
-                named.long(self.name).value_parser(values),
-                value,
-                ArgAction::Set,
-            ),
-            Shape::Options(value) => (named.long(self.name), value, ArgAction::Append),
+        match self.shape {
+            Shape::Flag => named.long(self.name).action(ArgAction::SetTrue),
+            Shape::Option(value) => {
+                valued(named.long(self.name).required(true), value, ArgAction::Set)
+            }
+            Shape::MaybeOption(value) => valued(named.long(self.name), value, ArgAction::Set),
+            Shape::Choice(value, values) => {
+                valued(
+                    named.long(self.name).value_parser(values),
+                    value,
+                    ArgAction::Set,
+                )
+            }
+            Shape::Options(value) => valued(named.long(self.name), value, ArgAction::Append),
             Shape::ShortOptions(letter, value) => {
-                (
+                valued(
                     named.long(self.name).short(letter),
                     value,
                     ArgAction::Append,
                 )
             }
-            Shape::Letters(letter, value) => (named.short(letter), value, ArgAction::Append),
-            Shape::Place(value) => (named.required(true), value, ArgAction::Set),
-            Shape::MaybePlace(value) => (named, value, ArgAction::Set),
-            Shape::Rest(value) => (named.num_args(0..), value, ArgAction::Append),
-        };
-        named.value_name(value).action(action)
+            Shape::Letters(letter, value) => {
+                valued(named.short(letter), value, ArgAction::Append)
+            }
+            Shape::Place(value) => valued(named.required(true), value, ArgAction::Set),
+            Shape::MaybePlace(value) => valued(named, value, ArgAction::Set),
+            Shape::Rest(value) => valued(named.num_args(0..), value, ArgAction::Append),
+        }
     }
+}
+
+/// The argument, which takes values that are called so in the help.
+fn valued<'a>(arg: Arg<'a>, value: &'a str, action: ArgAction) -> Arg<'a>
+    ensures rule { rule_of result
+        ≡ record (rule_of arg.entry) { value_names = 1; action = Some action } }
+    ensures local { result.global ≡ arg.entry.global }
+{
+    arg.value_name(value).action(action)
 }

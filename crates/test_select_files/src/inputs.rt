@@ -3,6 +3,19 @@
 ghost use Rattle.std.specs.Prelude.{◌≡◌, IfOk, IfErr, IsNone, IsSome, Ok};
 ghost use Rattle.test_select_files.specs.Failures.{status_of};
 ghost use Rattle.test_select_files.specs.Defaults.{default_choice, KnowsNothing};
+ghost use Rattle.test_select_files.specs.Files.{SameAnswers};
+ghost use Rattle.test_select_files.specs.Reading.{
+  Asks,
+  bytes_read,
+  ReadsAccount,
+  ReadsBytes,
+  ReadsChoice,
+  ReadsQuestion,
+  ReadsRecord,
+  ReadsTable,
+};
+ghost use Rattle.test_select_files.specs.Refusals.{accepted};
+ghost use Rattle.test_select_files.specs.Words.{name_in, names_of};
 
 use crate::file_source::FileSource;
 use crate::options::QuestionFiles;
@@ -38,7 +51,10 @@ pub fn feature_question<'a>(
     names: QuestionFiles<'a>,
     files: &mut dyn FileSource,
 ) -> Result<FeatureQuestion, RunFailure<'a>>
-    ensures { IfErr result (λ f. status_of f ≡ 1) }
+    ensures status { IfErr result (λ f. status_of f ≡ 1) }
+    ensures reads { Asks (answers files.old) (state files.old) (state files.new)
+        (ReadsQuestion (names_of names.entry) result) }
+    ensures same { SameAnswers (answers files.old) (answers files.new) }
 {
     let record = Rc::new(alloc, record_in(alloc, names.record, files)?)?;
     let choice = choice_in(alloc, names.choice, files)?;
@@ -55,7 +71,10 @@ fn record_in<'a>(
     name: &'a str,
     files: &mut dyn FileSource,
 ) -> Result<WorkspaceRecord, RunFailure<'a>>
-    ensures { IfErr result (λ f. status_of f ≡ 1) }
+    ensures status { IfErr result (λ f. status_of f ≡ 1) }
+    ensures reads { Asks (answers files.old) (state files.old) (state files.new)
+        (ReadsRecord name.now result) }
+    ensures same { SameAnswers (answers files.old) (answers files.new) }
 {
     let bytes = bytes_in(alloc, name, files)?;
     accepted(name, read_record(alloc, &bytes))
@@ -68,6 +87,9 @@ fn choice_in<'a>(
 ) -> Result<FeatureChoice, RunFailure<'a>>
     ensures absent { IfOk result (λ c. IsNone name.entry → c ≡ default_choice) }
     ensures fails { IfErr result (λ f. IsSome name.entry × (status_of f ≡ 1)) }
+    ensures reads { Asks (answers files.old) (state files.old) (state files.new)
+        (ReadsChoice (name_in name.entry) result) }
+    ensures same { SameAnswers (answers files.old) (answers files.new) }
 {
     let Some(name) = name else {
         return Ok(choice_of_defaults(alloc));
@@ -93,6 +115,9 @@ fn table_in<'a>(
 ) -> Result<PlatformTable, RunFailure<'a>>
     ensures absent { IfOk result (λ t. IsNone name.entry → KnowsNothing t) }
     ensures fails { IfErr result (λ f. IsSome name.entry × (status_of f ≡ 1)) }
+    ensures reads { Asks (answers files.old) (state files.old) (state files.new)
+        (ReadsTable (name_in name.entry) result) }
+    ensures same { SameAnswers (answers files.old) (answers files.new) }
 {
     let Some(name) = name else {
         return Ok(nothing_known(alloc));
@@ -117,7 +142,10 @@ pub fn account_in<'a>(
     name: &'a str,
     files: &mut dyn FileSource,
 ) -> Result<AccountFile, RunFailure<'a>>
-    ensures { IfErr result (λ f. status_of f ≡ 1) }
+    ensures status { IfErr result (λ f. status_of f ≡ 1) }
+    ensures reads { Asks (answers files.old) (state files.old) (state files.new)
+        (ReadsAccount name.now result) }
+    ensures same { SameAnswers (answers files.old) (answers files.new) }
 {
     let bytes = bytes_in(alloc, name, files)?;
     accepted(name, read_account(alloc, &bytes))
@@ -129,7 +157,10 @@ pub fn bytes_in<'a>(
     name: &'a str,
     files: &mut dyn FileSource,
 ) -> Result<Vec<u8>, RunFailure<'a>>
-    ensures { IfErr result (λ f. status_of f ≡ 1) }
+    ensures status { IfErr result (λ f. status_of f ≡ 1) }
+    ensures reads { Asks (answers files.old) (state files.old) (state files.new)
+        (ReadsBytes name.now (bytes_read result)) }
+    ensures same { SameAnswers (answers files.old) (answers files.new) }
 {
     match files.read(alloc, name) {
         Ok(bytes) => Ok(bytes),
@@ -141,6 +172,7 @@ pub fn bytes_in<'a>(
 pub fn accepted<T>(name: &str, read: Result<T, ReadError>) -> Result<T, RunFailure<'_>>
     ensures value { IfOk result (λ v. read ≡ Ok v) }
     ensures fails { IfErr result (λ f. status_of f ≡ 1) }
+    ensures accepted { result ≡ accepted name.entry read }
 {
     match read {
         Ok(value) => Ok(value),

@@ -8,6 +8,7 @@
 mod command_line;
 mod file_source;
 mod inputs;
+mod listed_files;
 mod main_parts;
 mod options;
 mod run_failure;
@@ -16,6 +17,7 @@ mod verdicts;
 pub use crate::command_line::{Program, Shape, Subcommand, Word};
 pub use crate::file_source::{FileFault, FileSource, SystemFiles};
 pub use crate::inputs::{FeatureQuestion, accepted, account_in, bytes_in, feature_question};
+pub use crate::listed_files::{ListedFile, ListedFiles};
 pub use crate::main_parts::{exit_code, words};
 pub use crate::options::{
     ACCOUNT, CHECK_HELP, CHOICE, QuestionFiles, RECORD, TABLE, account_file, named_files, required,

@@ -1,5 +1,9 @@
 //! The words of a command line that name the files of a question.
 
+ghost use Rattle.std.specs.Prelude.{◌≡◌, codes};
+ghost use Rattle.clap.specs.Words.{found_of, rows_of};
+ghost use Rattle.test_select_files.specs.Words.{files_named, names_of, word_or_empty};
+
 use crate::command_line::{Shape, Word};
 use clap::ArgMatches;
 
@@ -12,7 +16,9 @@ pub struct QuestionFiles<'a> {
 }
 
 /// The files that the command line names for a question on features.
-pub fn named_files<'a>(asked: &ArgMatches<'a>) -> QuestionFiles<'a> {
+pub fn named_files<'a>(asked: &ArgMatches<'a>) -> QuestionFiles<'a>
+    ensures named { names_of result ≡ files_named (rows_of (found_of asked.now)) }
+{
     QuestionFiles {
         record: required(asked, "record"),
         choice: asked.get_str("choice"),
@@ -21,12 +27,16 @@ pub fn named_files<'a>(asked: &ArgMatches<'a>) -> QuestionFiles<'a> {
 }
 
 /// The file that the command line names for the account.
-pub fn account_file<'a>(asked: &ArgMatches<'a>) -> &'a str {
+pub fn account_file<'a>(asked: &ArgMatches<'a>) -> &'a str
+    ensures named { result.now ≡ word_or_empty (codes "account") (rows_of (found_of asked.now)) }
+{
     required(asked, "account")
 }
 
 /// The value of a required word, without which `clap` takes no command line.
-pub fn required<'a>(asked: &ArgMatches<'a>, name: &str) -> &'a str {
+pub fn required<'a>(asked: &ArgMatches<'a>, name: &str) -> &'a str
+    ensures value { result.now ≡ word_or_empty name.now (rows_of (found_of asked.now)) }
+{
     asked.get_str(name).unwrap_or("")
 }
 

@@ -1,7 +1,10 @@
 //! Why a run of a program ends early.
 
 ghost use Rattle.std.specs.Prelude.{◌≡◌};
+ghost use Rattle.clap.specs.Words.{kind_of};
+ghost use Rattle.clap.specs.declared.error.ErrorKind.TheVariants.{OutOfMemory};
 ghost use Rattle.test_select_files.specs.Failures.{status_of};
+ghost use Rattle.test_select_files.specs.Refusals.{refused, unread};
 ghost use Rattle.test_select_files.specs.declared.run_failure.RunFailure.TheVariants.{CannotWrite, Memory};
 
 use crate::file_source::FileFault;
@@ -30,7 +33,8 @@ pub enum RunFailure<'a> {
 impl<'a> RunFailure<'a> {
     /// Why the file with this name was not read.
     pub(crate) fn unread(name: &'a str, fault: FileFault) -> RunFailure<'a>
-        ensures { status_of result ≡ 1 }
+        ensures status { status_of result ≡ 1 }
+        ensures why { result ≡ unread name.entry fault }
     {
         match fault {
             FileFault::CannotRead => RunFailure::CannotRead(name),
@@ -40,7 +44,8 @@ impl<'a> RunFailure<'a> {
 
     /// Why the file with this name was refused.
     pub(crate) fn bad_file(name: &'a str, error: ReadError) -> RunFailure<'a>
-        ensures { status_of result ≡ 1 }
+        ensures status { status_of result ≡ 1 }
+        ensures why { result ≡ refused name.entry error }
     {
         match error {
             ReadError::Memory => RunFailure::Memory,
@@ -86,6 +91,8 @@ fn write_bad_file<W: fmt::Write>(
 }
 
 impl From<clap::Error> for RunFailure<'_> {
+    ghost from_gives = { λ e f. kind_of e ≡ OutOfMemory → f ≡ Memory };
+
     fn from(error: clap::Error) -> Self {
         match error.kind() {
             ErrorKind::OutOfMemory => RunFailure::Memory,

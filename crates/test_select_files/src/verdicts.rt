@@ -2,7 +2,16 @@
 
 ghost use Rattle.std.specs.Prelude.{◌≡◌, IfErr, IfOk, string_bytes};
 ghost use Rattle.test_select_files.specs.Failures.{status_of};
-ghost use Rattle.test_select_files.specs.Verdicts.{IsVerdictOn, verdict_line};
+ghost use Rattle.clap.specs.Words.{found_of, rows_of};
+ghost use Rattle.test_select_files.specs.Files.{SameAnswers};
+ghost use Rattle.test_select_files.specs.Reading.{Asks, ReadsCheck};
+ghost use Rattle.test_select_files.specs.Verdicts.{
+  EndsCheck,
+  IsVerdictOn,
+  PrintsVerdict,
+  verdict_line,
+  WritesLine,
+};
 
 use crate::file_source::FileSource;
 use crate::inputs::{FeatureQuestion, account_in, feature_question};
@@ -24,10 +33,28 @@ pub fn print_verdict<'a, O: Write>(
     out: &mut O,
 ) -> Result<(), RunFailure<'a>>
     ensures status { IfErr result (λ f. status_of f ≡ 1) }
+    ensures prints { Asks (answers files.old) (state files.old) (state files.new)
+        (EndsCheck (rows_of (found_of asked.now)) result (O.contents out.old) (O.contents out.new)) }
+    ensures same { SameAnswers (answers files.old) (answers files.new) }
+{
+    let read = check_inputs(alloc, asked, files)?;
+    print_verdict_on(alloc, &read.0, &read.1, out)
+}
+
+/// Reads the files of the question, and then the account.
+fn check_inputs<'a>(
+    alloc: Global,
+    asked: &ArgMatches<'a>,
+    files: &mut dyn FileSource,
+) -> Result<(FeatureQuestion, AccountFile), RunFailure<'a>>
+    ensures status { IfErr result (λ f. status_of f ≡ 1) }
+    ensures reads { Asks (answers files.old) (state files.old) (state files.new)
+        (ReadsCheck (rows_of (found_of asked.now)) result) }
+    ensures same { SameAnswers (answers files.old) (answers files.new) }
 {
     let question = feature_question(alloc, named_files(asked), files)?;
     let account = account_in(alloc, account_file(asked), files)?;
-    print_verdict_on(alloc, &question, &account, out)
+    Ok((question, account))
 }
 
 /// Prints what is to be said of the file, and denies one that is refused.
@@ -38,6 +65,8 @@ fn print_verdict_on<'a, O: Write>(
     out: &mut O,
 ) -> Result<(), RunFailure<'a>>
     ensures status { IfErr result (λ f. status_of f ≡ 1) }
+    ensures prints { PrintsVerdict question.now account.now result (O.contents out.old)
+        (O.contents out.new) }
 {
     let verdict = verdict_on(alloc, question, account)?;
     write_verdict(alloc, verdict, out)?;
@@ -76,7 +105,9 @@ fn write_verdict<'a, O: Write>(
     verdict: Verdict,
     out: &mut O,
 ) -> Result<(), RunFailure<'a>>
-    ensures { IfErr result (λ f. status_of f ≡ 1) }
+    ensures status { IfErr result (λ f. status_of f ≡ 1) }
+    ensures writes { WritesLine (verdict_line verdict) result (O.contents out.old)
+        (O.contents out.new) }
 {
     let line = verdict_line(alloc, verdict)?;
     write_bytes(out, line.as_bytes())?;

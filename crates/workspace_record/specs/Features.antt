@@ -1,5 +1,5 @@
 -- Features of packages: what they are, and their order.
-use Rattle.std.specs.Prelude.{ℕ, zero, suc, Bool, true, [], ◌++◌, nat_eq}
+use Rattle.std.specs.Prelude.{ℕ, zero, suc, Bool, true, [], ◌++◌, nat_eq, if◌then◌else◌}
 use Rattle.std.specs.declared.cmp.Ordering.{Ordering}
 use Rattle.std.specs.Ordering.{nat_cmp, on, then_cmp, eq_by_cmp, as_partial_cmp}
 use Rattle.std.specs.Cmp.Lexicographic.{slice_cmp, nat_list_cmp_total, texts_ties}
@@ -7,7 +7,7 @@ use Rattle.std.proofs.Common.{◌≡◌, refl, ap}
 use Rattle.std.specs.Cmp.{IsTotalOrder, IsPartialOrder, unsigned_Decides, unsigned_ties, both_tied, then_total, on_total, nat_cmp_total, partial_order_from_agreeing_total}
 use Rattle.std.specs.Hash as fed
 use Rattle.workspace_record.specs.Equality.{DecidesEquality, text_eq, pair_eq, texts_decide, pairs_decide, decide_by}
-use Rattle.workspace_record.specs.Records.{Text}
+use Rattle.workspace_record.specs.Records.{Text, Line, Link}
 
 -- of a `Label`: the package itself, a feature that it names, or an optional dependency
 pub data LabelValue : Type 0 where
@@ -19,6 +19,20 @@ pub data LabelValue : Type 0 where
 pub record FeatureValue : Type 0 where
   pub package_id : Text
   pub label : LabelValue
+
+-- the features of the package with an id: itself, one that it names, an optional dependency
+abbrev pub base_of : Text → FeatureValue
+base_of id = record { package_id = id; label = Base }
+
+abbrev pub named_of : Text → Text → FeatureValue
+named_of id name = record { package_id = id; label = Named name }
+
+abbrev pub dep_of : Text → Text → FeatureValue
+dep_of id name = record { package_id = id; label = Dep name }
+
+-- where a line starts: at its source, or at the optional dependency
+abbrev pub line_start : Link → Line → FeatureValue
+line_start link line = if line.optional then dep_of link.from link.name else base_of link.from
 
 -- the place of a label's kind in the order of labels
 abbrev pub label_kind : LabelValue → ℕ

@@ -4,6 +4,8 @@ pub mod Records
 pub mod LinesAt
 pub mod RecordEquality
 pub mod Features
+pub mod Entries
+pub mod EntryView
 pub mod LabelView
 pub mod Choices
 pub mod Tables

@@ -17,6 +17,7 @@
 #![tactic(auto)]
 
 mod choice;
+mod entry;
 mod feature;
 mod kinds;
 mod label;
@@ -33,6 +34,7 @@ mod texts;
 mod workspace;
 
 pub use crate::choice::{FeatureChoice, PlatformTable};
+pub use crate::entry::{Entry, entry_of};
 pub use crate::feature::Feature;
 pub use crate::kinds::{LineKind, Standard, TargetKind};
 pub use crate::label::Label;

@@ -31,6 +31,12 @@ impl<'a> MemoryFiles<'a> {
 }
 
 impl FileSource for MemoryFiles<'_> {
+    ghost use Rattle.std.specs.Prelude.{[]};
+
+    ghost state = { λ _. [] };
+
+    ghost answers = { λ _ _ _ _ _. Unit {0} };
+
     fn read(&mut self, alloc: Global, name: &str) -> Result<Vec<u8>, FileFault> {
         self.keep(name)?;
         match self.row.file_value(name) {

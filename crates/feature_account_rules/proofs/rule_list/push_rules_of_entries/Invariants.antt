@@ -1,6 +1,6 @@
 use Rattle.std.proofs.Common.{◌≡◌, ◌++◌, map, take, string_bytes}
 use Rattle.std.specs.List.{flat_map}
-use Rattle.feature_account_rules.specs.Entries.{entry_value}
+use Rattle.workspace_record.specs.Entries.{entry_value}
 use Rattle.feature_account_rules.specs.RuleList.{rules_of_entry}
 use Rattle.feature_account_rules.proofs.rule_list.push_rules_of_entries.Given as goal
 

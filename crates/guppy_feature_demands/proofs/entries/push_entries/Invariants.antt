@@ -1,5 +1,5 @@
 use Rattle.std.proofs.Common.{◌≡◌, ◌++◌, map, take, string_bytes}
-use Rattle.guppy_feature_demands.specs.Entries.{entry_value}
+use Rattle.workspace_record.specs.Entries.{entry_value}
 use Rattle.guppy_feature_demands.specs.EntryAtView.{entry_at_view}
 use Rattle.guppy_feature_demands.proofs.entries.push_entries.Given as goal
 

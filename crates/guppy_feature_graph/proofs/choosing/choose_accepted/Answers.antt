@@ -1,11 +1,10 @@
-use Rattle.std.proofs.Common.{ℕ, IsTrue, ◌≡◌, ◌∙◌, ap, length, subst, true, false}
+use Rattle.std.proofs.Common.{ℕ, IsTrue, ◌≡◌, ◌∙◌, ap, false, length, subst, true}
 use Rattle.std.proofs.lemmas.List.{length-replicate}
 use Rattle.numbered_graph.specs.ListedViews.{listed_left}
 use Rattle.numbered_graph.specs.Sets.{has}
+use Rattle.numbered_graph.proofs.ChoiceFacts.{choosing_none, choosing_more, each_asked, none_has}
 use Rattle.guppy_feature_nodes.specs.Graphs.{FeatureGraphValue}
-use Rattle.guppy_package_graph.proofs.ChoiceFacts.{none_has}
 use Rattle.guppy_feature_graph.specs.Filters.{AsksFeature}
-use Rattle.guppy_feature_graph.proofs.ChoiceFacts.{choosing_none, choosing_more, each_asked}
 use Rattle.guppy_feature_graph.proofs.choosing.choose_accepted.Goals as goal
 
 pub loop-node-init : goal.loop-node-init
@@ -25,7 +24,7 @@ loop-node-preserved g c =
     let answer = c.ask_about-answer.result in
     let asks = subst (λ (t : FeatureGraphValue). AsksFeature g.F.FnMut t c.loop-node.callback c.in-Some.node answer c.ask_about-answer.new.callback) c.graph-graph.ensures.graph c.ask_about-answer.ensures.asks in
     record {
-      choosing = choosing_more c.in-Some.node (listed_left c.loop-node.nodes) (listed_left c.next.new.self) c.loop-node.callback c.ask_about-answer.new.callback true true answer _ _ c.loop-node.kept c.loop-node.kept c.put_if.new.set c.put_if.new.set c.in-Some.ensures.steps was.choosing asks (λ h. h, λ h. h) (λ h. h, λ h. h) c.put_if.ensures.sized c.put_if.ensures.sized c.put_if.ensures.members c.put_if.ensures.members;
+      choosing = choosing_more c.in-Some.node (listed_left c.loop-node.nodes) (listed_left c.next.new.self) c.loop-node.callback c.ask_about-answer.new.callback true true answer _ _ c.loop-node.kept c.loop-node.kept c.insert_if.new.self c.insert_if.new.self c.in-Some.ensures.steps was.choosing asks (λ h. h, λ h. h) (λ h. h, λ h. h) c.insert_if.ensures.sized c.insert_if.ensures.sized c.insert_if.ensures.members c.insert_if.ensures.members;
       callable = c.ask_about-answer.ensures.callable;
     }
 

@@ -1,10 +1,10 @@
 use Rattle.std.proofs.Common.{length, true}
 use denote.Param.Always.{always_mut}
 use Rattle.numbered_graph.specs.ListedViews.{in_direction, listed_left}
+use Rattle.numbered_graph.proofs.ChoiceFacts.{IsChoosing}
 use Rattle.guppy_package_graph.specs.Directions.{direction_of}
 use Rattle.guppy_feature_graph.specs.Filters.{AsksFeature}
 use Rattle.guppy_feature_graph.specs.Sets.{listed}
-use Rattle.guppy_feature_graph.proofs.ChoiceFacts.{IsChoosing}
 use Rattle.guppy_feature_graph.proofs.choosing.choose_accepted.Given as goal
 
 abbrev pub invariant-loop-node : goal.invariant-loop-node

@@ -1,7 +1,7 @@
 use Rattle.std.proofs.Common.{◌≡◌, ◌∙◌, ◌↔◌, ◌<◌, ℕ, All, AllPairs, Contains, IsTrue, ap, false, get_or, true, ◌+◌, length, subst, sym, take, arith}
 use Rattle.std.proofs.lemmas.List.{length-replicate, take_all, take_more}
 use Rattle.numbered_graph.specs.Sets.{has}
-use Rattle.guppy_package_graph.proofs.ChoiceFacts.{none_has}
+use Rattle.numbered_graph.proofs.ChoiceFacts.{none_has}
 use Rattle.guppy_package_graph.proofs.ResolveFacts.{SameSteps-refl, SameSteps-trans}
 use Rattle.guppy_feature_graph.specs.Views.{feature_graph_of}
 use Rattle.guppy_feature_graph.proofs.TakeFacts.{all_judged, pushed_length, taken_starts, taking_more, taking_none}
@@ -37,7 +37,7 @@ loop-node-preserved g c =
     let room = was.room in
     let behind = was.behind in
     record {
-      taking = taking_more v b (take i items) (take (i + 1) items) (f.state c.loop-node.filter) (f.state c.ask_filter-accepted.new.filter) c.loop-node.included c.put_if.new.set c.loop-node.starts.items c.push_within.new.numbers.items (take_more items i 0 c.loop-node-test.true) was.taking step c.put_if.ensures.sized c.put_if.ensures.members c.push_within.ensures.items;
+      taking = taking_more v b (take i items) (take (i + 1) items) (f.state c.loop-node.filter) (f.state c.ask_filter-accepted.new.filter) c.loop-node.included c.insert_if.new.self c.loop-node.starts.items c.push_within.new.numbers.items (take_more items i 0 c.loop-node-test.true) was.taking step c.insert_if.ensures.sized c.insert_if.ensures.members c.push_within.ensures.items;
       same = SameSteps-trans was.same c.ask_filter-accepted.ensures.same;
       can = c.ask_filter-accepted.ensures.can;
       room = omega (arith, room, capacity);

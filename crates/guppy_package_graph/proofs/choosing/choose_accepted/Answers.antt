@@ -1,10 +1,10 @@
-use Rattle.std.proofs.Common.{refl, ℕ, IsTrue, ◌≡◌, ◌<◌, ◌++◌, ◌∙◌, ap, append-nil, map, sym, length, subst, true, false}
+use Rattle.std.proofs.Common.{ℕ, IsTrue, ◌≡◌, ◌∙◌, ap, false, length, subst, true}
 use Rattle.std.proofs.lemmas.List.{length-replicate}
 use Rattle.numbered_graph.specs.ListedViews.{listed_left}
 use Rattle.numbered_graph.specs.Sets.{has}
+use Rattle.numbered_graph.proofs.ChoiceFacts.{choosing_none, choosing_more, each_asked, none_has}
 use Rattle.guppy_package_table.specs.Tables.{TableValue}
 use Rattle.guppy_package_graph.specs.Filters.{AsksPackage}
-use Rattle.guppy_package_graph.proofs.ChoiceFacts.{choosing_none, choosing_more, fewer_left, next_within, none_has}
 use Rattle.guppy_package_graph.proofs.choosing.choose_accepted.Goals as goal
 
 pub loop-place-init : goal.loop-place-init
@@ -24,30 +24,11 @@ loop-place-preserved g c =
     let answer = c.ask_about-answer.result in
     let asks = subst (λ (t : TableValue). AsksPackage g.F.FnMut t c.loop-place.callback c.in-Some.place answer c.ask_about-answer.new.callback) c.graph-graph.ensures.graph c.ask_about-answer.ensures.asks in
     record {
-      choosing = choosing_more c.in-Some.place (listed_left c.loop-place.places) (listed_left c.next.new.self) c.loop-place.callback c.ask_about-answer.new.callback true true answer _ _ c.loop-place.kept c.loop-place.kept c.put_if.new.set c.put_if.new.set c.in-Some.ensures.steps was.choosing asks (λ h. h, λ h. h) (λ h. h, λ h. h) c.put_if.ensures.sized c.put_if.ensures.sized c.put_if.ensures.members c.put_if.ensures.members;
+      choosing = choosing_more c.in-Some.place (listed_left c.loop-place.places) (listed_left c.next.new.self) c.loop-place.callback c.ask_about-answer.new.callback true true answer _ _ c.loop-place.kept c.loop-place.kept c.insert_if.new.self c.insert_if.new.self c.in-Some.ensures.steps was.choosing asks (λ h. h, λ h. h) (λ h. h, λ h. h) c.insert_if.ensures.sized c.insert_if.ensures.sized c.insert_if.ensures.members c.insert_if.ensures.members;
       callable = c.ask_about-answer.ensures.callable;
     }
 
 pub returns-clause-ok : goal.returns-clause-ok
 returns-clause-ok g c =
     let was = c.loop-place.invariant.choosing in
-    let each = sym (append-nil (map (λ o. o.0) was.asked)) ∙ ap (λ xs. map (λ o. o.0) was.asked ++ xs) (sym c.in_default.ensures.steps.0) ∙ was.each in
-    (was.asked, record { each = each; chain = was.chain }, was.has_one)
-
-pub ask_about-answer-requires : goal.ask_about-answer-requires
-ask_about-answer-requires g c =
-    let was = c.loop-place.invariant.choosing in
-    let here = next_within c.in-Some.place (listed_left c.loop-place.places) (listed_left c.next.new.self) c.in-Some.ensures.steps in
-    λ k. ((refl, tt), (c.loop-place.invariant.callable, subst (λ (t : TableValue). c.in-Some.place < length t.packages) (sym c.graph-graph.ensures.graph) (here (length c.args.set.now.graph.packages) was.within)))
-
-pub put_if-requires : goal.put_if-requires
-put_if-requires g c =
-    let was = c.loop-place.invariant.choosing in
-    let here = next_within c.in-Some.place (listed_left c.loop-place.places) (listed_left c.next.new.self) c.in-Some.ensures.steps in
-    subst (λ n. c.in-Some.place < n) (sym was.one_sized) (here (length c.args.set.now.graph.packages) was.within)
-
-pub loop-place-smaller : goal.loop-place-smaller
-loop-place-smaller g c = fewer_left c.in-Some.place (listed_left c.loop-place.places) (listed_left c.next.new.self) c.in-Some.ensures.steps
-
-pub returns-clause-sized : goal.returns-clause-sized
-returns-clause-sized g c = c.loop-place.invariant.choosing.one_sized
+    (was.asked, record { each = each_asked (listed_left c.loop-place.places) c.in_default.ensures.steps.0 was; chain = was.chain }, was.has_one)

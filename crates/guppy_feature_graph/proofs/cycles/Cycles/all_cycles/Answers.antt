@@ -8,5 +8,5 @@ pub of-requires : goal.of-requires
 of-requires c =
     let g = feature_graph_of c.self.inside.graph in
     let small = λ (x : List ℕ). All (λ v. v < length g.nodes) x in
-    subst (λ (t : FeatureGraphValue). All (λ (x : Vec ℕ Global). All (λ v. v < length t.nodes) x.items) c.deref.result.now) (sym c.built.ensures)
-    (subst (All (λ (x : Vec ℕ Global). small x.items)) (sym c.deref.ensures.value) (unmapped small (λ x. x.items) c.self.inside.cycles.items c.self.invariant.within))
+    subst (λ (t : FeatureGraphValue). All (λ (x : Vec ℕ Global). All (λ v. v < length t.nodes) x.items) c.lists.result.now) (sym c.built.ensures)
+    (unmapped small (λ x. x.items) c.lists.result.now (subst (All small) (sym c.lists.ensures) c.self.invariant.within))

@@ -3,13 +3,14 @@ use Rattle.std.proofs.lemmas.List.Elements.{Contains-get_or}
 use Rattle.list_facts.proofs.Membership.{Contains-flat_map}
 use Rattle.list_facts.proofs.Quantifiers.{All-from_Contains}
 use Rattle.numbered_graph.specs.declared.direction.Direction.TheVariants.{Forward}
+use Rattle.numbered_graph.specs.CycleNumbers.{NumberedCyclesValue}
 use Rattle.numbered_graph.specs.Cycles.{AreCycles, AreInListingOrder}
 use Rattle.numbered_graph.specs.Graphs.{GraphValue}
 use Rattle.numbered_graph.specs.Listings.{IsListing}
 use Rattle.numbered_graph.specs.Sets.{has}
 use Rattle.guppy_package_table.specs.Tables.{TableValue, firm_flags, numbered_links}
-use Rattle.guppy_package_graph.specs.CycleValues.{AreNumbers}
 use Rattle.guppy_package_graph.specs.Queries.{places_of}
+use Rattle.guppy_package_graph.specs.CycleValues.{AreNumbered}
 use Rattle.guppy_package_graph.proofs.package_graph.PackageGraph.cycles.Goals as goal
 
 pub listed_cycles-requires : goal.listed_cycles-requires
@@ -28,9 +29,10 @@ invariant_of-result c =
     let graph : c.graph.result.now ≡ places_of g = c.graph.ensures ∙ ap places_of c.table-table.ensures in
     let listing : c.listing.result.now ≡ g.listing = c.listing.ensures.value ∙ ap (λ (t : TableValue). t.listing) c.table-table.ensures in
     let small : (v : ℕ) → Contains (flat_map (λ x. x) lists) v → v < length g.packages = subst (λ (x : GraphValue). (v : ℕ) → Contains (flat_map (λ x. x) lists) v → v < x.nodes) graph c.in_ok-components.ensures.within in
-    record {
+    let numbered : AreNumbered g (record { nodes = c.package_count.result; cycles = lists }) = record {
       cyclic = subst (λ (x : GraphValue). AreCycles Forward x.links lists) graph c.in_ok-components.ensures.cycles;
       listed = subst (λ xs. AreInListingOrder xs lists) listing c.in_ok-components.ensures.listed;
       within = λ k e lt. All-from_Contains (λ v. v < length g.packages) (get_or lists k e) (λ v inside. small v (Contains-flat_map (λ x. x) lists (get_or lists k e) v (Contains-get_or lists k e lt) inside));
-      numbered = subst (λ n. AreNumbers n lists 0 c.in_ok-numbers.numbers.items) c.package_count.ensures.count (subst (λ (xs : List (Vec ℕ Global)). AreNumbers c.package_count.result (map (λ x. x.items) xs) 0 c.in_ok-numbers.numbers.items) c.deref.ensures.value c.in_ok-numbers.ensures);
-    }
+      counted = c.package_count.ensures.count;
+    } in
+    subst (λ (v : NumberedCyclesValue). AreNumbered g v) (sym c.in_ok-cycles.ensures) numbered

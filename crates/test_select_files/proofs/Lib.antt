@@ -1,0 +1,4 @@
+pub mod AppFacts
+pub mod ReadingFacts
+pub mod VerdictFacts
+pub mod WordFacts

@@ -1,0 +1,34 @@
+-- What a check prints, where the output is known.
+use Rattle.std.proofs.Common.{◌≡◌, ℕ, List, [], refl, ap, sym, subst, append-nil, Result, Ok, Err}
+use Rattle.std.specs.Prelude.{Option, IsErrAnd}
+use Rattle.std.specs.Io.KnownBytes.{Appends, Keeps}
+use Rattle.std.proofs.KnownBytes.{Appends-kept}
+use Rattle.workspace_record.specs.Records.{Text}
+use Rattle.clap.specs.Words.{Row}
+use Rattle.record_files.specs.Accounts.{AccountValue}
+use Rattle.test_select_files.specs.Files.{Answer}
+use Rattle.test_select_files.specs.Reading.{Asks, EndsAfter, ReadsCheck}
+use Rattle.test_select_files.specs.Verdicts.{EndsCheck, PrintsVerdict, WritesLine}
+use Rattle.test_select_files.specs.declared.inputs.FeatureQuestion.{FeatureQuestion}
+use Rattle.test_select_files.proofs.ReadingFacts.{ends_by, ends_on}
+use Rattle.test_select_files.specs.declared.run_failure.RunFailure.{RunFailure}
+use Rattle.test_select_files.specs.declared.run_failure.RunFailure.TheVariants.{CannotWrite}
+
+-- a line that was written and not flushed
+pub flush_fails : (line text : Text) (old mid new : Option Text) (result : Result (Unit {0}) RunFailure) → IsErrAnd result (λ y. y ≡ CannotWrite) → Appends old mid text → text ≡ line → Keeps mid new → WritesLine line result old new
+flush_fails line text old mid new (Ok x) is written same kept = absurd is
+flush_fails line text old mid new (Err y) is written same kept =
+    subst (λ (f : RunFailure). WritesLine line (Err f) old new) (sym is)
+    ([], record { front = line; whole = sym (append-nil line); added = subst (λ (l : Text). Appends old new l) same (Appends-kept old mid new text written kept) })
+
+module _ {R : List ℕ → Text → Answer → List ℕ → Type 0} {s t : List ℕ} (words : List Row) where
+  -- a check of files that were read
+  pub check_ends : (q : FeatureQuestion) (account : AccountValue) (result : Result (Unit {0}) RunFailure) (old new : Option Text) → Asks R s t (ReadsCheck words (Ok (q, account))) → PrintsVerdict q account result old new → Asks R s t (EndsCheck words result old new)
+  check_ends q account result old new asks ends =
+      ends_on (ReadsCheck words) (λ files. PrintsVerdict files.0 files.1 result old new) (λ failure. (result ≡ Err failure) × (new ≡ old)) (q, account) asks ends
+
+  -- a check of files of which one fails
+  pub check_stops : (f : RunFailure) (result : Result (Unit {0}) RunFailure) (old : Option Text) → IsErrAnd result (λ y. y ≡ f) → Asks R s t (ReadsCheck words (Err f)) → Asks R s t (EndsCheck words result old old)
+  check_stops f (Ok x) old is asks = absurd is
+  check_stops f (Err y) old is asks =
+      ends_by (ReadsCheck words) (λ files. PrintsVerdict files.0 files.1 (Err y) old old) (λ failure. (Err y ≡ Err failure) × (old ≡ old)) f asks (ap (λ (x : RunFailure). Err x) is, refl)
