@@ -2,7 +2,7 @@
 
 use crate::json::Json;
 use crate::Fault;
-use std::collections::BTreeMap;
+use std::collections::{BTreeMap, BTreeSet};
 use std::path::{Path, PathBuf};
 use std::process::{Command, Stdio};
 use std::{env, fs};
@@ -51,9 +51,8 @@ impl Workspace {
     pub fn build(&self, asked: &[BinaryId]) -> Result<Programs, Fault> {
         let mut cargo = Command::new("cargo");
         cargo.args(["test", "--no-run", "--message-format", "json"]).args(&self.manifest);
-        for id in asked {
-            cargo.args(target_flags(id));
-        }
+        let targets: BTreeSet<Vec<String>> = asked.iter().map(target_flags).collect();
+        cargo.args(targets.into_iter().flatten());
         let printed = output(cargo.stderr(Stdio::inherit()))?;
         let messages = std::str::from_utf8(&printed)?.lines().filter_map(Json::read);
         let built = messages.filter_map(|message| self.program(&message));
@@ -132,7 +131,8 @@ fn convert() -> Result<Command, Fault> {
 
 /// What a command prints; it has to succeed.
 fn output(command: &mut Command) -> Result<Vec<u8>, Fault> {
-    let ended = command.stdin(Stdio::null()).stderr(Stdio::inherit()).output()?;
+    let ended = command.stdin(Stdio::null()).stderr(Stdio::inherit()).output();
+    let ended = ended.map_err(|fault| format!("{:?}: {fault}", command.get_program()))?;
     if !ended.status.success() {
         return Err(format!("{:?}: {}", command.get_program(), ended.status).into());
     }
