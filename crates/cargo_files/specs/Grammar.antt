@@ -15,7 +15,7 @@ next_by text i None None = None
 unfoldable pub next_place : List ℕ → ℕ → Option ℕ
 next_place text i = next_by text i (after text i 44) (after text i 41)
 
--- expressions, and those of a group up to its parenthesis; as many may stand inside each other as there is room for
+-- expressions, and those of a group up to its parenthesis; they nest as deep as there is room for
 mutual
   pub data Reads (text : List ℕ) : ℕ → ℕ → Cfg → ℕ → Type 0 where
     constant : {room i j : ℕ} {b : Bool} → head_at text i ≡ Constant b j → Reads text room i (constant_of b) j

@@ -92,7 +92,7 @@ RefusesChoice file asked (Choice fault) = (w : Workspace) × Reads record_file f
 RefusesChoice file asked Memory = Unit {0}
 RefusesChoice file asked _ = ⊥
 
--- what the program of a binary printed is no text, or has a line that is no test's; either names the binary
+-- what the program of a binary printed is not text, or has a line that is not a test's; either names the binary
 abbrev pub RefusesPrinted : Text → List ℕ → Refusal → Type 0
 RefusesPrinted id printed (UnreadList named) = (string_bytes named ≡ id) × (IsUtf8 printed → ⊥)
 RefusesPrinted id printed (StrayLine named place) = (string_bytes named ≡ id) × IsUtf8 printed × IsStray (get_or (lines printed) place [])

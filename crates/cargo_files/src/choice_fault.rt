@@ -20,7 +20,7 @@ impl fmt::Display for ChoiceFault {
                 f.write_str(remedy(near.as_str()))
             }
             ChoiceFault::NoMember(word, near) => {
-                write!(f, "no member is named as in `{word}`")?;
+                write!(f, "no workspace member matches `{word}`")?;
                 f.write_str(remedy(near.as_str()))
             }
             ChoiceFault::Memory => f.write_str("out of memory"),
@@ -31,7 +31,7 @@ impl fmt::Display for ChoiceFault {
 /// The near names, or else what can be named.
 fn remedy(near: &str) -> &str {
     if near.is_empty() {
-        ": name a feature of a member, as NAME or PACKAGE/NAME"
+        ": expected a feature of a member, as NAME or PACKAGE/NAME"
     } else {
         near
     }

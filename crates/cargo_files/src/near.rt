@@ -31,7 +31,7 @@ impl<'a> NearNames<'a> {
 
 fn push_name(text: &mut String, known: &str) -> Result<(), AllocError> {
     text.push_str(if text.is_empty() {
-        ": is it `"
+        ": did you mean `"
     } else {
         ", or `"
     })?;

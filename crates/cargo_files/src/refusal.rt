@@ -20,15 +20,15 @@ pub enum Refusal {
     Choice(ChoiceFault),
     /// The file of a record cannot be read.
     File(ReadError),
-    /// The list of nextest is no JSON.
+    /// The list of nextest is not JSON.
     NoJson,
     /// The list of nextest has no suites.
     NoSuites,
     /// There is no list of the tests of a binary.
     NoList(String),
-    /// The file of a binary's list cannot be read, or is no text.
+    /// The file of a binary's list cannot be read, or is not UTF-8.
     UnreadList(String),
-    /// A line of a binary's list, by its place, is no test's.
+    /// A line of a binary's list, by its place, is not a test.
     StrayLine(String, usize),
     /// A binary's list has two tests of one name.
     Repeated(String, String),
@@ -63,7 +63,7 @@ fn write_metadata_fault<W: fmt::Write>(
     match error {
         MetadataError::UnknownKind(..) => write!(
             f,
-            "package {error}: give it a kind that this program knows (docs/FROM_CARGO.md)",
+            "package {error}: use a kind that docs/FROM_CARGO.md lists",
         ),
         _ => write!(
             f,
@@ -76,19 +76,20 @@ fn write_list_fault<W: fmt::Write>(f: &mut fmt::Formatter<W>, refusal: &Refusal)
     match refusal {
         Refusal::NoList(id) => write!(
             f,
-            "binary {id} has no list: run it with `--list --format terse`, or give --built",
+            "binary {id} has no list: run it with `--list --format terse`, or pass --built",
         ),
         Refusal::UnreadList(id) => write!(
             f,
-            "binary {id}: its list cannot be read: run it with `--list --format terse`",
+            "binary {id}: cannot read its list: run it with `--list --format terse`",
         ),
         Refusal::StrayLine(id, place) => write!(
             f,
-            "binary {id}: its list has a line that is no test, behind {place} others: run it with `--list --format terse`",
+            "binary {id}: line {} of its list is not a test: run it with `--list --format terse`",
+            place.saturating_add(1),
         ),
         Refusal::Repeated(id, name) => write!(
             f,
-            "binary {id}: its list has the test `{name}` twice: give one of the two another name",
+            "binary {id}: test `{name}` is listed twice: rename one of the two",
         ),
         _ => Ok(()),
     }
@@ -110,11 +111,7 @@ impl fmt::Display for SpecPlace {
             f,
             "package {owner}: dependency {dependency}: spec `{spec}`: "
         )?;
-        write!(
-            f,
-            "{}: write it in the manifest as Cargo's manual says",
-            self.fault
-        )
+        write!(f, "{}: correct the spec in the manifest", self.fault)
     }
 }
 

@@ -11,9 +11,9 @@ use std::{fmt, str};
 /// Why settings are not read.
 #[derive(Debug, Drop, PartialEq, Eq)]
 pub enum SettingsError {
-    /// The line that begins at this byte is no `NAME` and no `NAME="VALUE"`.
+    /// The line that begins at this byte is neither `NAME` nor `NAME="VALUE"`.
     Line(usize),
-    /// A name or a value is no UTF-8.
+    /// A name or a value is not UTF-8.
     NotText,
     /// There was no memory for the settings.
     Memory,
@@ -22,10 +22,8 @@ pub enum SettingsError {
 impl fmt::Display for SettingsError {
     fn fmt<W: fmt::Write>(&self, f: &mut fmt::Formatter<W>) -> fmt::Result {
         match self {
-            SettingsError::Line(at) => {
-                write!(f, "the line at byte {at} is no NAME and no NAME=\"VALUE\"")
-            }
-            SettingsError::NotText => f.write_str("a value is no UTF-8"),
+            SettingsError::Line(at) => write!(f, "byte {at}: expected NAME or NAME=\"VALUE\""),
+            SettingsError::NotText => f.write_str("a name or a value is not UTF-8"),
             SettingsError::Memory => f.write_str("out of memory"),
         }
     }

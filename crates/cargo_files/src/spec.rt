@@ -9,7 +9,7 @@ use crate::reading::{closed, expression};
 use crate::setting::CfgSetting;
 use crate::spec_fault::{Expected, SpecFault};
 
-/// How many expressions may stand inside each other.
+/// How deep expressions may be nested.
 const ROOM: usize = 128;
 
 /// Whether the platform with this triple and these settings is one that the spec names.

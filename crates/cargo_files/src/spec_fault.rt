@@ -1,6 +1,6 @@
 use std::fmt;
 
-/// What was wanted where reading stopped.
+/// What was expected where reading stopped.
 #[derive(Clone, Copy, Debug, Drop, PartialEq, Eq)]
 pub enum Expected {
     /// A name, `all(`, `any(`, `not(`, `true` or `false`.
@@ -26,20 +26,20 @@ pub enum Expected {
 impl fmt::Display for Expected {
     fn fmt<W: fmt::Write>(&self, f: &mut fmt::Formatter<W>) -> fmt::Result {
         f.write_str(match self {
-            Expected::Name => "a name, `all(`, `any(` or `not(` is wanted",
-            Expected::Opening => "`(` is wanted",
-            Expected::Text => "a text in double quotes is wanted",
-            Expected::Quote => "the text has no closing double quote",
-            Expected::Separator => "`,` or `)` is wanted",
-            Expected::Closing => "`)` is wanted",
-            Expected::End => "nothing more is wanted",
-            Expected::LessDeep => "more than 128 expressions stand inside each other",
-            Expected::Triple => "`cfg(` or the name of a target is wanted",
+            Expected::Name => "expected a name, `all(`, `any(` or `not(`",
+            Expected::Opening => "expected `(`",
+            Expected::Text => "expected a text in double quotes",
+            Expected::Quote => "expected a closing double quote",
+            Expected::Separator => "expected `,` or `)`",
+            Expected::Closing => "expected `)`",
+            Expected::End => "expected the end",
+            Expected::LessDeep => "nested more than 128 deep",
+            Expected::Triple => "expected `cfg(` or the name of a target",
         })
     }
 }
 
-/// Why a text is not read: what was wanted, and the byte at which it is missing.
+/// Why a text is not read: what was expected, and the byte at which it is missing.
 #[derive(Clone, Copy, Debug, Drop, PartialEq, Eq)]
 pub struct SpecFault {
     pub at: usize,

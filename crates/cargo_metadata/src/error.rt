@@ -17,7 +17,7 @@ pub enum MetadataError {
     #[error("package {0}: `{1}` is missing or of the wrong kind")]
     BadPackage(String, Key),
     /// A package's target, by its name, has a kind that is not known.
-    #[error("{0}: target {1}: the kind `{2}` is not known")]
+    #[error("{0}: target {1}: unknown kind `{2}`")]
     UnknownKind(String, String, String),
     /// There was no memory for what the file holds.
     #[error("out of memory")]

@@ -10,7 +10,7 @@ pub enum RecordFault {
     NoResolve,
     /// The package was not resolved, or not in the order of the packages.
     NoNode(String),
-    /// A member is no package.
+    /// A member is not among the packages.
     NoPackage(String),
     /// No member has the name that is asked for.
     NoMember(String),
@@ -18,9 +18,9 @@ pub enum RecordFault {
     NoDependency(String, String),
     /// A member's optional dependency was resolved to nothing.
     NoOptional(String, String),
-    /// A package's dependency may be one of several packages.
+    /// A package's dependency matches several packages.
     Ambiguous(String, String),
-    /// A member's target requires a feature that is none of its package.
+    /// A member's target requires a feature that its package does not have.
     ForeignFeature(String, String, String),
     /// There was no memory for the record.
     Memory,
@@ -30,27 +30,27 @@ impl fmt::Display for RecordFault {
     fn fmt<W: fmt::Write>(&self, f: &mut fmt::Formatter<W>) -> fmt::Result {
         match self {
             RecordFault::Format => f.write_str(
-                "the format is not version 1: run `cargo metadata --format-version 1 --all-features`",
+                "expected format version 1: run `cargo metadata --format-version 1 --all-features`",
             ),
             RecordFault::NoResolve => f.write_str(
-                "nothing is resolved: run `cargo metadata` without --no-deps",
+                "no dependency is resolved: run `cargo metadata` without --no-deps",
             ),
             RecordFault::NoNode(id) => {
                 write!(
                     f,
-                    "package {id} is not resolved in its place: take the file as Cargo prints it"
+                    "package {id}: `resolve.nodes` is not in package order; pass Cargo's output unchanged"
                 )
             }
             RecordFault::NoPackage(id) => {
                 write!(
                     f,
-                    "member {id} is no package: take the file as Cargo prints it"
+                    "member {id} is not among the packages; pass Cargo's output unchanged"
                 )
             }
             RecordFault::NoMember(name) => {
                 write!(
                     f,
-                    "no member is named {name}: -p takes the name of a workspace member"
+                    "no workspace member matches {name}: -p takes the name of a member"
                 )
             }
             _ => write_dependency(f, self),
@@ -70,11 +70,11 @@ fn write_dependency<W: fmt::Write>(f: &mut fmt::Formatter<W>, fault: &RecordFaul
         ),
         RecordFault::Ambiguous(id, name) => write!(
             f,
-            "package {id}: dependency {name} may be one of several packages: give it a name of its own",
+            "package {id}: dependency {name} matches several packages; rename the dependency",
         ),
         RecordFault::ForeignFeature(id, target, feature) => write!(
             f,
-            "package {id}: target {target} requires {feature}, which is no feature of the package: add one that enables it",
+            "package {id}: target {target} requires {feature}, which is not a feature of the package: add a feature that enables it",
         ),
         _ => f.write_str("out of memory"),
     }

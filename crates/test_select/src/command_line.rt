@@ -28,7 +28,7 @@ fn program<'a>(alloc: Global) -> Result<Command<'a>, AllocError> {
     Ok(
         named
             .version("0.1.0")
-            .about("Says which Rust tests run under chosen features and filter texts")
+            .about("Select the Rust tests that run with given features and filters")
             .after_help(STATUSES)
             .subcommand_required(true)
             .arg_required_else_help(true),
@@ -66,7 +66,7 @@ impl Subcommand {
 const SUBCOMMANDS: [Subcommand; 10] = [
     Subcommand {
         name: "tests",
-        about: "Prints the tests that run",
+        about: "Print the tests that run",
         help: TESTS_HELP,
         words: &[
             Taken::Record,
@@ -82,7 +82,7 @@ const SUBCOMMANDS: [Subcommand; 10] = [
     },
     Subcommand {
         name: "binaries",
-        about: "Prints the test binaries that are to be built and asked for their tests",
+        about: "Print the test binaries to build and list",
         help: BINARIES_HELP,
         words: &[
             Taken::Record,
@@ -95,13 +95,13 @@ const SUBCOMMANDS: [Subcommand; 10] = [
     },
     Subcommand {
         name: "changed",
-        about: "Prints a filter for the tests that changed files may turn out otherwise",
+        about: "Print a filter for the tests that changed files can affect",
         help: CHANGED_HELP,
         words: &[Taken::Record, Taken::Ignore, Taken::Paths, Taken::Path],
     },
     Subcommand {
         name: "why",
-        about: "Prints whether and why a test is chosen, or a binary asked",
+        about: "Explain why a test is chosen, or a binary asked for its tests",
         help: WHY_HELP,
         words: &[
             Taken::Record,
@@ -116,19 +116,19 @@ const SUBCOMMANDS: [Subcommand; 10] = [
     },
     Subcommand {
         name: "account",
-        about: "Prints an account of the features that are on",
+        about: "Print an account: a certificate of the features that are on",
         help: ACCOUNT_HELP,
         words: &[Taken::Record, Taken::Choice, Taken::Table, Taken::Readable],
     },
     Subcommand {
         name: "check",
-        about: "Checks an account of the features that are on, or an explanation of one",
+        about: "Check an account of the features that are on, or the explanation of one feature",
         help: CHECK_HELP,
         words: &[Taken::Record, Taken::Choice, Taken::Table, Taken::Account],
     },
     Subcommand {
         name: "explain",
-        about: "Prints why a feature is on",
+        about: "Explain why a feature is on",
         help: EXPLAIN_HELP,
         words: &[
             Taken::Record,
@@ -141,19 +141,19 @@ const SUBCOMMANDS: [Subcommand; 10] = [
     },
     Subcommand {
         name: "order",
-        about: "Prints the packages that are on, dependencies first",
+        about: "Print the packages that are on, dependencies first",
         help: ORDER_HELP,
         words: &[Taken::Record, Taken::Choice, Taken::Table],
     },
     Subcommand {
         name: "features",
-        about: "Prints the features that are on",
+        about: "Print the features that are on",
         help: FEATURES_HELP,
         words: &[Taken::Record, Taken::Choice, Taken::Table],
     },
     Subcommand {
         name: "rules",
-        about: "Prints the rules by which features are on",
+        about: "Print the rules that switch features on",
         help: RULES_HELP,
         words: &[Taken::Record, Taken::Choice, Taken::Table],
     },
@@ -212,13 +212,13 @@ impl Taken {
 const LISTINGS: Word = Word {
     name: "listings",
     shape: Shape::Option("FILE"),
-    help: "The names of the tests in each test binary, under the binary's id, as JSON",
+    help: "The names of each test binary's tests, under the binary's id, as JSON",
 };
 
 const READABLE: Word = Word {
     name: "readable",
     shape: Shape::Flag,
-    help: "Prints a line for people in place of each number",
+    help: "Print each rule as a readable line",
 };
 
 const PACKAGE: Word = Word {
@@ -230,61 +230,61 @@ const PACKAGE: Word = Word {
 const FEATURE: Word = Word {
     name: "feature",
     shape: Shape::MaybePlace("FEATURE"),
-    help: "The feature, by name, or an optional dependency, as `dep:NAME` [default: the package]",
+    help: "The feature's name, or `dep:NAME` for an optional dependency [default: the package]",
 };
 
 const DECLARED: Word = Word {
     name: "declared",
     shape: Shape::Flag,
-    help: "Follows all links in deps(..) and rdeps(..), also those that are off",
+    help: "Let deps and rdeps follow every declared dependency",
 };
 
 const PLAIN: Word = Word {
     name: "plain",
     shape: Shape::Flag,
-    help: "Asks each available binary for its tests, also where no filter can hold",
+    help: "List every available binary, even if no filter can match it",
 };
 
 const IGNORE: Word = Word {
     name: "ignore",
     shape: Shape::Options("GLOB"),
-    help: "A glob, as in filters; paths that it takes are passed over. The option may stand several times",
+    help: "Ignore paths that match this glob, written as in filters; may be given several times",
 };
 
 const PATHS: Word = Word {
     name: "paths",
     shape: Shape::MaybeOption("FILE"),
-    help: "A file with a path on each line, as `git diff --name-only` prints them",
+    help: "A file with one path per line, as `git diff --name-only` prints them",
 };
 
 const PATH: Word = Word {
     name: "path",
     shape: Shape::Rest("PATH"),
-    help: "A changed file, by its path from the workspace's root",
+    help: "A changed file, by its path from the workspace root",
 };
 
 const PARTITION: Word = Word {
     name: "partition",
     shape: Shape::MaybeOption("count:M/N"),
-    help: "Prints part M of N parts of equal size, from 1 to N [default: all tests]",
+    help: "Print only part M of N equal parts, counted from 1 [default: all tests]",
 };
 
 const FORMAT: Word = Word {
     name: "format",
     shape: Shape::Choice("FORMAT", &["lines", "json"]),
-    help: "Prints a line for each test, or one object as JSON [default: lines]",
+    help: "Print one line per test, or one JSON object [default: lines]",
 };
 
 const FILTERS: Word = Word {
     name: "filter",
     shape: Shape::Rest("FILTER"),
-    help: "Which tests are wanted: those of which one filter holds [default: all]",
+    help: "Tests matched by any of these filters [default: all]",
 };
 
 const FILTER_OPTIONS: Word = Word {
     name: "filter",
     shape: Shape::Letters('E', "FILTER"),
-    help: "A filter, as for `tests`; the option may stand several times [default: all tests]",
+    help: "A filter, as for `tests`; may be given several times [default: all tests]",
 };
 
 const BINARY: Word = Word {
@@ -296,7 +296,7 @@ const BINARY: Word = Word {
 const TEST: Word = Word {
     name: "test",
     shape: Shape::MaybePlace("TEST"),
-    help: "The name of a test of the binary [default: the binary itself]",
+    help: "The name of a test in the binary [default: the binary itself]",
 };
 
 /// The file that the command line names for the listings.
@@ -428,130 +428,130 @@ pub(crate) fn filters_in<'m, 'a: 'm>(asked: &'m ArgMatches<'a>) -> &'m [&'a str]
 }
 
 const TESTS_HELP: &str = "Filters:
-  all(), none()    every test, and none
-  package(NAME)    the tests of packages with such a name
-  deps(NAME)       those of such packages, and of all that they depend on by links that are on,
-                   with --declared by all links
-  rdeps(NAME)      those of such packages, and of all that depend on them
-  binary_id(NAME)  the tests of binaries with such an id
-  binary(NAME)     the tests of binaries whose target has such a name
-  kind(NAME)       the tests of lib, proc-macro, test, bench, bin or example targets
-  platform(WORD)   the tests of binaries for the host, or for the target
-  test(NAME)       the tests with such a name
-  feature(NAME)    the tests of packages of which such a feature is on
-  group(NAME)      the tests of such groups of the record
-  default()        the tests of the record's default filter
+  all(), none()    every test; no test
+  package(NAME)    tests of packages whose name matches
+  deps(NAME)       tests of these packages and of everything they depend on, through dependencies
+                   that are on, or through all declared ones with --declared
+  rdeps(NAME)      tests of these packages and of everything that depends on them
+  binary_id(NAME)  tests of binaries whose id matches
+  binary(NAME)     tests of binaries whose target's name matches
+  kind(NAME)       tests of lib, proc-macro, test, bench, bin or example targets
+  platform(WORD)   tests of binaries built for the `host` or for the `target`
+  test(NAME)       tests whose name matches
+  feature(NAME)    tests of packages with a matching feature that is on
+  group(NAME)      tests of the record's groups whose name matches
+  default()        tests that the record's default filter matches
 
-NAME is =TEXT for the whole name, ~TEXT for a part of it, #TEXT for a glob, /TEXT/ for a pattern,
-or TEXT: a part of a test's name, a whole kind, and a glob for others. Filters are joined by `and`,
-`or`, `not` and `-` (not by `&&` or `||`), and parentheses group them. Names of packages, binaries
-and groups have to match some; a kind that no target has, as kind(foo), chooses no test. Tests run
-only in binaries whose required features are on, and where the default filter holds.
+NAME is =TEXT for an exact match, ~TEXT for a substring, #TEXT for a glob, or /TEXT/ for a regex.
+A plain TEXT is a substring for test, an exact match for kind, and a glob for the others. Join filters
+with `and`, `or`, `not` and `-` (not with `&&` or `||`), and group them with parentheses. The name of
+a package, binary, feature or group must match something; a kind that no target has, as in kind(foo),
+matches no test. Tests run only in binaries whose required features are on, and only if the default
+filter matches them.
 
-Output: a line for each test, with the id of its binary, a space and its name. The lines ascend by
-binary and then name, and none stands there twice. Where no test runs there is no line. With
---partition count:M/N there are just the lines whose place, from 0, is M - 1 modulo N, so that N
-machines run each test once. With --format json there is one object: under each id, ascending, the
-names of its tests, ascending.
+Output: one line per test: the id of its binary, a space and its name, sorted by binary and then by
+name, without duplicates. If no test runs, nothing is printed. --partition count:M/N prints only the
+lines whose place, counted from 0, is M - 1 modulo N, so that N machines run each test once. --format
+json prints one object: under each binary's id, in ascending order, the names of its tests, in
+ascending order.
 
-Exit status: 0 if the tests are printed, also if there are none; 1 if a file, the record, the
-choice, a filter or a listing is refused, or the output cannot be written, with the reasons on
-standard error, where `lister: ID` says that the listings have no binary ID; 2 for a bad command
-line.";
+Exit status: 0 if the tests are printed, even if there are none; 1 if a file, the record, the choice,
+a filter or a listing is refused, or the output cannot be written, with the reasons on standard error,
+where `lister: ID` means that the listings have no binary ID; 2 for a bad command line.";
 
 const BINARIES_HELP: &str =
-    "Output: a line for the id of each test binary that `tests` asks for its tests, with the same files,
-options and filters, ascending, and none stands there twice. No listings are needed, so nothing has to
-be built before. Listings of these binaries are all that `tests` needs, and of any other binary no test
-is chosen. With --plain there is a line for each binary whose required features are on. Filters are
-those of `tests`, whose help lists them.
+    "Output: one line with the id of each test binary that `tests` would ask for its tests, given the
+same files, options and filters, in ascending order and without duplicates. No listings are needed,
+so nothing has to be built first. `tests` needs listings of these binaries only, and chooses no test
+of any other. --plain prints every binary whose required features are on. The help of `tests` lists
+the filters.
 
-Exit status: 0 if the binaries are printed, also if there are none; 1 if a file, the record, the
+Exit status: 0 if the binaries are printed, even if there are none; 1 if a file, the record, the
 choice or a filter is refused, or the output cannot be written, with the reasons on standard error;
 2 for a bad command line.";
 
 const CHANGED_HELP: &str =
-    "Output: one line, a filter as `tests` takes it. A path belongs to the packages with the longest folder
-in which it lies: members, by their paths in the workspace, and packages of no registry whose folder is
-below the workspace's root, if members reach them by declared links. The filter is
-  rdeps(=NAME) | ..   for each name of such a package, ascending
-  all()               where a path lies in no such folder, as Cargo.lock, or its package has no name
-  none()              where there is no path, or each is passed over
-Packages of one name are both meant. Parts of a path that are empty or `.` count for nothing. A test that
-the filter does not take stands in a package that does not depend on a changed one.
+    "Output: one line, a filter for `tests`. A path belongs to the packages with the longest folder that
+contains it: members, by their paths in the workspace, and path dependencies below the workspace root
+that members reach through declared dependencies. The filter is
+  rdeps(=NAME) | ..   for the name of each such package, in ascending order
+  all()               if a path lies in no such folder, as Cargo.lock, or its package has no name
+  none()              if there is no path, or every path is ignored
+Packages with the same name all count. Empty parts of a path, and parts `.`, do not count. A test that
+the filter does not match is in a package that does not depend on a changed one.
 
-Exit status: 0 if the filter is printed; 1 if a file, the record, a glob or a path is refused, or the
-output cannot be written, with the reasons on standard error: a path may not begin with `/` nor have a
-part `..`; 2 for a bad command line.";
+Exit status: 0 if the filter is printed; 1 if a file, the record, a glob or a path is refused (a path
+may not begin with `/` or have a part `..`), or the output cannot be written, with the reasons on
+standard error; 2 for a bad command line.";
 
 const WHY_HELP: &str =
-    "Output: one line. With TEST it says whether and why that test of the binary is chosen:
-  chosen by filter N           the first filter that holds, by its place on the command line, from 0
-  chosen                       where no filter is given
+    "Output: one line. With TEST it says whether that test of the binary is chosen, and why:
+  chosen by filter N           N is the first filter that matches, counted from 0
+  chosen                       no filter is given
   no binary ID                 no test binary has this id
   off: needs PACKAGE/FEATURE   the first feature that the binary requires and that is off
-  not listed                   the listing of the binary has no such test
+  not listed                   the binary's listing has no such test
   default filter does not hold
   no filter holds
-Without TEST it says whether the binary is asked for its tests: `asked`, or `no binary` or `off` as
-above, or `default filter cannot hold` or `no filter can hold`, where that is so of every test that
-the binary may have. What comes first in this order is told: no binary, off, not listed, the default
-filter, the filters. Filters are those of `tests`, whose help lists them. Listings are looked at only
-for a test of a binary that is not off, and then for that binary alone.
+Without TEST it says whether the binary is asked for its tests: `asked`; or `no binary` or `off`, as
+above; or `default filter cannot hold` or `no filter can hold`, if that is so for every test that the
+binary may have. The first of these that applies is printed: no binary, off, not listed, the default
+filter, the filters. The help of `tests` lists the filters. Listings are used only for a test of a
+binary that is not off, and then only those of this binary.
 
-Exit status: 0 if the test is chosen, or the binary asked; 1 if it is not, or a file, the record, the
-choice, a filter or the listing is refused, or the output cannot be written, with the reasons for the
-latter on standard error; 2 for a bad command line.";
+Exit status: 0 if the test is chosen, or the binary asked; 1 if it is not, or if a file, the record,
+the choice, a filter or the listing is refused, or the output cannot be written, with the reasons for
+these on standard error; 2 for a bad command line.";
 
 const ACCOUNT_HELP: &str =
-    "Output: a line of JSON with the numbers of rules, one for each feature that is on, in an order
-in which each rule has its premises from earlier ones. Each is the lowest rule that may stand there.
-A rule says that a feature is on, or that it is on where one or two others are. Rules are numbered
-from 0: those of the choice, then those by which a feature needs its package, then those of the
-features' entries, then those of the links. `check` reads such a line, and says if it is valid.
-With --readable there is a line for each entry: its rule, as `rules` prints it, and in brackets what
-the rule comes from: the choice, that a feature needs its package, an entry of a feature, or the line
-of a dependency.
+    "Output: one line of JSON with the numbers of rules, one for each feature that is on. The premises of
+each rule come from earlier rules, and each rule is the lowest that can be in its place. A rule says
+that a feature is on, or that it is on if one or two others are. Rules are numbered from 0: first
+those of the choice, then those by which a feature needs its package, then those of the features'
+entries, then those of the dependencies. `check` checks such a line. --readable prints one line per
+rule: the rule as `rules` prints it, and in parentheses where it comes from: the choice, a feature's
+package, an entry of a feature, or a dependency.
 
 Exit status: 0 if the account is printed; 1 if a file, the record or the choice is refused, or the
 output cannot be written, with the reasons on standard error; 2 for a bad command line.";
 
 const EXPLAIN_HELP: &str =
-    "Output: a line of JSON with the feature as goal, and the numbers of the rules that switch it
-on: the last one concludes it, and each other one concludes what a later one needs. They stand in
-the order of the account, and are numbered as for `account`. With --readable there is a line for
-each, as `account --readable` prints them. Or else `not on`, also where there is no such package or
-feature.
+    "Output: one line of JSON with the feature as goal and the numbers of the rules that switch it on. The
+last rule concludes the feature; every other rule concludes something that a later one needs. They are
+in the order of the account, and numbered as for `account`. --readable prints one line per rule, as
+`account --readable` does. If the feature is off, or there is no such package or feature, the output is
+`not on`.
 
-Exit status: 0 if the explanation is printed; 1 if the feature is not on, or a file, the record or
-the choice is refused, or the output cannot be written, with the reasons for the latter on standard
-error; 2 for a bad command line.";
+Exit status: 0 if the explanation is printed; 1 if the feature is not on, or if a file, the record or
+the choice is refused, or the output cannot be written, with the reasons for these on standard error;
+2 for a bad command line.";
 
 const ORDER_HELP: &str =
-    "Output: a line for each package that is on, with its id, and none stands there twice. A package
-comes after all that it depends on by lines that are on, but for packages that depend on it in turn.
+    "Output: one line with the id of each package that is on, without duplicates. A package comes after
+everything that it depends on through dependencies that are on, except for packages that depend on it
+in turn.
 
 Exit status: 0 if the order is printed; 1 if a file, the record or the choice is refused, or the
 output cannot be written, with the reasons on standard error; 2 for a bad command line.";
 
 const FEATURES_HELP: &str =
-    "Output: a line PACKAGE/FEATURE for each feature that is on, with the package's id. A feature is
-printed by its name, an optional dependency as `dep:NAME`, and the package itself as `[base]`. The
-lines ascend by package; of one package `[base]` comes first, then its features by name, and then its
-optional dependencies.
+    "Output: one line PACKAGE/FEATURE for each feature that is on, with the package's id. FEATURE is the
+feature's name, `dep:NAME` for an optional dependency, or `[base]` for the package itself. Lines are
+sorted by package. Within a package `[base]` comes first, then features by name, then optional
+dependencies.
 
 Exit status: 0 if the features are printed; 1 if a file, the record or the choice is refused, or the
 output cannot be written, with the reasons on standard error; 2 for a bad command line.";
 
 const RULES_HELP: &str =
-    "Output: a line for each rule, as `9: app/fast, app/dep:util -> util/simd`: its number, what has to
-be on for it, and what is on then. Rules are numbered from 0: those of the choice, then those by which
-a feature needs its package, then those of the features' entries, then those of the links.
+    "Output: one line per rule, such as `9: app/fast, app/dep:util -> util/simd`: its number, what must
+be on for it, and what it switches on. Rules are numbered from 0: first those of the choice, then
+those by which a feature needs its package, then those of the features' entries, then those of the
+dependencies.
 
 Exit status: 0 if the rules are printed; 1 if a file, the record or the choice is refused, or the
 output cannot be written, with the reasons on standard error; 2 for a bad command line.";
 
-const STATUSES: &str = "A file may be /dev/stdin.
+const STATUSES: &str = "Any FILE may be /dev/stdin.
 
-Exit status: 0 if all is done; 1 if it failed, with the reasons on standard error; 2 for a bad
-command line.";
+Exit status: 0 on success; 1 on failure, with the reasons on standard error; 2 for a bad command line.";

@@ -63,7 +63,7 @@ impl fmt::Display for Failure<'_> {
 fn write_bad_partition<W: fmt::Write>(f: &mut fmt::Formatter<W>, text: &str) -> fmt::Result {
     writeln!(
         f,
-        "error: invalid value '{text}' for '--partition <count:M/N>': M is from 1 to N"
+        "error: invalid value '{text}' for '--partition <count:M/N>': expected M from 1 to N"
     )?;
     f.write_str("\nFor more information, try '--help'.\n")
 }

@@ -25,7 +25,7 @@ pub fn exit_code(rt: &HostRuntime, ended: io::Result<u8>) -> ExitCode {
             ExitCode::from(1)
         }
         Err(_) => {
-            let _ = eprintln!(rt; "error: a word of the command line is not UTF-8");
+            let _ = eprintln!(rt; "error: an argument is not UTF-8");
             ExitCode::from(2)
         }
     }

@@ -44,40 +44,40 @@ pub fn required<'a>(asked: &ArgMatches<'a>, name: &str) -> &'a str
 pub const RECORD: Word = Word {
     name: "record",
     shape: Shape::Option("FILE"),
-    help: "The record of the workspace: its packages, links and members, as JSON,
-made of what `cargo metadata` says of them; docs/FORMATS.md has its keys",
+    help: "The record of the workspace: its packages, links and members, as JSON made from
+the output of `cargo metadata`; docs/FORMATS.md lists its keys",
 };
 
 /// The option that names the choice.
 pub const CHOICE: Word = Word {
     name: "choice",
     shape: Shape::MaybeOption("FILE"),
-    help: "The features that are asked for, as JSON [default: the default features].
-A key that the format does not have is ignored, also a misspelt one",
+    help: "The selected features, as JSON [default: the default features].
+Unknown keys are ignored, even a misspelt one",
 };
 
 /// The option that names the table.
 pub const TABLE: Word = Word {
     name: "table",
     shape: Shape::MaybeOption("FILE"),
-    help: "The platform's answers: which `cfg(..)` and target names hold, as JSON
-[default: no answer is known, and what is unknown counts]",
+    help: "The platform's answers: which `cfg(..)` and target names apply, as JSON
+[default: no answers, and dependencies without an answer count]",
 };
 
 /// The option that names the account.
 pub const ACCOUNT: Word = Word {
     name: "account",
     shape: Shape::Option("FILE"),
-    help: "The account or explanation to be checked: numbers of rules, as JSON",
+    help: "The account or explanation to check, as JSON",
 };
 
 /// What a check of an account prints, and with which status it ends.
 pub const CHECK_HELP: &str =
     "Output: `accepted`, or `refused: ` and the first fault of the account: `unknown rule at P`,
-`repeated conclusion at P` or `missing premise at P`, where P counts its entries from 0, or `not
-closed at N`, where N is the lowest rule that is left out. A file with a goal is an explanation, and
-is refused, in place of the last, as `goal not reached`, or as `unused at P` where no later entry
-needs what the one at P concludes.
+`repeated conclusion at P` or `missing premise at P`, where P counts its entries from 0; or `not
+closed at N`, where N is the lowest rule that is missing. A file with a goal is an explanation.
+In place of `not closed` it is refused as `goal not reached`, or as `unused at P` if no later entry
+needs what entry P concludes.
 
 Exit status: 0 if the account or explanation is accepted; 1 if it or a file is refused, or the
 output cannot be written, with the reasons for the latter two on standard error; 2 for a bad command
