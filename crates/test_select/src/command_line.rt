@@ -1,9 +1,20 @@
 //! The command line, as `clap` reads it.
 
-ghost use Rattle.std.specs.Prelude.{◌≡◌, IfErr, codes, map};
+ghost use Rattle.std.specs.Prelude.{◌≡◌, IfErr, codes, map, option_map};
 ghost use Rattle.clap.specs.Words.{first_of, found_of, rows_of};
 ghost use Rattle.test_select_files.specs.Words.{name_in, word_or_empty};
-ghost use Rattle.test_select.specs.Asking.{asks_in, filters_in, is_given, says, scope_in, values_of};
+ghost use Rattle.test_select_tests.specs.PartitionView.{partition_view};
+ghost use Rattle.test_select.specs.Asking.{
+  AsksForTestsOf,
+  asks_in,
+  filters_in,
+  is_given,
+  RefusesNoPart,
+  says,
+  scope_in,
+  values_of,
+  words_below,
+};
 ghost use Rattle.test_select.specs.Failures.{status_of};
 
 use crate::failure::Failure;
@@ -396,7 +407,8 @@ pub(crate) fn path_words<'m, 'a: 'm>(asked: &'m ArgMatches<'a>) -> &'m [&'a str]
 
 /// Refuses a command line whose word for a part of the tests is none.
 pub(crate) fn refuse_bad_partition<'a>(matches: &ArgMatches<'a>) -> Result<(), Failure<'a>>
-    ensures { IfErr result (λ f. status_of f ≡ 2) }
+    ensures status { IfErr result (λ f. status_of f ≡ 2) }
+    ensures refuses { RefusesNoPart (words_below matches.now) result }
 {
     let Some((_, asked)) = matches.subcommand() else {
         return Ok(());
@@ -408,7 +420,10 @@ pub(crate) fn refuse_bad_partition<'a>(matches: &ArgMatches<'a>) -> Result<(), F
 }
 
 /// The part of the chosen tests that the command line asks for, if it asks for one.
-pub(crate) fn partition_in(asked: &ArgMatches<'_>) -> Option<Partition> {
+pub(crate) fn partition_in(asked: &ArgMatches<'_>) -> Option<Partition>
+    ensures part { AsksForTestsOf (rows_of (found_of asked.now))
+        (option_map partition_view result) }
+{
     Partition::from_text(asked.get_str("partition")?)
 }
 
