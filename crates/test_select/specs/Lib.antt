@@ -1,5 +1,11 @@
+pub mod AccountCommands
 pub mod Asking
+pub mod Changes
 pub mod Failures
+pub mod FeatureCommands
 pub mod Orders
 pub mod Printing
+pub mod Running
 pub mod Runs
+pub mod Selections
+pub mod Tasks

@@ -1,6 +1,10 @@
 //! Accounts of what is on, printed as numbers or as lines for people.
 
 ghost use Rattle.std.specs.Prelude.{◌≡◌, IfErr};
+ghost use Rattle.clap.specs.Words.{found_of, rows_of};
+ghost use Rattle.test_select_files.specs.Files.{SameAnswers};
+ghost use Rattle.test_select_files.specs.Reading.{Asks};
+ghost use Rattle.test_select.specs.AccountCommands.{EndsAccount, PrintsAccount};
 ghost use Rattle.test_select.specs.Failures.{status_of};
 
 use crate::command_line::is_readable;
@@ -19,7 +23,11 @@ pub(crate) fn print_account<'a, O: Write>(
     files: &mut dyn FileSource,
     out: &mut O,
 ) -> Result<(), Failure<'a>>
-    ensures { IfErr result (λ f. status_of f ≡ 1) }
+    ensures status { IfErr result (λ f. status_of f ≡ 1) }
+    ensures prints { Asks (answers files.old) (state files.old) (state files.new)
+        (EndsAccount (rows_of (found_of asked.now)) result (O.contents out.old)
+        (O.contents out.new)) }
+    ensures same { SameAnswers (answers files.old) (answers files.new) }
 {
     let question = feature_question(alloc, named_files(asked), files)?;
     print_account_of(alloc, &question, is_readable(asked), out)
@@ -31,7 +39,9 @@ fn print_account_of<'a, O: Write>(
     readable: bool,
     out: &mut O,
 ) -> Result<(), Failure<'a>>
-    ensures { IfErr result (λ f. status_of f ≡ 1) }
+    ensures status { IfErr result (λ f. status_of f ≡ 1) }
+    ensures prints { PrintsAccount readable question.now result (O.contents out.old)
+        (O.contents out.new) }
 {
     let (record, choice, table) = (&question.record, &question.choice, &question.table);
     let account = account_shared(alloc, record, choice, table)?;

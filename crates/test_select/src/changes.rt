@@ -1,21 +1,50 @@
 //! A filter for the tests that changes may turn out otherwise, printed.
 
-ghost use Rattle.std.specs.Prelude.{◌≡◌, IfErr};
+ghost use Rattle.std.specs.Prelude.{◌≡◌, ◌++◌, codes, IfErr, IfOk, string_bytes};
+ghost use Rattle.clap.specs.Words.{found_of, rows_of};
+ghost use Rattle.nextest_filter_syntax.specs.Trees.{tree_of};
+ghost use Rattle.nextest_filter_syntax.specs.TreeTexts.{tree_text};
 ghost use Rattle.test_select_files.specs.Failures as reading;
+ghost use Rattle.test_select_files.specs.Files.{SameAnswers};
+ghost use Rattle.test_select_files.specs.Reading.{Asks, bytes_read, ReadsRecord};
+ghost use Rattle.test_select_files.specs.Words.{name_in};
+ghost use Rattle.test_select.specs.Changes.{
+  EndsChanged,
+  PrintsChanged,
+  ReadsChanges,
+  ReadsPaths,
+};
 ghost use Rattle.test_select.specs.Failures.{status_of};
 
 use crate::command_line::{ignored_words, path_words, paths_file};
 use crate::failure::Failure;
 use clap::ArgMatches;
+use list_facts::write_bytes;
 use nextest_filter_syntax::{GenericGlob, ParsedExpr};
 use record_files::read_record;
-use std::alloc::Global;
-use std::io::{self, Write};
+use std::alloc::{AllocError, Global};
+use std::io::Write;
 use std::str;
 use test_select_changes::{Changed, ChangedError, changed_filter, changed_packages};
 use test_select_checks::{CheckedRecord, SelectError};
-use test_select_files::{FileSource, RunFailure, accepted, bytes_in, named_files};
+use test_select_files::{FileSource, RunFailure, accepted, bytes_in, required};
 use workspace_record::WorkspaceRecord;
+
+/// What the command works on: the record, and the bytes of the file of paths.
+struct ChangedInputs {
+    workspace: WorkspaceRecord,
+    listed: Vec<u8>,
+}
+
+// Written out, so that a function that lets one go takes one step.
+impl Drop for ChangedInputs {
+    fn drop(self) {
+        let ChangedInputs {
+            workspace: _,
+            listed: _,
+        } = self;
+    }
+}
 
 /// Prints one line: a filter for the tests of changed packages, and of all that depends on them.
 pub(crate) fn print_changed<'a, O: Write>(
@@ -24,34 +53,44 @@ pub(crate) fn print_changed<'a, O: Write>(
     files: &mut dyn FileSource,
     out: &mut O,
 ) -> Result<(), Failure<'a>>
-    ensures { IfErr result (λ f. status_of f ≡ 1) }
+    ensures status { IfErr result (λ f. status_of f ≡ 1) }
+    ensures prints { Asks (answers files.old) (state files.old) (state files.new)
+        (EndsChanged (rows_of (found_of asked.now)) result (O.contents out.old)
+        (O.contents out.new)) }
+    ensures same { SameAnswers (answers files.old) (answers files.new) }
 {
-    let filter = filter_asked(alloc, asked, files)?;
-    write_filter(&filter, out)?;
-    Ok(())
+    let inputs = changed_inputs(alloc, asked, files)?;
+    print_changed_of(alloc, asked, &inputs, out)
 }
 
-/// The filter for the paths that the command line names.
-fn filter_asked<'a>(
+/// Reads and decodes the record, and then reads the file of paths, if one is named.
+fn changed_inputs<'a>(
     alloc: Global,
     asked: &ArgMatches<'a>,
     files: &mut dyn FileSource,
-) -> Result<ParsedExpr, Failure<'a>>
-    ensures { IfErr result (λ f. status_of f ≡ 1) }
+) -> Result<ChangedInputs, RunFailure<'a>>
+    ensures status { IfErr result (λ f. reading.status_of f ≡ 1) }
+    ensures reads { Asks (answers files.old) (state files.old) (state files.new)
+        (ReadsChanges (rows_of (found_of asked.now)) result) }
+    ensures same { SameAnswers (answers files.old) (answers files.new) }
 {
-    let name = named_files(asked).record;
-    let bytes = bytes_in(alloc, name, files)?;
-    let record = accepted(name, read_record(alloc, &bytes))?;
+    let workspace = record_in(alloc, required(asked, "record"), files)?;
     let listed = listed_paths(alloc, paths_file(asked), files)?;
-    let paths = all_paths(alloc, path_words(asked), paths_file(asked), &listed)?;
-    let changed = changed_in(alloc, &record, ignored_words(asked), &paths)?;
-    let filter = changed_filter(alloc, changed)?;
-    Ok(filter)
+    Ok(ChangedInputs { workspace, listed })
 }
 
-/// Writes the filter as it is printed, and a line feed.
-fn write_filter<W: Write>(filter: &ParsedExpr, writer: &mut W) -> io::Result<()> {
-    writeln!(writer, "{filter}")
+fn record_in<'a>(
+    alloc: Global,
+    name: &'a str,
+    files: &mut dyn FileSource,
+) -> Result<WorkspaceRecord, RunFailure<'a>>
+    ensures status { IfErr result (λ f. reading.status_of f ≡ 1) }
+    ensures reads { Asks (answers files.old) (state files.old) (state files.new)
+        (ReadsRecord name.now result) }
+    ensures same { SameAnswers (answers files.old) (answers files.new) }
+{
+    let bytes = bytes_in(alloc, name, files)?;
+    accepted(name, read_record(alloc, &bytes))
 }
 
 /// The bytes of the file of paths; none where none is named.
@@ -60,7 +99,10 @@ fn listed_paths<'a>(
     name: Option<&'a str>,
     files: &mut dyn FileSource,
 ) -> Result<Vec<u8>, RunFailure<'a>>
-    ensures { IfErr result (λ f. reading.status_of f ≡ 1) }
+    ensures status { IfErr result (λ f. reading.status_of f ≡ 1) }
+    ensures reads { Asks (answers files.old) (state files.old) (state files.new)
+        (ReadsPaths (name_in name.entry) (bytes_read result)) }
+    ensures same { SameAnswers (answers files.old) (answers files.new) }
 {
     match name {
         Some(name) => bytes_in(alloc, name, files),
@@ -68,45 +110,47 @@ fn listed_paths<'a>(
     }
 }
 
-/// The paths of the command line, and then the lines of the file.
-fn all_paths<'a, 'l>(
+fn print_changed_of<'a, O: Write>(
     alloc: Global,
-    words: &[&'l str],
-    name: Option<&'a str>,
-    listed: &'l [u8],
-) -> Result<Vec<&'l str>, Failure<'a>>
-    ensures { IfErr result (λ f. status_of f ≡ 1) }
+    asked: &ArgMatches<'a>,
+    inputs: &ChangedInputs,
+    out: &mut O,
+) -> Result<(), Failure<'a>>
+    ensures status { IfErr result (λ f. status_of f ≡ 1) }
+    ensures prints { PrintsChanged (rows_of (found_of asked.now)) inputs.now result
+        (O.contents out.old) (O.contents out.new) }
 {
-    let Ok(lines) = str::from_utf8(listed) else {
-        return Err(Failure::NotText(name.unwrap_or("")));
-    };
-    let mut paths = Vec::new(alloc);
-    for word in words {
-        paths.push(*word)?;
-    }
-    for line in lines.split('\n') {
-        paths.push(line)?;
-    }
-    Ok(paths)
+    let changed = changed_in(alloc, asked, inputs)?;
+    let filter = changed_filter(alloc, changed)?;
+    let line = filter_line(alloc, &filter)?;
+    write_bytes(out, line.as_bytes())?;
+    Ok(())
 }
 
-/// What the paths come to in a record, among the packages that the members reach by declared links. The
-/// record is tested first, and then the globs are read.
+/// The filter as it is printed, with its line feed.
+fn filter_line(alloc: Global, filter: &ParsedExpr) -> Result<String, AllocError>
+    ensures text { IfOk result (λ text. string_bytes text
+        ≡ tree_text (tree_of filter.now) ++ codes "\n") }
+{
+    format!(in alloc; "{filter}\n")
+}
+
+/// What the paths of the command line and of the file come to. The record is tested first, and then the
+/// globs are read.
 fn changed_in<'a>(
     alloc: Global,
-    record: &WorkspaceRecord,
-    ignored: &[&'a str],
-    paths: &[&str],
+    asked: &ArgMatches<'a>,
+    inputs: &ChangedInputs,
 ) -> Result<Changed, Failure<'a>>
-    ensures { IfErr result (λ f. status_of f ≡ 1) }
+    ensures status { IfErr result (λ f. status_of f ≡ 1) }
 {
-    let checked = match CheckedRecord::of(alloc, record) {
+    let paths = all_paths(alloc, asked, &inputs.listed)?;
+    let checked = match CheckedRecord::of(alloc, &inputs.workspace) {
         Ok(checked) => checked,
         Err(refused) => return Err(Failure::Refused(SelectError::from(refused))),
     };
-    let globs = globs_of(alloc, ignored)?;
-    let needed = checked.graph().query_workspace(alloc)?.resolve(alloc)?;
-    match changed_packages(alloc, &needed, &globs, paths) {
+    let globs = globs_of(alloc, ignored_words(asked))?;
+    match changed_among(alloc, &checked, &globs, &paths) {
         Ok(changed) => Ok(changed),
         Err(ChangedError::Memory) => Err(Failure::Run(RunFailure::Memory)),
         Err(ChangedError::Path(place)) => {
@@ -116,8 +160,38 @@ fn changed_in<'a>(
     }
 }
 
+/// The paths of the command line, and each line of the file of paths.
+fn all_paths<'l, 'a: 'l>(
+    alloc: Global,
+    asked: &'l ArgMatches<'a>,
+    listed: &'l [u8],
+) -> Result<Vec<&'l str>, Failure<'a>>
+    ensures status { IfErr result (λ f. status_of f ≡ 1) }
+{
+    let Ok(lines) = str::from_utf8(listed) else {
+        return Err(Failure::NotText(paths_file(asked).unwrap_or("")));
+    };
+    let mut paths = Vec::from_slice(alloc, path_words(asked))?;
+    for line in lines.split('\n') {
+        paths.push(line)?;
+    }
+    Ok(paths)
+}
+
+/// What the paths come to among the packages that the members reach by declared links.
+fn changed_among(
+    alloc: Global,
+    checked: &CheckedRecord<'_>,
+    globs: &[GenericGlob],
+    paths: &[&str],
+) -> Result<Changed, ChangedError> {
+    let needed = checked.graph().query_workspace(alloc)?.resolve(alloc)?;
+    changed_packages(alloc, &needed, globs, paths)
+}
+
+/// The globs that the texts read as, or the first text that is none.
 fn globs_of<'a>(alloc: Global, texts: &[&'a str]) -> Result<Vec<GenericGlob>, Failure<'a>>
-    ensures { IfErr result (λ f. status_of f ≡ 1) }
+    ensures status { IfErr result (λ f. status_of f ≡ 1) }
 {
     let mut globs = Vec::new(alloc);
     for text in texts {

@@ -1,8 +1,10 @@
 //! Why a run of the program ends early.
 
 ghost use Rattle.std.specs.Prelude.{◌≡◌};
+ghost use Rattle.clap.specs.Words.{kind_of};
+ghost use Rattle.clap.specs.declared.error.ErrorKind.TheVariants.{OutOfMemory};
 ghost use Rattle.test_select_files.specs.declared.run_failure.RunFailure.TheVariants.{CannotWrite, Memory};
-ghost use Rattle.test_select.specs.Failures.{status_of};
+ghost use Rattle.test_select.specs.Failures.{status_of, unwritten};
 ghost use Rattle.test_select.specs.declared.failure.Failure.TheVariants.{Refused, Run};
 
 use nextest_filter_syntax::GlobError;
@@ -77,6 +79,8 @@ impl<'a> From<RunFailure<'a>> for Failure<'a> {
 }
 
 impl From<clap::Error> for Failure<'_> {
+    ghost from_gives = { λ e f. kind_of e ≡ OutOfMemory → f ≡ Run Memory };
+
     fn from(error: clap::Error) -> Self {
         Failure::Run(RunFailure::from(error))
     }
@@ -91,7 +95,7 @@ impl From<SelectError> for Failure<'_> {
 }
 
 impl From<WriteAccountError> for Failure<'_> {
-    ghost from_gives = { λ _ f. status_of f ≡ 1 };
+    ghost from_gives = { λ error f. (f ≡ Run (unwritten error)) × (status_of f ≡ 1) };
 
     fn from(error: WriteAccountError) -> Self {
         match error {

@@ -18,6 +18,7 @@ mod program;
 mod readable;
 mod reasons;
 mod selections;
+mod tasks;
 
 pub use crate::order::write_order;
 pub use crate::program::run;

@@ -1,19 +1,33 @@
 //! The program, over any files and any two streams.
 
-ghost use Rattle.std.specs.Prelude.{◌≡◌, ◌≤◌, IfErr};
+ghost use Rattle.std.specs.Prelude.{◌≡◌, ◌≤◌, Err, IfErr, map};
+ghost use Rattle.clap.specs.Words.{found_of, kind_of, rows_of, subcommand_rows_of};
+ghost use Rattle.clap.specs.declared.error.ErrorKind.TheVariants.{OutOfMemory};
+ghost use Rattle.test_select_files.specs.Reading.{Asks};
+ghost use Rattle.test_select_files.specs.declared.run_failure.RunFailure.TheVariants.{Memory};
 ghost use Rattle.test_select.specs.Failures.{status_of};
+ghost use Rattle.test_select.specs.Running.{
+  EndsAs,
+  EndsProgram,
+  EndsRun,
+  EndsTask,
+  EndsVerdict,
+  Means,
+};
+ghost use Rattle.test_select.specs.declared.failure.Failure.TheVariants.{Run};
 
 use crate::accounts::print_account;
 use crate::binaries::print_binaries;
 use crate::changes::print_changed;
-use crate::command_line::{command, refuse_bad_partition};
+use crate::command_line::refuse_bad_partition;
 use crate::explanations::print_explanation;
 use crate::failure::Failure;
 use crate::order::print_order;
 use crate::readable::{print_features, print_rules};
 use crate::reasons::print_why;
 use crate::selections::print_tests;
-use clap::ArgMatches;
+use crate::tasks::{Task, command, task_named};
+use clap::{ArgMatches, Error};
 use std::alloc::Global;
 use std::convert::AsStr;
 use std::io::Write;
@@ -67,6 +81,8 @@ pub fn run<S: AsStr, O: Write, E: Write>(
     ensures statuses { result ≤ 2 }
     ensures quiet { result ≡ 0 → E.contents err.new ≡ E.contents err.old }
     ensures bad_words { result ≡ 2 → O.contents out.new ≡ O.contents out.old }
+    ensures ends { EndsProgram (map S.text words.now) (answers files.old) (state files.old)
+        (state files.new) (O.contents out.old) (O.contents out.new) result }
 {
     match try_run(alloc, words, files, out) {
         Ok(()) => 0,
@@ -83,76 +99,111 @@ fn try_run<'a, S: AsStr, O: Write>(
     files: &mut dyn FileSource,
     out: &mut O,
 ) -> Result<(), Failure<'a>>
-    ensures { IfErr result (λ f. status_of f ≡ 2 → O.contents out.new ≡ O.contents out.old) }
+    ensures bad_words { IfErr result (λ f. status_of f ≡ 2
+        → O.contents out.new ≡ O.contents out.old) }
+    ensures ends { Means (map S.text words.now) (λ below.
+        Asks (answers files.old) (state files.old) (state files.new)
+        (EndsAs below result (O.contents out.old) (O.contents out.new))) }
 {
     match command(alloc)?.try_get_matches_from(words) {
         Ok(matches) => {
             refuse_bad_partition(&matches)?;
-            carry_out(alloc, &matches, files, out)?;
+            carry_out(alloc, &matches, files, out)
         }
-        Err(shown) if !shown.use_stderr() => write!(out, "{shown}")?,
-        Err(error) => return Err(Failure::from(error)),
+        Err(shown) => show(shown, out),
     }
+}
+
+/// Shows what was asked for in place of a task: the help, or the version. A command line that is refused
+/// is not shown here.
+fn show<'a, O: Write>(shown: Error, out: &mut O) -> Result<(), Failure<'a>>
+    ensures bad_words { IfErr result (λ f. status_of f ≡ 2
+        → O.contents out.new ≡ O.contents out.old) }
+    ensures memory { kind_of shown ≡ OutOfMemory → (result ≡ Err (Run Memory))
+        × (O.contents out.new ≡ O.contents out.old) }
+{
+    if shown.use_stderr() {
+        return Err(Failure::from(shown));
+    }
+    write!(out, "{shown}")?;
     out.flush()?;
     Ok(())
 }
 
-/// What a command line asks for.
-#[derive(Clone, Copy)]
-enum Task {
-    Tests,
-    Binaries,
-    Changed,
-    Why,
-    Account,
-    Check,
-    Explain,
-    Order,
-    Features,
-    Rules,
-    None,
-}
-
-/// What the command with this name asks for; nothing, if there is none.
-fn task_named(name: &str) -> Task {
-    match name {
-        "tests" => Task::Tests,
-        "binaries" => Task::Binaries,
-        "changed" => Task::Changed,
-        "why" => Task::Why,
-        "account" => Task::Account,
-        "check" => Task::Check,
-        "explain" => Task::Explain,
-        "order" => Task::Order,
-        "features" => Task::Features,
-        "rules" => Task::Rules,
-        _ => Task::None,
-    }
-}
-
-/// Does what the command line asks for. `clap` takes no command line without a command.
+/// Does what the command line asks for, and has all of it written out.
 fn carry_out<'a, O: Write>(
     alloc: Global,
     matches: &ArgMatches<'a>,
     files: &mut dyn FileSource,
     out: &mut O,
 ) -> Result<(), Failure<'a>>
-    ensures { IfErr result (λ f. status_of f ≡ 1) }
+    ensures status { IfErr result (λ f. status_of f ≡ 1) }
+    ensures ends { Asks (answers files.old) (state files.old) (state files.new)
+        (EndsRun (subcommand_rows_of matches.now) result (O.contents out.old) (O.contents out.new)) }
+{
+    print_asked(alloc, matches, files, out)?;
+    out.flush()?;
+    Ok(())
+}
+
+/// Prints what the command line asks for. `clap` takes no command line without a command.
+fn print_asked<'a, O: Write>(
+    alloc: Global,
+    matches: &ArgMatches<'a>,
+    files: &mut dyn FileSource,
+    out: &mut O,
+) -> Result<(), Failure<'a>>
+    ensures status { IfErr result (λ f. status_of f ≡ 1) }
+    ensures ends { Asks (answers files.old) (state files.old) (state files.new)
+        (EndsRun (subcommand_rows_of matches.now) result (O.contents out.old) (O.contents out.new)) }
 {
     let Some((name, asked)) = matches.subcommand() else {
         return Ok(());
     };
     match task_named(name) {
+        Some(task) => print_task(alloc, task, asked, files, out),
+        None => Ok(()),
+    }
+}
+
+/// Prints what a task answers.
+fn print_task<'a, O: Write>(
+    alloc: Global,
+    task: Task,
+    asked: &ArgMatches<'a>,
+    files: &mut dyn FileSource,
+    out: &mut O,
+) -> Result<(), Failure<'a>>
+    ensures status { IfErr result (λ f. status_of f ≡ 1) }
+    ensures ends { Asks (answers files.old) (state files.old) (state files.new)
+        (EndsTask task (rows_of (found_of asked.now)) result (O.contents out.old)
+        (O.contents out.new)) }
+{
+    match task {
         Task::Tests => print_tests(alloc, asked, files, out),
         Task::Binaries => print_binaries(alloc, asked, files, out),
         Task::Changed => print_changed(alloc, asked, files, out),
         Task::Why => print_why(alloc, asked, files, out),
         Task::Account => print_account(alloc, asked, files, out),
-        Task::Check => Ok(print_verdict(alloc, asked, files, out)?),
+        Task::Check => print_check(alloc, asked, files, out),
         Task::Explain => print_explanation(alloc, asked, files, out),
         Task::Order => print_order(alloc, asked, files, out),
         Task::Features => print_features(alloc, asked, files, out),
         Task::Rules => print_rules(alloc, asked, files, out),
-        Task::None => Ok(()),
     }
+}
+
+/// Prints what is to be said of an account, as the checker of accounts does.
+fn print_check<'a, O: Write>(
+    alloc: Global,
+    asked: &ArgMatches<'a>,
+    files: &mut dyn FileSource,
+    out: &mut O,
+) -> Result<(), Failure<'a>>
+    ensures status { IfErr result (λ f. status_of f ≡ 1) }
+    ensures ends { Asks (answers files.old) (state files.old) (state files.new)
+        (EndsVerdict (rows_of (found_of asked.now)) result (O.contents out.old)
+        (O.contents out.new)) }
+{
+    Ok(print_verdict(alloc, asked, files, out)?)
 }

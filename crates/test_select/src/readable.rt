@@ -1,7 +1,17 @@
 //! What is on, the rules, and entries of accounts and explanations, printed as lines for people.
 
 ghost use Rattle.std.specs.Prelude.{◌≡◌, IfErr};
+ghost use Rattle.clap.specs.Words.{found_of, rows_of};
+ghost use Rattle.test_select_files.specs.Files.{SameAnswers};
+ghost use Rattle.test_select_files.specs.Reading.{Asks};
+ghost use Rattle.test_select.specs.AccountCommands.{PrintsText, lines_of};
 ghost use Rattle.test_select.specs.Failures.{status_of};
+ghost use Rattle.test_select.specs.FeatureCommands.{
+  EndsFeatures,
+  EndsRules,
+  PrintsFeatures,
+  PrintsRules,
+};
 ghost use Rattle.test_select.specs.Runs.{ListsRules};
 
 use crate::failure::Failure;
@@ -22,9 +32,24 @@ pub(crate) fn print_features<'a, O: Write>(
     files: &mut dyn FileSource,
     out: &mut O,
 ) -> Result<(), Failure<'a>>
-    ensures { IfErr result (λ f. status_of f ≡ 1) }
+    ensures status { IfErr result (λ f. status_of f ≡ 1) }
+    ensures prints { Asks (answers files.old) (state files.old) (state files.new)
+        (EndsFeatures (rows_of (found_of asked.now)) result (O.contents out.old)
+        (O.contents out.new)) }
+    ensures same { SameAnswers (answers files.old) (answers files.new) }
 {
     let question = feature_question(alloc, named_files(asked), files)?;
+    print_features_of(alloc, &question, out)
+}
+
+fn print_features_of<'a, O: Write>(
+    alloc: Global,
+    question: &FeatureQuestion,
+    out: &mut O,
+) -> Result<(), Failure<'a>>
+    ensures status { IfErr result (λ f. status_of f ≡ 1) }
+    ensures prints { PrintsFeatures question.now result (O.contents out.old) (O.contents out.new) }
+{
     let (record, choice, table) = (&question.record, &question.choice, &question.table);
     let on = features_on_shared(alloc, record, choice, table)?;
     write_features(alloc, on.as_slice(), out)?;
@@ -38,10 +63,25 @@ pub(crate) fn print_rules<'a, O: Write>(
     files: &mut dyn FileSource,
     out: &mut O,
 ) -> Result<(), Failure<'a>>
-    ensures { IfErr result (λ f. status_of f ≡ 1) }
+    ensures status { IfErr result (λ f. status_of f ≡ 1) }
+    ensures prints { Asks (answers files.old) (state files.old) (state files.new)
+        (EndsRules (rows_of (found_of asked.now)) result (O.contents out.old)
+        (O.contents out.new)) }
+    ensures same { SameAnswers (answers files.old) (answers files.new) }
 {
     let question = feature_question(alloc, named_files(asked), files)?;
-    let rules = rules_of(alloc, &question)?;
+    print_rules_of(alloc, &question, out)
+}
+
+fn print_rules_of<'a, O: Write>(
+    alloc: Global,
+    question: &FeatureQuestion,
+    out: &mut O,
+) -> Result<(), Failure<'a>>
+    ensures status { IfErr result (λ f. status_of f ≡ 1) }
+    ensures prints { PrintsRules question.now result (O.contents out.old) (O.contents out.new) }
+{
+    let rules = rules_of(alloc, question)?;
     write_rules(alloc, &rules, out)?;
     Ok(())
 }
@@ -67,7 +107,9 @@ pub(crate) fn print_entries<'a, O: Write>(
     entries: &[usize],
     out: &mut O,
 ) -> Result<(), Failure<'a>>
-    ensures { IfErr result (λ f. status_of f ≡ 1) }
+    ensures status { IfErr result (λ f. status_of f ≡ 1) }
+    ensures prints { PrintsText (lines_of question.now entries.now) result (O.contents out.old)
+        (O.contents out.new) }
 {
     let record = question.record.as_ref();
     let rules = sourced_rules(alloc, record, &question.choice, &question.table)?;

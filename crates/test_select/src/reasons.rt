@@ -1,19 +1,26 @@
 //! Why a test is chosen or not, or a binary asked or not, printed.
 
-ghost use Rattle.std.specs.Prelude.{◌≡◌, IfErr, map, option_map};
+ghost use Rattle.std.specs.Prelude.{◌≡◌, IfErr, IfOk, string_bytes};
+ghost use Rattle.clap.specs.Words.{found_of, rows_of};
+ghost use Rattle.test_select_files.specs.Failures as reading;
+ghost use Rattle.test_select_files.specs.Files.{SameAnswers};
+ghost use Rattle.test_select_files.specs.Reading.{Asks};
+ghost use Rattle.test_select_files.specs.Verdicts.{WritesLine};
 ghost use Rattle.test_select.specs.Failures.{status_of};
-ghost use Rattle.test_select.specs.Runs.{ExplainsQuestion};
+ghost use Rattle.test_select.specs.Selections.{EndsWhy, PrintsWhy, reason_line, SaysWhy};
 
-use crate::command_line::{binary_word, filters_in, link_scope, listings_file, test_word};
+use crate::command_line::{binary_word, filters_in, link_scope, test_word};
 use crate::failure::Failure;
 use crate::inputs::tests_inputs;
 use clap::ArgMatches;
-use nextest_binaries::TestLister;
-use std::alloc::Global;
-use std::io::{self, Write};
+use list_facts::write_bytes;
+use nextest_binaries::{FileLister, Listing};
+use std::alloc::{AllocError, Global};
+use std::collections::BTreeMap;
+use std::io::Write;
 use test_select_checks::SelectError;
-use test_select_files::{FeatureQuestion, FileSource, RunFailure, named_files};
-use test_select_tests::{LinkScope, Reason, why_shared};
+use test_select_files::{FeatureQuestion, FileSource, RunFailure};
+use test_select_tests::{Reason, why_shared};
 
 /// Prints why the test that the command line names is chosen or not; where it names none, why the
 /// binary is asked or not.
@@ -23,42 +30,30 @@ pub(crate) fn print_why<'a, O: Write>(
     files: &mut dyn FileSource,
     out: &mut O,
 ) -> Result<(), Failure<'a>>
-    ensures { IfErr result (λ f. status_of f ≡ 1) }
+    ensures status { IfErr result (λ f. status_of f ≡ 1) }
+    ensures prints { Asks (answers files.old) (state files.old) (state files.new)
+        (EndsWhy (rows_of (found_of asked.now)) result (O.contents out.old)
+        (O.contents out.new)) }
+    ensures same { SameAnswers (answers files.old) (answers files.new) }
 {
-    let mut inputs = tests_inputs(alloc, named_files(asked), listings_file(asked), files)?;
-    let reason = reason_of(
-        alloc,
-        &inputs.question,
-        link_scope(asked),
-        filters_in(asked),
-        binary_word(asked),
-        test_word(asked),
-        &mut inputs.lister,
-    )?;
-    print_reason(&reason, out)
+    let (question, listings) = tests_inputs(alloc, asked, files)?;
+    print_why_of(alloc, asked, &question, listings, out)
 }
 
-/// The reason over the links of the scope. The lister is asked for the binary alone, if at all.
-fn reason_of<'a>(
+/// The same of the files that were read. A reason that is a no is denied.
+fn print_why_of<'a, O: Write>(
     alloc: Global,
-    question: &'a FeatureQuestion,
-    scope: LinkScope,
-    texts: &[&str],
-    id: &'a str,
-    test: Option<&str>,
-    lister: &mut dyn TestLister,
-) -> Result<Reason<'a>, SelectError>
-    ensures { ExplainsQuestion question.entry.now scope (map (λ t. t.now) texts.now) id.entry.now
-        (option_map (λ t. t.now) test.entry) (shown lister.old) result (shown lister.new) }
+    asked: &ArgMatches<'a>,
+    question: &FeatureQuestion,
+    listings: BTreeMap<String, Listing>,
+    out: &mut O,
+) -> Result<(), Failure<'a>>
+    ensures status { IfErr result (λ f. status_of f ≡ 1) }
+    ensures prints { PrintsWhy (rows_of (found_of asked.now)) question.now listings result
+        (O.contents out.old) (O.contents out.new) }
 {
-    let (record, choice, table) = (&question.record, &question.choice, &question.table);
-    why_shared(alloc, record, choice, table, scope, texts, id, test, lister)
-}
-
-fn print_reason<'a, O: Write>(reason: &Reason<'_>, out: &mut O) -> Result<(), Failure<'a>>
-    ensures { IfErr result (λ f. status_of f ≡ 1) }
-{
-    write_reason(reason, out)?;
+    let reason = reason_in(alloc, asked, question, listings)?;
+    write_reason(alloc, &reason, out)?;
     if reason.says_yes() {
         Ok(())
     } else {
@@ -66,7 +61,52 @@ fn print_reason<'a, O: Write>(reason: &Reason<'_>, out: &mut O) -> Result<(), Fa
     }
 }
 
-fn write_reason<O: Write>(reason: &Reason<'_>, out: &mut O) -> io::Result<()> {
-    writeln!(out, "{reason}")?;
-    out.flush()
+/// The reason over the links of the scope. A lister over the listings is asked for the binary alone, if
+/// at all.
+fn reason_in<'q, 'a: 'q>(
+    alloc: Global,
+    asked: &ArgMatches<'a>,
+    question: &'q FeatureQuestion,
+    listings: BTreeMap<String, Listing>,
+) -> Result<Reason<'q>, SelectError>
+    ensures says { SaysWhy (rows_of (found_of asked.now)) question.entry.now listings result }
+{
+    let mut lister = FileLister::new(alloc, listings)?;
+    let (record, choice, table) = (&question.record, &question.choice, &question.table);
+    let (scope, texts) = (link_scope(asked), filters_in(asked));
+    let (id, test) = (binary_word(asked), test_word(asked));
+    why_shared(
+        alloc,
+        record,
+        choice,
+        table,
+        scope,
+        texts,
+        id,
+        test,
+        &mut lister,
+    )
+}
+
+/// The line that says it, with its line feed.
+fn reason_line(alloc: Global, reason: &Reason<'_>) -> Result<String, AllocError>
+    ensures text { IfOk result (λ text. string_bytes text ≡ reason_line reason.now) }
+{
+    format!(in alloc; "{reason}\n")
+}
+
+// The output is flushed here, since a run ends early after a no.
+fn write_reason<'a, O: Write>(
+    alloc: Global,
+    reason: &Reason<'_>,
+    out: &mut O,
+) -> Result<(), RunFailure<'a>>
+    ensures status { IfErr result (λ f. reading.status_of f ≡ 1) }
+    ensures writes { WritesLine (reason_line reason.now) result (O.contents out.old)
+        (O.contents out.new) }
+{
+    let line = reason_line(alloc, reason)?;
+    write_bytes(out, line.as_bytes())?;
+    out.flush()?;
+    Ok(())
 }

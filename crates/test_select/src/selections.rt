@@ -1,25 +1,32 @@
 //! The tests that run, printed.
 
-ghost use Rattle.std.specs.Prelude.{◌≡◌, IfErr, map};
+ghost use Rattle.std.specs.Prelude.{◌≡◌, ℕ, IfErr, IfOk, Option, true};
+ghost use Rattle.clap.specs.Words.{found_of, rows_of};
+ghost use Rattle.test_select_files.specs.Files.{SameAnswers};
+ghost use Rattle.test_select_files.specs.Reading.{Asks};
+ghost use Rattle.test_select.specs.Asking.{AsksForTestsOf};
 ghost use Rattle.test_select.specs.Failures.{status_of};
-ghost use Rattle.test_select.specs.Runs.{AnswersQuestion};
-
-use crate::command_line::{
-    asked_binaries, filters_in, is_json, link_scope, listings_file, partition_in,
+ghost use Rattle.test_select.specs.Selections.{
+  EndsTests,
+  PrintsShown,
+  PrintsTests,
+  Selects,
+  tests_of,
 };
+
+use crate::command_line::{asked_binaries, filters_in, is_json, link_scope, partition_in};
 use crate::failure::Failure;
 use crate::inputs::tests_inputs;
 use clap::ArgMatches;
 use list_facts::write_bytes;
-use nextest_binaries::TestLister;
+use nextest_binaries::{FileLister, Listing};
 use record_writing::listings_line;
-use std::alloc::Global;
+use std::alloc::{AllocError, Global};
+use std::collections::BTreeMap;
 use std::io::Write;
 use test_select_checks::SelectError;
-use test_select_files::{FeatureQuestion, FileSource, named_files};
-use test_select_tests::{
-    AskedBinaries, LinkScope, Selection, by_binary, select_shared, write_report,
-};
+use test_select_files::{FeatureQuestion, FileSource};
+use test_select_tests::{Selection, by_binary, select_shared, write_report};
 
 /// Prints the tests that run, or those of the part that is asked for, as lines or as JSON.
 pub(crate) fn print_tests<'a, O: Write>(
@@ -28,34 +35,71 @@ pub(crate) fn print_tests<'a, O: Write>(
     files: &mut dyn FileSource,
     out: &mut O,
 ) -> Result<(), Failure<'a>>
-    ensures { IfErr result (λ f. status_of f ≡ 1) }
+    ensures status { IfErr result (λ f. status_of f ≡ 1) }
+    ensures prints { Asks (answers files.old) (state files.old) (state files.new)
+        (EndsTests (rows_of (found_of asked.now)) result (O.contents out.old)
+        (O.contents out.new)) }
+    ensures same { SameAnswers (answers files.old) (answers files.new) }
 {
-    let selection = selection_in(alloc, asked, files)?;
-    let chosen = match partition_in(asked) {
-        Some(partition) => selection.in_part(alloc, partition)?,
-        None => selection,
-    };
+    let (question, listings) = tests_inputs(alloc, asked, files)?;
+    print_tests_of(alloc, asked, &question, listings, out)
+}
+
+fn print_tests_of<'a, O: Write>(
+    alloc: Global,
+    asked: &ArgMatches<'a>,
+    question: &FeatureQuestion,
+    listings: BTreeMap<String, Listing>,
+    out: &mut O,
+) -> Result<(), Failure<'a>>
+    ensures status { IfErr result (λ f. status_of f ≡ 1) }
+    ensures prints { PrintsTests (rows_of (found_of asked.now)) question.now listings result
+        (O.contents out.old) (O.contents out.new) }
+{
+    let selection = selection_in(alloc, asked, question, listings)?;
+    let chosen = part_in(alloc, asked, selection)?;
     write_selection(alloc, chosen, is_json(asked), out)
 }
 
-/// The selection that the command line asks for.
-fn selection_in<'a>(
+/// The selection that the command line asks for, by a lister over the listings.
+fn selection_in(
     alloc: Global,
-    asked: &ArgMatches<'a>,
-    files: &mut dyn FileSource,
-) -> Result<Selection, Failure<'a>>
-    ensures { IfErr result (λ f. status_of f ≡ 1) }
+    asked: &ArgMatches<'_>,
+    question: &FeatureQuestion,
+    listings: BTreeMap<String, Listing>,
+) -> Result<Selection, SelectError>
+    ensures selects { Selects (rows_of (found_of asked.now)) question.now listings result }
 {
-    let mut inputs = tests_inputs(alloc, named_files(asked), listings_file(asked), files)?;
-    let selection = selection_of(
+    let (record, choice, table) = (&question.record, &question.choice, &question.table);
+    let (scope, asks) = (link_scope(asked), asked_binaries(asked));
+    let texts = filters_in(asked);
+    let mut lister = FileLister::new(alloc, listings)?;
+    select_shared(
         alloc,
-        &inputs.question,
-        link_scope(asked),
-        filters_in(asked),
-        asked_binaries(asked),
-        &mut inputs.lister,
-    )?;
-    Ok(selection)
+        record,
+        choice,
+        table,
+        scope,
+        texts,
+        asks,
+        &mut lister,
+    )
+}
+
+/// The selection with the chosen tests of the part that the command line asks for, if it asks for one.
+fn part_in(
+    alloc: Global,
+    asked: &ArgMatches<'_>,
+    selection: Selection,
+) -> Result<Selection, AllocError>
+    ensures part { IfOk result (λ s. (part : Option (ℕ × ℕ))
+        × AsksForTestsOf (rows_of (found_of asked.now)) part
+        × (s.chosen ≡ tests_of part selection.chosen)) }
+{
+    match partition_in(asked) {
+        Some(partition) => selection.in_part(alloc, partition),
+        None => Ok(selection),
+    }
 }
 
 /// Writes the chosen tests as lines, or as one object of JSON and a line feed.
@@ -65,29 +109,28 @@ fn write_selection<'a, O: Write>(
     is_json: bool,
     out: &mut O,
 ) -> Result<(), Failure<'a>>
-    ensures { IfErr result (λ f. status_of f ≡ 1) }
+    ensures status { IfErr result (λ f. status_of f ≡ 1) }
+    ensures prints { PrintsShown is_json selection.chosen result (O.contents out.old)
+        (O.contents out.new) }
 {
     if is_json {
-        let line = listings_line(alloc, &by_binary(alloc, selection)?)?;
-        write_bytes(out, line.as_bytes())?;
-    } else {
-        write_report(&selection, out)?;
+        return write_listings(alloc, selection, out);
     }
+    write_report(&selection, out)?;
     Ok(())
 }
 
-/// Selects over the links of the scope, and asks the lister for the binaries that are wanted.
-fn selection_of(
+fn write_listings<'a, O: Write>(
     alloc: Global,
-    question: &FeatureQuestion,
-    scope: LinkScope,
-    texts: &[&str],
-    asks: AskedBinaries,
-    lister: &mut dyn TestLister,
-) -> Result<Selection, SelectError>
-    ensures { AnswersQuestion question.now scope (map (λ t. t.now) texts.now) asks
-        (shown lister.old) result (shown lister.new) }
+    selection: Selection,
+    out: &mut O,
+) -> Result<(), Failure<'a>>
+    ensures status { IfErr result (λ f. status_of f ≡ 1) }
+    ensures prints { PrintsShown true selection.chosen result (O.contents out.old)
+        (O.contents out.new) }
 {
-    let (record, choice, table) = (&question.record, &question.choice, &question.table);
-    select_shared(alloc, record, choice, table, scope, texts, asks, lister)
+    let groups = by_binary(alloc, selection)?;
+    let line = listings_line(alloc, &groups)?;
+    write_bytes(out, line.as_bytes())?;
+    Ok(())
 }

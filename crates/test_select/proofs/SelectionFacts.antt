@@ -1,0 +1,174 @@
+-- What a command that selects or explains comes to, by the files that it read and what it answered.
+use Rattle.std.proofs.Common.{◌≡◌, ℕ, List, Bool, false, refl, ap, sym, subst, inl, inr, Result, Ok, Err}
+use Rattle.std.specs.Prelude.{Option, IsErrAnd, codes}
+use Rattle.std.specs.Io.KnownBytes.{Appends}
+use Rattle.clap.specs.Words.{Row, first_of}
+use Rattle.list_facts.specs.Writers.{AddsUpTo}
+use Rattle.workspace_record.specs.Records.{Text}
+use Rattle.test_select_checks.specs.declared.select_error.SelectError.{SelectError}
+use Rattle.test_select_files.specs.Files.{Answer, SameAnswers}
+use Rattle.test_select_files.specs.Reading.{Asked, Asks, ReadsQuestion}
+use Rattle.test_select_files.specs.Verdicts.{WritesLine}
+use Rattle.test_select_files.specs.Words.{FileNames, files_named, word_or_empty}
+use Rattle.test_select_files.specs.declared.inputs.FeatureQuestion.{FeatureQuestion}
+use Rattle.test_select_files.specs.declared.run_failure.RunFailure.{RunFailure}
+use Rattle.test_select_files.specs.declared.run_failure.RunFailure.TheVariants as run
+use Rattle.test_select_files.proofs.ReadingFacts.{asks_such, asks_then, ends_by, ends_on}
+use Rattle.test_select.specs.Printing.{EndsReading, Prints, never}
+use Rattle.test_select.specs.Asking.{AsksForTestsOf, asks_in, filters_in, scope_in}
+use Rattle.test_select.specs.Runs.{AnswersQuestion, ExplainsQuestion}
+use Rattle.test_select_tests.specs.declared.asked_binaries.AskedBinaries.{AskedBinaries}
+use Rattle.test_select_tests.specs.declared.scope.LinkScope.{LinkScope}
+use Rattle.test_select.specs.Selections.{IsTextOf, Listings, PrintsShown, ReadsListings, ReadsTests, SaysWhy, Selects, ShowsTests, asks_for_json, tests_of}
+use Rattle.nextest_binaries.specs.Listers.{Shown, unasked}
+use Rattle.test_select_checks.specs.declared.select_error.SelectError.TheVariants.{Memory}
+use Rattle.test_select_tests.specs.Selections.{Selected}
+use Rattle.test_select_tests.specs.declared.reason.Reason.{Reason}
+use Rattle.test_select.specs.declared.failure.Failure.{Failure}
+use Rattle.test_select.specs.declared.failure.Failure.TheVariants.{BadPartition, BadGlob, NotBelow, NotText, Refused, Run}
+use Rattle.test_select.proofs.PrintingFacts.{beginning_prints, memory_prints, text_prints}
+
+-- ---- the files of a selection
+
+module _ {R : List ℕ → Text → Answer → List ℕ → Type 0} {s t : List ℕ} (words : List Row) (names : FileNames) (named : names ≡ files_named words) where
+  -- the question fails
+  pub question_fails : (f : RunFailure) (result : Result (FeatureQuestion × Listings) RunFailure) → IsErrAnd result (λ y. y ≡ f) → Asks R s t (ReadsQuestion names (Err f)) → Asks R s t (ReadsTests words result)
+  question_fails f (Ok x) is asks = absurd is
+  question_fails f (Err y) is asks =
+      subst (λ (f : RunFailure). Asks R s t (ReadsTests words (Err f))) (sym is)
+      (asks_such asks (λ a h. inl (subst (λ (n : FileNames). ReadsQuestion n (Err f) a) named h)))
+
+module _ {R Q : List ℕ → Text → Answer → List ℕ → Type 0} {s m t : List ℕ} (words : List Row) (names : FileNames) (named : names ≡ files_named words) (name : Text) (is_name : name ≡ word_or_empty (codes "listings") words) (q : FeatureQuestion) where
+  -- the question was read, and the listings fail
+  pub listings_fail : (f : RunFailure) (result : Result (FeatureQuestion × Listings) RunFailure) → IsErrAnd result (λ y. y ≡ f) → SameAnswers R Q → Asks R s m (ReadsQuestion names (Ok q)) → Asks Q m t (ReadsListings name (Err f)) → Asks R s t (ReadsTests words result)
+  listings_fail f (Ok x) is same first next = absurd is
+  listings_fail f (Err y) is same first next =
+      subst (λ (f : RunFailure). Asks R s t (ReadsTests words (Err f))) (sym is)
+      (asks_then same first next (λ a b h k. inr (record {
+        for_question = a;
+        for_listings = b;
+        in_order = refl;
+        question = q;
+        question_read = subst (λ (n : FileNames). ReadsQuestion n (Ok q) a) named h;
+        fails = subst (λ (n : Text). ReadsListings n (Err f) b) is_name k;
+      })))
+
+  -- both are read
+  pub tests_read : (listings : Listings) → SameAnswers R Q → Asks R s m (ReadsQuestion names (Ok q)) → Asks Q m t (ReadsListings name (Ok listings)) → Asks R s t (ReadsTests words (Ok (q, listings)))
+  tests_read listings same first next =
+      asks_then same first next (λ a b h k. record {
+        for_question = a;
+        for_listings = b;
+        in_order = refl;
+        question_read = subst (λ (n : FileNames). ReadsQuestion n (Ok q) a) named h;
+        listings_read = subst (λ (n : Text). ReadsListings n (Ok listings) b) is_name k;
+      })
+
+-- ---- how a command ends that reads these
+
+module _ {X : Type 0} (Reads : Result X RunFailure → Asked → Type 0) (Ends : X → Result (Unit {0}) Failure → Option Text → Option Text → Type 0)
+    {R : List ℕ → Text → Answer → List ℕ → Type 0} {s t : List ℕ} where
+  -- the files were read
+  pub reading_ends : (x : X) (result : Result (Unit {0}) Failure) (old new : Option Text) → Asks R s t (Reads (Ok x)) → Ends x result old new → Asks R s t (EndsReading Reads Ends result old new)
+  reading_ends x result old new asks ends =
+      ends_on Reads (λ x. Ends x result old new) (λ failure. (result ≡ Err (Run failure)) × (new ≡ old)) x asks ends
+
+  -- a file fails
+  pub reading_stops : (failure : RunFailure) (result : Result (Unit {0}) Failure) (old : Option Text) → IsErrAnd result (λ f. f ≡ Run failure) → Asks R s t (Reads (Err failure)) → Asks R s t (EndsReading Reads Ends result old old)
+  reading_stops failure (Ok x) old is asks = absurd is
+  reading_stops failure (Err f) old is asks =
+      ends_by Reads (λ x. Ends x (Err f) old old) (λ failure. (Err f ≡ Err (Run failure)) × (old ≡ old)) failure asks (ap (λ (g : Failure). Err g) is, refl)
+
+-- ---- what is printed
+
+module _ {A : Type 0} (Gives : Result A SelectError → Type 0) (IsText : A → Text → Type 0) (is_no : A → Bool) (answer : A) (given : Gives (Ok answer)) (old new : Option Text) where
+  -- a text of an answer that is no no is printed by another function
+  pub form_prints : (Shows : Text → Type 0) → is_no answer ≡ false → ((text : Text) → Shows text → IsText answer text) → (result : Result (Unit {0}) Failure) → Prints (λ (given : Result (Unit {0}) SelectError). given ≡ Ok tt) (λ nothing text. Shows text) never result old new → Prints Gives IsText is_no result old new
+  form_prints Shows means shown (Ok x) h = text_prints Gives IsText is_no answer given h.text (shown h.text h.is_text) old new means h.holds
+  form_prints Shows means shown (Err (Run run.CannotWrite)) h =
+      beginning_prints Gives IsText is_no answer given h.1.text (shown h.1.text h.1.is_text) old new (Err (Run run.CannotWrite)) refl h.1.holds
+  form_prints Shows means shown (Err (Run run.Memory)) h = h
+  form_prints Shows means shown (Err (Run run.Denied)) h = absurd (cc h.means)
+  form_prints Shows means shown (Err (Refused error)) h = absurd (cc h.0)
+  form_prints Shows means shown (Err (Run (run.CommandLine error))) h = absurd h
+  form_prints Shows means shown (Err (Run (run.CannotRead name))) h = absurd h
+  form_prints Shows means shown (Err (Run (run.BadFile name error))) h = absurd h
+  form_prints Shows means shown (Err (BadPartition text)) h = absurd h
+  form_prints Shows means shown (Err (NotText name)) h = absurd h
+  form_prints Shows means shown (Err (BadGlob text error)) h = absurd h
+  form_prints Shows means shown (Err (NotBelow path)) h = absurd h
+
+  -- the line of the answer is not written
+  pub line_fails : (line : Text) (is_text : IsText answer line) (failure : RunFailure) (result : Result (Unit {0}) Failure) → IsErrAnd result (λ f. f ≡ Run failure) → WritesLine line (Err failure) old new → Prints Gives IsText is_no result old new
+  line_fails line is_text failure (Ok x) is h = absurd is
+  line_fails line is_text failure (Err f) is h = subst (λ (g : Failure). Prints Gives IsText is_no (Err g) old new) (sym is) (by failure h)
+    where
+      by : (failure : RunFailure) → WritesLine line (Err failure) old new → Prints Gives IsText is_no (Err (Run failure)) old new
+      by run.CannotWrite h = beginning_prints Gives IsText is_no answer given line is_text old new (Err (Run run.CannotWrite)) refl h
+      by run.Memory h = h
+      by run.Denied h = absurd h
+      by (run.CommandLine error) h = absurd h
+      by (run.CannotRead name) h = absurd h
+      by (run.BadFile name error) h = absurd h
+
+-- ---- the text of a selection
+
+module _ (is_json : Bool) (tests : List (Text × Text)) where
+  -- memory ran out before the text was made
+  pub form_unmade : (result : Result (Unit {0}) Failure) (old : Option Text) → IsErrAnd result (λ f. f ≡ Run run.Memory) → PrintsShown is_json tests result old old
+  form_unmade = memory_prints (λ (given : Result (Unit {0}) SelectError). given ≡ Ok tt) (λ nothing text. ShowsTests is_json tests text) never
+
+  module _ (text : Text) (shows : ShowsTests is_json tests text) where
+    -- the output takes no more
+    pub form_begun : (old new : Option Text) (result : Result (Unit {0}) Failure) → IsErrAnd result (λ f. f ≡ Run run.CannotWrite) → (rest : Text) × AddsUpTo old new text rest → PrintsShown is_json tests result old new
+    form_begun = beginning_prints (λ (given : Result (Unit {0}) SelectError). given ≡ Ok tt) (λ nothing text. ShowsTests is_json tests text) never tt refl text shows
+
+    -- the whole text is printed
+    pub form_written : (old new : Option Text) → Appends old new text → PrintsShown is_json tests (Ok tt) old new
+    form_written old new = text_prints (λ (given : Result (Unit {0}) SelectError). given ≡ Ok tt) (λ nothing text. ShowsTests is_json tests text) never tt refl text shows old new refl
+
+-- in the form that is asked for
+pub form_asked : (asked is_json : Bool) (tests : List (Text × Text)) (result : Result (Unit {0}) Failure) (old new : Option Text) → asked ≡ is_json → PrintsShown is_json tests result old new → PrintsShown asked tests result old new
+form_asked asked is_json tests result old new is h = subst (λ (b : Bool). PrintsShown b tests result old new) (sym is) h
+
+-- in the form that the words ask for, of the part that they ask for
+pub text_of_part : (words : List Row) (selection : Selected) (is_json : Bool) (tests : List (Text × Text)) → is_json ≡ asks_for_json words → (part : Option (ℕ × ℕ)) × AsksForTestsOf words part × (tests ≡ tests_of part selection.chosen) → (text : Text) → ShowsTests is_json tests text → IsTextOf words selection text
+text_of_part words selection is_json tests form of text shows =
+    (of.0, of.1, subst (λ (b : Bool). ShowsTests b (tests_of of.0 selection.chosen) text) form (subst (λ (l : List (Text × Text)). ShowsTests is_json l text) of.2 shows))
+
+-- ---- where memory ran out before a lister was made
+
+module _ (words : List Row) (q : FeatureQuestion) (listings : Listings) where
+  -- a selection without one
+  pub memory_selects : (result : Result Selected SelectError) → IsErrAnd result (λ e. e ≡ Memory) → Selects words q listings result
+  memory_selects (Ok x) is = absurd is
+  memory_selects (Err e) is = subst (λ (e : SelectError). Selects words q listings (Err e)) (sym is) (unasked listings, inl refl)
+
+  -- an explanation without one
+  pub memory_says : (result : Result Reason SelectError) → IsErrAnd result (λ e. e ≡ Memory) → SaysWhy words q listings result
+  memory_says (Ok x) is = absurd is
+  memory_says (Err e) is = subst (λ (e : SelectError). SaysWhy words q listings (Err e)) (sym is) (unasked listings, inl refl)
+
+-- ---- by a lister that was asked nothing before
+
+module _ (words : List Row) (q : FeatureQuestion) (listings : Listings) where
+  -- the selection of such a lister
+  pub selected_by : (result : Result Selected SelectError) (scope : LinkScope) (texts : List Text) (asks : AskedBinaries) (old new : Shown) → scope ≡ scope_in words → texts ≡ filters_in words → asks ≡ asks_in words → old ≡ unasked listings → AnswersQuestion q scope texts asks old result new → Selects words q listings result
+  selected_by result scope texts asks old new is_scope are_texts are_asks is_old h = (
+    new,
+    subst (λ (s : LinkScope). AnswersQuestion q s (filters_in words) (asks_in words) (unasked listings) result new) is_scope
+        (subst (λ (l : List Text). AnswersQuestion q scope l (asks_in words) (unasked listings) result new) are_texts
+        (subst (λ (a : AskedBinaries). AnswersQuestion q scope texts a (unasked listings) result new) are_asks
+        (subst (λ (s : Shown). AnswersQuestion q scope texts asks s result new) is_old h))),
+  )
+
+  -- what such a lister explains
+  pub explained_by : (result : Result Reason SelectError) (scope : LinkScope) (texts : List Text) (id : Text) (test : Option Text) (old new : Shown) → scope ≡ scope_in words → texts ≡ filters_in words → id ≡ word_or_empty (codes "binary") words → test ≡ first_of (codes "test") words → old ≡ unasked listings → ExplainsQuestion q scope texts id test old result new → SaysWhy words q listings result
+  explained_by result scope texts id test old new is_scope are_texts is_id is_test is_old h = (
+    new,
+    subst (λ (s : LinkScope). ExplainsQuestion q s (filters_in words) (word_or_empty (codes "binary") words) (first_of (codes "test") words) (unasked listings) result new) is_scope
+        (subst (λ (l : List Text). ExplainsQuestion q scope l (word_or_empty (codes "binary") words) (first_of (codes "test") words) (unasked listings) result new) are_texts
+        (subst (λ (i : Text). ExplainsQuestion q scope texts i (first_of (codes "test") words) (unasked listings) result new) is_id
+        (subst (λ (t : Option Text). ExplainsQuestion q scope texts id t (unasked listings) result new) is_test
+        (subst (λ (s : Shown). ExplainsQuestion q scope texts id test s result new) is_old h)))),
+  )
