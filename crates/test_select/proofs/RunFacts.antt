@@ -1,10 +1,10 @@
 -- How a run of the program ends.
 use mathlib.Core.Bool.{false≢true, true≢false}
-use Rattle.std.proofs.Common.{◌≡◌, ◌∙◌, ◌∷◌, ℕ, Bool, false, List, [], append-nil, ap, ap₂, arith, inl, inr, refl, subst, sym, true, Result, Ok, Err, Bor}
+use Rattle.std.proofs.Common.{◌≡◌, ◌∙◌, ◌∷◌, ℕ, Bool, false, List, [], append-nil, ap, ap₂, arith, inl, inr, refl, subst, sym, true, Result, Ok, Err}
 use Rattle.std.specs.Prelude.{Option, Some, None, IfErr, IsErrAnd, codes, is_some, option_map, unwrap_or}
 use Rattle.std.specs.Option.{option_map_or}
 use Rattle.std.specs.Result.{is_ok}
-use Rattle.std.specs.Io.KnownBytes.{Appends, Keeps}
+use Rattle.std.specs.Io.KnownBytes.{Keeps}
 use Rattle.std.proofs.KnownBytes.{Appends-kept, Keeps-refl, Keeps-trans}
 use Rattle.clap.specs.Faults.{is_simple_and_free}
 use Rattle.clap.specs.Kinds.{HasKind, Kinds}
@@ -86,7 +86,7 @@ module _ (old mid new : Option Text) (kept : Keeps mid new) where
     checked = Ok tt;
     same = refl;
     verdict = λ q account p. (p.0, Appends-kept old mid new _ p.1 kept);
-    changed = λ words inputs p. tt;
+    changed = λ words inputs p. (p.0, p.1, Appends-kept old mid new _ p.2 kept);
     keeps = λ before. Keeps-trans old mid new before kept;
   }
 
@@ -97,7 +97,7 @@ module _ (old mid new : Option Text) (kept : Keeps mid new) where
     checked = Err run.CannotWrite;
     same = refl;
     verdict = λ q account p. (_, p.0, ([], record { front = _; whole = sym (append-nil _); added = Appends-kept old mid new _ p.1 kept }));
-    changed = λ words inputs p. tt;
+    changed = λ words inputs p. (p.0, p.1, ([], record { front = _; whole = sym (append-nil _); added = Appends-kept old mid new _ p.2 kept }));
     keeps = λ before. Keeps-trans old mid new before kept;
   }
 

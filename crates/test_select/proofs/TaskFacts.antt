@@ -1,5 +1,5 @@
 -- What `clap` is told of the program, and the task with a name.
-use Rattle.std.proofs.Common.{◌≡◌, ◌∙◌, ◌++◌, ◌∷◌, [], ℕ, ◌+◌, ◌<◌, Bool, false, List, length, map, ap, codes, cond, find, get_or, refl, take, true, None, Some, Result, Ok, Err, Bor}
+use Rattle.std.proofs.Common.{◌≡◌, ◌∙◌, ◌∷◌, [], ℕ, ◌+◌, ◌<◌, Bool, false, List, length, map, ap, codes, cond, find, get_or, refl, take, true, None, Some, Result, Ok, Err, Bor}
 use Rattle.std.specs.Prelude.{IfOk}
 use Rattle.std.specs.Option.{option_or}
 use Rattle.std.specs.declared.alloc.AllocError.{AllocError}

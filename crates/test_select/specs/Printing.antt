@@ -1,5 +1,5 @@
 -- How a command ends that prints what it answers.
-use Rattle.std.specs.Prelude.{◌≡◌, ℕ, List, Bool, true, false, Option, Result, Ok, Err}
+use Rattle.std.specs.Prelude.{◌≡◌, Bool, true, false, Option, Result, Ok, Err}
 use Rattle.std.specs.Io.KnownBytes.{Appends}
 use Rattle.list_facts.specs.Writers.{AddsUpTo}
 use Rattle.workspace_record.specs.Records.{Text}

@@ -1,17 +1,24 @@
 //! A filter for the tests that changes may turn out otherwise, printed.
 
-ghost use Rattle.std.specs.Prelude.{◌≡◌, ◌++◌, codes, IfErr, IfOk, string_bytes};
+ghost use Rattle.std.specs.Prelude.{◌≡◌, ◌++◌, codes, IfErr, IfOk, map, string_bytes};
 ghost use Rattle.clap.specs.Words.{found_of, rows_of};
+ghost use Rattle.guppy_package_table.specs.Tables.{TableValue};
+ghost use Rattle.nextest_filter_matchers.specs.Matchers.{tokens_of};
 ghost use Rattle.nextest_filter_syntax.specs.Trees.{tree_of};
 ghost use Rattle.nextest_filter_syntax.specs.TreeTexts.{tree_text};
+ghost use Rattle.test_select_changes.specs.Changes.{Changes};
+ghost use Rattle.test_select_checks.specs.Contexts.{IsDeclaredGraph, IsNeeded};
 ghost use Rattle.test_select_files.specs.Failures as reading;
 ghost use Rattle.test_select_files.specs.Files.{SameAnswers};
 ghost use Rattle.test_select_files.specs.Reading.{Asks, bytes_read, ReadsRecord};
 ghost use Rattle.test_select_files.specs.Words.{name_in};
 ghost use Rattle.test_select.specs.Changes.{
   EndsChanged,
+  FindsChanges,
+  GathersPaths,
   PrintsChanged,
   ReadsChanges,
+  ReadsGlobs,
   ReadsPaths,
 };
 ghost use Rattle.test_select.specs.Failures.{status_of};
@@ -143,6 +150,7 @@ fn changed_in<'a>(
     inputs: &ChangedInputs,
 ) -> Result<Changed, Failure<'a>>
     ensures status { IfErr result (λ f. status_of f ≡ 1) }
+    ensures changed { FindsChanges (rows_of (found_of asked.now)) inputs.now result }
 {
     let paths = all_paths(alloc, asked, &inputs.listed)?;
     let checked = match CheckedRecord::of(alloc, &inputs.workspace) {
@@ -167,6 +175,7 @@ fn all_paths<'l, 'a: 'l>(
     listed: &'l [u8],
 ) -> Result<Vec<&'l str>, Failure<'a>>
     ensures status { IfErr result (λ f. status_of f ≡ 1) }
+    ensures paths { GathersPaths (rows_of (found_of asked.entry.now)) listed.entry.now result }
 {
     let Ok(lines) = str::from_utf8(listed) else {
         return Err(Failure::NotText(paths_file(asked).unwrap_or("")));
@@ -184,7 +193,11 @@ fn changed_among(
     checked: &CheckedRecord<'_>,
     globs: &[GenericGlob],
     paths: &[&str],
-) -> Result<Changed, ChangedError> {
+) -> Result<Changed, ChangedError>
+    ensures changes { (graph : TableValue) × IsDeclaredGraph checked.now graph
+        × Changes graph (IsNeeded graph) (map (λ glob. tokens_of glob) globs.now)
+        (map (λ path. path.now) paths.now) result }
+{
     let needed = checked.graph().query_workspace(alloc)?.resolve(alloc)?;
     changed_packages(alloc, &needed, globs, paths)
 }
@@ -192,6 +205,7 @@ fn changed_among(
 /// The globs that the texts read as, or the first text that is none.
 fn globs_of<'a>(alloc: Global, texts: &[&'a str]) -> Result<Vec<GenericGlob>, Failure<'a>>
     ensures status { IfErr result (λ f. status_of f ≡ 1) }
+    ensures reads { ReadsGlobs (map (λ text. text.now) texts.now) result }
 {
     let mut globs = Vec::new(alloc);
     for text in texts {

@@ -1,6 +1,5 @@
-use Rattle.std.proofs.Common.{◌∙◌, ◌≡◌, ap, map, subst}
+use Rattle.std.proofs.Common.{◌∙◌, ap}
 use Rattle.workspace_record.specs.Records.{Workspace}
-use Rattle.test_select_features.specs.Switching.{IsServed}
 use Rattle.feature_account_making.specs.Sources.{sourced_rules}
 use Rattle.test_select.proofs.readable.rules_of.Goals as goal
 

@@ -1,6 +1,6 @@
 use Rattle.std.proofs.Common.{◌∙◌, ap₂, sym}
 use Rattle.std.proofs.lemmas.List.Sums.{fold_more}
-use Rattle.clap.specs.Words.{App, new_app, with_rule}
+use Rattle.clap.specs.Words.{new_app, with_rule}
 use Rattle.test_select_files.specs.Apps.{word_rule}
 use Rattle.test_select_files.proofs.AppFacts.{stays_local}
 use Rattle.test_select.specs.Tasks.{name_of, with_word}
