@@ -3,8 +3,9 @@
 ghost use Rattle.std.specs.Prelude.{◌≡◌, ◌≤◌, [], Err, IfErr, IfOk, map, Ok};
 ghost use Rattle.clap.specs.Words.{app_of, fault_of, kind_of, matches_of};
 ghost use Rattle.clap.specs.declared.error.ErrorKind.TheVariants.{OutOfMemory};
-ghost use Rattle.test_select_files.specs.Failures.{status_of};
+ghost use Rattle.test_select_files.specs.Failures.{failure_lines, status_of};
 ghost use Rattle.test_select_files.specs.Reading.{Asks};
+ghost use Rattle.test_select_files.specs.Telling.{Tells};
 ghost use Rattle.test_select_files.specs.Verdicts.{EndsCheck};
 ghost use Rattle.test_select_files.specs.declared.run_failure.RunFailure.TheVariants.{Memory};
 ghost use Rattle.check_account.specs.Checker.{checker};
@@ -14,7 +15,7 @@ use clap::{Command, Error};
 use std::alloc::{AllocError, Global};
 use std::convert::AsStr;
 use std::io::Write;
-use test_select_files::{FileSource, RunFailure, print_verdict};
+use test_select_files::{FileSource, RunFailure, print_verdict, tell};
 
 /// Runs the program on a command line, whose first word is the program's name, and answers the status
 /// that it ends with: 0 if the account is accepted, 1 if it or a file is refused, and 2 for a bad
@@ -39,12 +40,12 @@ pub(crate) fn run<S: AsStr, O: Write, E: Write>(
     ensures failed { result ≡ 1 → fault_of checker (map S.text words.now) ≡ []
         → (f : RunFailure) × Asks (answers files.old) (state files.old) (state files.new)
         (EndsCheck (matches_of checker (map S.text words.now)) (Err f) (O.contents out.old)
-        (O.contents out.new)) }
+        (O.contents out.new)) × Tells (failure_lines f) (E.contents err.old) (E.contents err.new) }
 {
     match try_run(alloc, words, files, out) {
         Ok(()) => 0,
         Err(failure) => {
-            let _ = write!(err, "{failure}");
+            tell(alloc, &failure, err);
             failure.status()
         }
     }

@@ -12,3 +12,4 @@ pub mod Copies
 pub mod Identities
 pub mod Printing
 pub mod Laws
+pub mod Faults

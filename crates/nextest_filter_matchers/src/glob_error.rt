@@ -1,18 +1,33 @@
 use std::alloc::{AllocError, Global};
+use std::{error, fmt};
 use thiserror::Error;
 
 /// Why a text is no glob.
-#[derive(Clone, Copy, Debug, PartialEq, Eq, Hash, Error)]
+#[derive(Clone, Copy, Debug, PartialEq, Eq, Hash)]
 pub enum GlobError {
-    #[error("unclosed character class; missing ']'")]
     UnclosedClass,
-    #[error("invalid range")]
     InvalidRange,
-    #[error("unopened alternate group; missing '{{'")]
     UnopenedAlternates,
-    #[error("unclosed alternate group; missing '}}'")]
     UnclosedAlternates,
 }
+
+impl fmt::Display for GlobError {
+    ghost use Rattle.std.specs.Prelude.{Some};
+    ghost use Rattle.nextest_filter_matchers.specs.Faults.{fault_text};
+
+    ghost output = { λ fault. Some (fault_text fault) };
+
+    fn fmt<W: fmt::Write>(&self, f: &mut fmt::Formatter<W>) -> fmt::Result {
+        f.write_str(match self {
+            GlobError::UnclosedClass => "unclosed character class; missing ']'",
+            GlobError::InvalidRange => "invalid range",
+            GlobError::UnopenedAlternates => "unopened alternate group; missing '{'",
+            GlobError::UnclosedAlternates => "unclosed alternate group; missing '}'",
+        })
+    }
+}
+
+impl error::Error for GlobError {}
 
 /// Why a matcher was not made of a text.
 #[derive(Debug, Drop, PartialEq, Eq, Error)]

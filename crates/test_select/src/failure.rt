@@ -1,10 +1,11 @@
 //! Why a run of the program ends early.
 
 ghost use Rattle.std.specs.Prelude.{◌≡◌};
+ghost use Rattle.std.specs.Fmt.{WritesOnOk};
 ghost use Rattle.clap.specs.Words.{kind_of};
 ghost use Rattle.clap.specs.declared.error.ErrorKind.TheVariants.{OutOfMemory};
 ghost use Rattle.test_select_files.specs.declared.run_failure.RunFailure.TheVariants.{CannotWrite, Memory};
-ghost use Rattle.test_select.specs.Failures.{status_of, unwritten};
+ghost use Rattle.test_select.specs.Failures.{bad_partition_lines, status_of, unwritten};
 ghost use Rattle.test_select.specs.declared.failure.Failure.TheVariants.{Refused, Run};
 
 use nextest_filter_syntax::GlobError;
@@ -47,6 +48,10 @@ impl Failure<'_> {
 
 /// The lines that tell of the failure, each with its line feed.
 impl fmt::Display for Failure<'_> {
+    ghost use Rattle.test_select.specs.Failures.{failure_lines};
+
+    ghost output = { λ failure. failure_lines failure };
+
     fn fmt<W: fmt::Write>(&self, f: &mut fmt::Formatter<W>) -> fmt::Result {
         match self {
             Failure::Run(failure) => write!(f, "{failure}"),
@@ -62,7 +67,9 @@ impl fmt::Display for Failure<'_> {
 }
 
 /// As `clap` tells of a value that it does not take.
-fn write_bad_partition<W: fmt::Write>(f: &mut fmt::Formatter<W>, text: &str) -> fmt::Result {
+fn write_bad_partition<W: fmt::Write>(f: &mut fmt::Formatter<W>, text: &str) -> fmt::Result
+    ensures { WritesOnOk W.write_str_gives f.old result (bad_partition_lines text.now) f.new }
+{
     writeln!(
         f,
         "error: invalid value '{text}' for '--partition <count:M/N>': expected M from 1 to N"

@@ -31,7 +31,7 @@ use clap::{ArgMatches, Error};
 use std::alloc::Global;
 use std::convert::AsStr;
 use std::io::Write;
-use test_select_files::{FileSource, print_verdict};
+use test_select_files::{FileSource, print_verdict, tell};
 
 // What was read is let go of here too: to leave it to the system would save a thirtieth of a run, and be
 // another function than the one that is promised and tested. A refused flush is `cannot write`, as is each
@@ -82,12 +82,13 @@ pub fn run<S: AsStr, O: Write, E: Write>(
     ensures quiet { result ≡ 0 → E.contents err.new ≡ E.contents err.old }
     ensures bad_words { result ≡ 2 → O.contents out.new ≡ O.contents out.old }
     ensures ends { EndsProgram (map S.text words.now) (answers files.old) (state files.old)
-        (state files.new) (O.contents out.old) (O.contents out.new) result }
+        (state files.new) (O.contents out.old) (O.contents out.new) (E.contents err.old)
+        (E.contents err.new) result }
 {
     match try_run(alloc, words, files, out) {
         Ok(()) => 0,
         Err(failure) => {
-            let _ = write!(err, "{failure}");
+            tell(alloc, &failure, err);
             failure.status()
         }
     }

@@ -2,3 +2,4 @@ pub mod AppFacts
 pub mod ReadingFacts
 pub mod VerdictFacts
 pub mod WordFacts
+pub mod TellingFacts

@@ -7,3 +7,4 @@ pub mod Reading
 pub mod Refusals
 pub mod Verdicts
 pub mod Words
+pub mod Telling

@@ -12,6 +12,7 @@ mod listed_files;
 mod main_parts;
 mod options;
 mod run_failure;
+mod telling;
 mod verdicts;
 
 pub use crate::command_line::{Program, Shape, Subcommand, Word};
@@ -23,4 +24,5 @@ pub use crate::options::{
     ACCOUNT, CHECK_HELP, CHOICE, QuestionFiles, RECORD, TABLE, account_file, named_files, required,
 };
 pub use crate::run_failure::RunFailure;
+pub use crate::telling::tell;
 pub use crate::verdicts::{print_verdict, verdict_line, verdict_on};

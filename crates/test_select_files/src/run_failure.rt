@@ -1,9 +1,10 @@
 //! Why a run of a program ends early.
 
 ghost use Rattle.std.specs.Prelude.{◌≡◌};
+ghost use Rattle.std.specs.Fmt.{WritesOnOk};
 ghost use Rattle.clap.specs.Words.{kind_of};
 ghost use Rattle.clap.specs.declared.error.ErrorKind.TheVariants.{OutOfMemory};
-ghost use Rattle.test_select_files.specs.Failures.{status_of};
+ghost use Rattle.test_select_files.specs.Failures.{bad_file_lines, status_of};
 ghost use Rattle.test_select_files.specs.Refusals.{refused, unread};
 ghost use Rattle.test_select_files.specs.declared.run_failure.RunFailure.TheVariants.{CannotWrite, Memory};
 
@@ -66,6 +67,10 @@ impl<'a> RunFailure<'a> {
 
 /// The lines that tell of the failure, each with its line feed.
 impl fmt::Display for RunFailure<'_> {
+    ghost use Rattle.test_select_files.specs.Failures.{failure_lines};
+
+    ghost output = { λ failure. failure_lines failure };
+
     fn fmt<W: fmt::Write>(&self, f: &mut fmt::Formatter<W>) -> fmt::Result {
         match self {
             RunFailure::CommandLine(error) => write!(f, "{error}"),
@@ -82,7 +87,9 @@ fn write_bad_file<W: fmt::Write>(
     f: &mut fmt::Formatter<W>,
     name: &str,
     error: &ReadError,
-) -> fmt::Result {
+) -> fmt::Result
+    ensures { WritesOnOk W.write_str_gives f.old result (bad_file_lines name.now error.now) f.new }
+{
     match error {
         ReadError::BadJson => writeln!(f, "{name}: bad JSON"),
         ReadError::BadShape(field) => writeln!(f, "{name}: bad shape at {field}"),

@@ -69,10 +69,11 @@ fn tests_in(
 ) -> Result<Vec<(String, String)>, AllocError>
     ensures { IfOk result (λ v. v.items ≡ part_of partition.part partition.parts tests.items) }
 {
-    tests
-        .into_iter()
-        .enumerate()
-        .filter(|(place, _)| partition.holds(*place))
-        .map(|(_, test)| test)
-        .collect(alloc)
+    let mut chosen = Vec::new(alloc);
+    for (place, test) in tests.into_iter().enumerate() {
+        if partition.holds(place) {
+            chosen.push(test)?;
+        }
+    }
+    Ok(chosen)
 }
