@@ -24,3 +24,4 @@ pub mod TellingFacts
 pub mod PartFacts
 pub mod PartitionReading
 pub mod GroupFacts
+pub mod OnceFacts

@@ -20,7 +20,7 @@ number_read text (Err x) o h e n =
     (λ w. absurd (h (w.numeral, subst (λ v. v < 2 ^ 64) w.value w.fits)), λ is. absurd (cc (e, is)))
 
 -- no slash stands among digits, behind a plus or not
-no_slash : (text : Text) → AllDigits 10 (without_leading_plus text) → (i : ℕ) → i < length text → get_or text i 0 ≢ 47
+pub no_slash : (text : Text) → AllDigits 10 (without_leading_plus text) → (i : ℕ) → i < length text → get_or text i 0 ≢ 47
 no_slash [] digits i lt = absurd (omega arith)
 no_slash (c ∷ cs) digits i lt = by (eqb c 43) refl i lt
   where
