@@ -23,7 +23,7 @@ status_of (NotBelow path) = 1
 -- what is told of a part that the command line does not name, as `clap` tells of a value that it does not take
 abbrev pub bad_partition_lines : Text → Text
 bad_partition_lines text =
-    codes "error: invalid value '" ++ text ++ codes "' for '--partition <count:M/N>': expected M from 1 to N\n\nFor more information, try '--help'.\n"
+    codes "error: invalid value '" ++ (text ++ codes "' for '--partition <count:M/N>': expected M from 1 to N\n\nFor more information, try '--help'.\n")
 
 -- the lines that tell of a failure
 abbrev pub failure_lines : Failure → Option Text
@@ -31,8 +31,8 @@ failure_lines (Run failure) = files.failure_lines failure
 failure_lines (Refused error) = Some (refusal_text error ++ codes "\n")
 failure_lines (BadPartition text) = Some (bad_partition_lines text.now)
 failure_lines (NotText name) = Some (name.now ++ codes ": not UTF-8\n")
-failure_lines (BadGlob text error) = Some (codes "ignore " ++ text.now ++ codes ": " ++ fault_text error ++ codes "\n")
-failure_lines (NotBelow path) = Some (codes "path " ++ string_bytes path ++ codes ": not below the workspace's root\n")
+failure_lines (BadGlob text error) = Some (codes "ignore " ++ (text.now ++ (codes ": " ++ (fault_text error ++ codes "\n"))))
+failure_lines (NotBelow path) = Some (codes "path " ++ (string_bytes path ++ codes ": not below the workspace's root\n"))
 
 -- why a text was not written whole: memory ran out before anything was, or the output takes no more
 abbrev pub unwritten : WriteAccountError → RunFailure

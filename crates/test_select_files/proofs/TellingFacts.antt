@@ -1,7 +1,7 @@
 -- What a write of a failure's lines leaves on standard error.
-use Rattle.std.proofs.Common.{◌≡◌, ◌⊎◌, inl, inr, sym, ◌∙◌, List, [], ℕ, ◌++◌, Option, Some, None, IfSome, Result, Ok, Err, codes}
+use Rattle.std.proofs.Common.{◌≡◌, ◌⊎◌, inl, inr, sym, List, [], ℕ, Option, IfSome, Result, Ok, Err, codes}
 use mathlib.Core.List.{append-nil}
-use Rattle.list_facts.specs.Writers.{AddsUpTo, Writes}
+use Rattle.list_facts.specs.Writers.{Writes}
 use Rattle.test_select_files.specs.Telling.{Tells}
 
 module _ {T E : Type 0} (lines old new : Option (List ℕ)) (told : List ℕ) where

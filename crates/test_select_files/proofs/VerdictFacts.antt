@@ -7,7 +7,7 @@ use Rattle.workspace_record.specs.Records.{Text}
 use Rattle.clap.specs.Words.{Row}
 use Rattle.record_files.specs.Accounts.{AccountValue}
 use Rattle.test_select_files.specs.Files.{Answer}
-use Rattle.test_select_files.specs.Reading.{Asks, EndsAfter, ReadsCheck}
+use Rattle.test_select_files.specs.Reading.{Asks, ReadsCheck}
 use Rattle.test_select_files.specs.Verdicts.{EndsCheck, PrintsVerdict, WritesLine}
 use Rattle.test_select_files.specs.declared.inputs.FeatureQuestion.{FeatureQuestion}
 use Rattle.test_select_files.proofs.ReadingFacts.{ends_by, ends_on}

@@ -3,6 +3,7 @@ use Rattle.std.specs.Prelude.{ℕ, ◌++◌, [], Option, Some, None, codes}
 use Rattle.workspace_record.specs.Records.{Text}
 use Rattle.record_files.specs.Faults.{fault_of, fault_text}
 use Rattle.record_files.specs.declared.error.ReadError.{ReadError}
+use Rattle.record_files.specs.declared.field.Field.{Field}
 use Rattle.record_files.specs.declared.error.ReadError.TheVariants as read
 use Rattle.test_select_files.specs.declared.run_failure.RunFailure.{RunFailure}
 use Rattle.test_select_files.specs.declared.run_failure.RunFailure.TheVariants.{CommandLine, CannotRead, BadFile, Denied, CannotWrite, Memory}
@@ -16,16 +17,20 @@ status_of Denied = 1
 status_of CannotWrite = 1
 status_of Memory = 1
 
+-- what is said of a file whose shape is wrong
+abbrev pub bad_shape_line : Text → Field → Text
+bad_shape_line name field = name ++ (codes ": bad shape at " ++ (fault_text (fault_of field) ++ codes "\n"))
+
 -- what is said of a file that was read and is refused
 abbrev pub bad_file_lines : Text → ReadError → Text
 bad_file_lines name read.BadJson = name ++ codes ": bad JSON\n"
-bad_file_lines name (read.BadShape field) = name ++ codes ": bad shape at " ++ fault_text (fault_of field) ++ codes "\n"
+bad_file_lines name (read.BadShape field) = bad_shape_line name field
 bad_file_lines name read.Memory = codes "out of memory\n"
 
 -- the lines that tell of a failure; of a bad command line `clap` tells, and of what is denied the output
 abbrev pub failure_lines : RunFailure → Option Text
 failure_lines (CommandLine error) = None
-failure_lines (CannotRead name) = Some (codes "cannot read " ++ name.now ++ codes "\n")
+failure_lines (CannotRead name) = Some (codes "cannot read " ++ (name.now ++ codes "\n"))
 failure_lines (BadFile name error) = Some (bad_file_lines name.now error)
 failure_lines Denied = Some []
 failure_lines CannotWrite = Some (codes "cannot write\n")

@@ -4,13 +4,13 @@ ghost use Rattle.std.specs.Prelude.{◌≡◌};
 ghost use Rattle.std.specs.Fmt.{WritesOnOk};
 ghost use Rattle.clap.specs.Words.{kind_of};
 ghost use Rattle.clap.specs.declared.error.ErrorKind.TheVariants.{OutOfMemory};
-ghost use Rattle.test_select_files.specs.Failures.{bad_file_lines, status_of};
+ghost use Rattle.test_select_files.specs.Failures.{bad_shape_line, status_of};
 ghost use Rattle.test_select_files.specs.Refusals.{refused, unread};
 ghost use Rattle.test_select_files.specs.declared.run_failure.RunFailure.TheVariants.{CannotWrite, Memory};
 
 use crate::file_source::FileFault;
 use clap::error::ErrorKind;
-use record_files::ReadError;
+use record_files::{Field, ReadError};
 use std::alloc::{AllocError, AllocFailed};
 use std::{fmt, io};
 
@@ -74,8 +74,12 @@ impl fmt::Display for RunFailure<'_> {
     fn fmt<W: fmt::Write>(&self, f: &mut fmt::Formatter<W>) -> fmt::Result {
         match self {
             RunFailure::CommandLine(error) => write!(f, "{error}"),
-            RunFailure::CannotRead(name) => writeln!(f, "cannot read {name}"),
-            RunFailure::BadFile(name, error) => write_bad_file(f, name, error),
+            RunFailure::CannotRead(name) => write!(f, "cannot read {name}\n"),
+            RunFailure::BadFile(name, ReadError::BadJson) => write!(f, "{name}: bad JSON\n"),
+            RunFailure::BadFile(name, ReadError::BadShape(field)) => write_bad_shape(
+                f, name, field,
+            ),
+            RunFailure::BadFile(_, ReadError::Memory) => f.write_str("out of memory\n"),
             RunFailure::Denied => Ok(()),
             RunFailure::CannotWrite => f.write_str("cannot write\n"),
             RunFailure::Memory => f.write_str("out of memory\n"),
@@ -83,18 +87,14 @@ impl fmt::Display for RunFailure<'_> {
     }
 }
 
-fn write_bad_file<W: fmt::Write>(
+fn write_bad_shape<W: fmt::Write>(
     f: &mut fmt::Formatter<W>,
     name: &str,
-    error: &ReadError,
+    field: &Field,
 ) -> fmt::Result
-    ensures { WritesOnOk W.write_str_gives f.old result (bad_file_lines name.now error.now) f.new }
+    ensures { WritesOnOk W.write_str_gives f.old result (bad_shape_line name.now field.now) f.new }
 {
-    match error {
-        ReadError::BadJson => writeln!(f, "{name}: bad JSON"),
-        ReadError::BadShape(field) => writeln!(f, "{name}: bad shape at {field}"),
-        ReadError::Memory => f.write_str("out of memory\n"),
-    }
+    write!(f, "{name}: bad shape at {field}\n")
 }
 
 impl From<clap::Error> for RunFailure<'_> {
