@@ -55,12 +55,12 @@ impl fmt::Display for Failure<'_> {
     fn fmt<W: fmt::Write>(&self, f: &mut fmt::Formatter<W>) -> fmt::Result {
         match self {
             Failure::Run(failure) => write!(f, "{failure}"),
-            Failure::Refused(error) => writeln!(f, "{error}"),
+            Failure::Refused(error) => write!(f, "{error}\n"),
             Failure::BadPartition(text) => write_bad_partition(f, text),
-            Failure::NotText(name) => writeln!(f, "{name}: not UTF-8"),
-            Failure::BadGlob(text, error) => writeln!(f, "ignore {text}: {error}"),
+            Failure::NotText(name) => write!(f, "{name}: not UTF-8\n"),
+            Failure::BadGlob(text, error) => write!(f, "ignore {text}: {error}\n"),
             Failure::NotBelow(path) => {
-                writeln!(f, "path {path}: not below the workspace's root")
+                write!(f, "path {path}: not below the workspace's root\n")
             }
         }
     }
@@ -70,11 +70,10 @@ impl fmt::Display for Failure<'_> {
 fn write_bad_partition<W: fmt::Write>(f: &mut fmt::Formatter<W>, text: &str) -> fmt::Result
     ensures { WritesOnOk W.write_str_gives f.old result (bad_partition_lines text.now) f.new }
 {
-    writeln!(
+    write!(
         f,
-        "error: invalid value '{text}' for '--partition <count:M/N>': expected M from 1 to N"
-    )?;
-    f.write_str("\nFor more information, try '--help'.\n")
+        "error: invalid value '{text}' for '--partition <count:M/N>': expected M from 1 to N\n\nFor more information, try '--help'.\n"
+    )
 }
 
 impl<'a> From<RunFailure<'a>> for Failure<'a> {
