@@ -28,42 +28,6 @@ use Rattle.test_select.specs.declared.failure.Failure.{Failure}
 use Rattle.test_select.specs.declared.failure.Failure.TheVariants.{BadPartition, BadGlob, NotBelow, NotText, Refused, Run}
 use Rattle.test_select.proofs.PrintingFacts.{beginning_prints, memory_prints, text_prints}
 
--- ---- the files of a selection
-
-module _ {R : List ℕ → Text → Answer → List ℕ → Type 0} {s t : List ℕ} (words : List Row) (names : FileNames) (named : names ≡ files_named words) where
-  -- the question fails
-  pub question_fails : (f : RunFailure) (result : Result (FeatureQuestion × Listings) RunFailure) → IsErrAnd result (λ y. y ≡ f) → Asks R s t (ReadsQuestion names (Err f)) → Asks R s t (ReadsTests words result)
-  question_fails f (Ok x) is asks = absurd is
-  question_fails f (Err y) is asks =
-      subst (λ (f : RunFailure). Asks R s t (ReadsTests words (Err f))) (sym is)
-      (asks_such asks (λ a h. inl (subst (λ (n : FileNames). ReadsQuestion n (Err f) a) named h)))
-
-module _ {R Q : List ℕ → Text → Answer → List ℕ → Type 0} {s m t : List ℕ} (words : List Row) (names : FileNames) (named : names ≡ files_named words) (name : Text) (is_name : name ≡ word_or_empty (codes "listings") words) (q : FeatureQuestion) where
-  -- the question was read, and the listings fail
-  pub listings_fail : (f : RunFailure) (result : Result (FeatureQuestion × Listings) RunFailure) → IsErrAnd result (λ y. y ≡ f) → SameAnswers R Q → Asks R s m (ReadsQuestion names (Ok q)) → Asks Q m t (ReadsListings name (Err f)) → Asks R s t (ReadsTests words result)
-  listings_fail f (Ok x) is same first next = absurd is
-  listings_fail f (Err y) is same first next =
-      subst (λ (f : RunFailure). Asks R s t (ReadsTests words (Err f))) (sym is)
-      (asks_then same first next (λ a b h k. inr (record {
-        for_question = a;
-        for_listings = b;
-        in_order = refl;
-        question = q;
-        question_read = subst (λ (n : FileNames). ReadsQuestion n (Ok q) a) named h;
-        fails = subst (λ (n : Text). ReadsListings n (Err f) b) is_name k;
-      })))
-
-  -- both are read
-  pub tests_read : (listings : Listings) → SameAnswers R Q → Asks R s m (ReadsQuestion names (Ok q)) → Asks Q m t (ReadsListings name (Ok listings)) → Asks R s t (ReadsTests words (Ok (q, listings)))
-  tests_read listings same first next =
-      asks_then same first next (λ a b h k. record {
-        for_question = a;
-        for_listings = b;
-        in_order = refl;
-        question_read = subst (λ (n : FileNames). ReadsQuestion n (Ok q) a) named h;
-        listings_read = subst (λ (n : Text). ReadsListings n (Ok listings) b) is_name k;
-      })
-
 -- ---- how a command ends that reads these
 
 module _ {X : Type 0} (Reads : Result X RunFailure → Asked → Type 0) (Ends : X → Result (Unit {0}) Failure → Option Text → Option Text → Type 0)

@@ -9,7 +9,7 @@ use Rattle.record_files.specs.Listings.{listing, listings_file}
 use Rattle.record_writing.specs.Maps.{listings_line}
 use Rattle.nextest_binaries.specs.Listers.{Shown, unasked}
 use Rattle.test_select_checks.specs.declared.select_error.SelectError.{SelectError}
-use Rattle.test_select_files.specs.Reading.{Asked, ReadsAs, ReadsQuestion}
+use Rattle.test_select_files.specs.Reading.{Asked, ReadsAs, ReadsBoth, ReadsQuestion}
 use Rattle.test_select_files.specs.Words.{files_named, word_or_empty}
 use Rattle.test_select_files.specs.declared.inputs.FeatureQuestion.{FeatureQuestion}
 use Rattle.test_select_files.specs.declared.run_failure.RunFailure.{RunFailure}
@@ -35,27 +35,9 @@ Listings = BTreeMap (String Global) (Vec (String Global) Global)
 abbrev pub ReadsListings : Text → Result Listings RunFailure → Asked → Type 0
 ReadsListings = ReadsAs (λ (m : Listings). map listing m.entries) listings_file
 
--- the question and then the listings were read
-pub record AreTestsRead (words : List Row) (q : FeatureQuestion) (listings : Listings) (asked : Asked) : Type 0 where
-  pub for_question : Asked
-  pub for_listings : Asked
-  pub in_order : asked ≡ for_question ++ for_listings
-  pub question_read : ReadsQuestion (files_named words) (Ok q) for_question
-  pub listings_read : ReadsListings (word_or_empty (codes "listings") words) (Ok listings) for_listings
-
--- the question was read, and then the listings failed
-pub record ListingsFail (words : List Row) (failure : RunFailure) (asked : Asked) : Type 0 where
-  pub for_question : Asked
-  pub for_listings : Asked
-  pub in_order : asked ≡ for_question ++ for_listings
-  pub question : FeatureQuestion
-  pub question_read : ReadsQuestion (files_named words) (Ok question) for_question
-  pub fails : ReadsListings (word_or_empty (codes "listings") words) (Err failure) for_listings
-
--- the files of a selection that the words name, or why the first one that failed did
+-- the question and the listings that the words name
 abbrev pub ReadsTests : List Row → Result (FeatureQuestion × Listings) RunFailure → Asked → Type 0
-ReadsTests words (Ok files) asked = AreTestsRead words files.0 files.1 asked
-ReadsTests words (Err failure) asked = ReadsQuestion (files_named words) (Err failure) asked ⊎ ListingsFail words failure asked
+ReadsTests = ReadsBoth (λ (m : Listings). map listing m.entries) listings_file (codes "listings")
 
 -- ---- the binaries that are asked
 

@@ -1,6 +1,6 @@
 -- What follows of files that were asked for.
 use Rattle.std.proofs.Common.{◌≡◌, ◌++◌, ℕ, List, [], ◌∷◌, refl, subst, inl, inr, sym, ap, Result, Ok, Err}
-use Rattle.std.specs.Prelude.{Option, Some, IsErrAnd, codes}
+use Rattle.std.specs.Prelude.{Option, Some, IsErrAnd}
 use Rattle.std.specs.Borrow.{Bor}
 use Rattle.serde_json.specs.Data.{Data}
 use Rattle.workspace_record.specs.Choices.{Choice}
@@ -10,8 +10,7 @@ use Rattle.record_files.specs.Files.{ReadsFile}
 use Rattle.record_files.specs.declared.error.ReadError.{ReadError}
 use Rattle.record_files.specs.declared.error.ReadError.TheVariants as error
 use Rattle.test_select_files.specs.Files.{Answer, Answered, SameAnswers}
-use Rattle.record_files.specs.Accounts.{AccountValue}
-use Rattle.test_select_files.specs.Reading.{Asked, Asks, EndsAfter, ReadsAccount, ReadsAs, ReadsBytes, ReadsCheck, ReadsChoice, ReadsIfNamed, ReadsQuestion, ReadsRecord, ReadsTable}
+use Rattle.test_select_files.specs.Reading.{Asked, Asks, EndsAfter, ReadsAs, ReadsBoth, ReadsBytes, ReadsChoice, ReadsIfNamed, ReadsQuestion, ReadsRecord, ReadsTable}
 use Rattle.test_select_files.specs.Refusals.{accepted, unread}
 use Rattle.test_select_files.specs.Words.{FileNames, files_named, name_in, word_or_empty}
 use Rattle.clap.specs.Words.{Row}
@@ -138,41 +137,41 @@ module _ {R Q P : List ℕ → Text → Answer → List ℕ → Type 0} {s m n t
         table = k;
       })
 
--- ---- the files of a check
+-- ---- a question and one more file
 
-module _ {R : List ℕ → Text → Answer → List ℕ → Type 0} {s t : List ℕ} (words : List Row) (names : FileNames) (named : names ≡ files_named words) where
+module _ {X Y : Type 0} (shows : X → Y) (format : Data → Result Y Fault) (word : Text) (words : List Row) (names : FileNames) (named : names ≡ files_named words) where
   -- the question fails
-  pub question_fails : (f : RunFailure) (result : Result (FeatureQuestion × AccountValue) RunFailure) → IsErrAnd result (λ y. y ≡ f) → Asks R s t (ReadsQuestion names (Err f)) → Asks R s t (ReadsCheck words result)
+  pub question_fails : {R : List ℕ → Text → Answer → List ℕ → Type 0} {s t : List ℕ} (f : RunFailure) (result : Result (FeatureQuestion × X) RunFailure) → IsErrAnd result (λ y. y ≡ f) → Asks R s t (ReadsQuestion names (Err f)) → Asks R s t (ReadsBoth shows format word words result)
   question_fails f (Ok x) is asks = absurd is
-  question_fails f (Err y) is asks =
-      subst (λ (f : RunFailure). Asks R s t (ReadsCheck words (Err f))) (sym is)
+  question_fails {R} {s} {t} f (Err y) is asks =
+      subst (λ (f : RunFailure). Asks R s t (ReadsBoth shows format word words (Err f))) (sym is)
       (asks_such asks (λ a h. inl (subst (λ (n : FileNames). ReadsQuestion n (Err f) a) named h)))
 
-module _ {R Q : List ℕ → Text → Answer → List ℕ → Type 0} {s m t : List ℕ} (words : List Row) (names : FileNames) (named : names ≡ files_named words) (name : Text) (is_name : name ≡ word_or_empty (codes "account") words) (q : FeatureQuestion) where
-  -- the question was read, and the account fails
-  pub account_fails : (f : RunFailure) (result : Result (FeatureQuestion × AccountValue) RunFailure) → IsErrAnd result (λ y. y ≡ f) → SameAnswers R Q → Asks R s m (ReadsQuestion names (Ok q)) → Asks Q m t (ReadsAccount name (Err f)) → Asks R s t (ReadsCheck words result)
-  account_fails f (Ok x) is same first next = absurd is
-  account_fails f (Err y) is same first next =
-      subst (λ (f : RunFailure). Asks R s t (ReadsCheck words (Err f))) (sym is)
-      (asks_then same first next (λ a b h k. inr (record {
-        for_question = a;
-        for_account = b;
-        in_order = refl;
-        question = q;
-        question_read = subst (λ (n : FileNames). ReadsQuestion n (Ok q) a) named h;
-        fails = subst (λ (n : Text). ReadsAccount n (Err f) b) is_name k;
-      })))
+  module _ {R Q : List ℕ → Text → Answer → List ℕ → Type 0} {s m t : List ℕ} (name : Text) (is_name : name ≡ word_or_empty word words) (q : FeatureQuestion) where
+    -- the question was read, and the file fails
+    pub fails_with_file : (f : RunFailure) (result : Result (FeatureQuestion × X) RunFailure) → IsErrAnd result (λ y. y ≡ f) → SameAnswers R Q → Asks R s m (ReadsQuestion names (Ok q)) → Asks Q m t (ReadsAs shows format name (Err f)) → Asks R s t (ReadsBoth shows format word words result)
+    fails_with_file f (Ok x) is same first next = absurd is
+    fails_with_file f (Err y) is same first next =
+        subst (λ (f : RunFailure). Asks R s t (ReadsBoth shows format word words (Err f))) (sym is)
+        (asks_then same first next (λ a b h k. inr (record {
+          for_question = a;
+          for_file = b;
+          in_order = refl;
+          question = q;
+          question_read = subst (λ (n : FileNames). ReadsQuestion n (Ok q) a) named h;
+          fails = subst (λ (n : Text). ReadsAs shows format n (Err f) b) is_name k;
+        })))
 
-  -- both are read
-  pub check_read : (account : AccountValue) → SameAnswers R Q → Asks R s m (ReadsQuestion names (Ok q)) → Asks Q m t (ReadsAccount name (Ok account)) → Asks R s t (ReadsCheck words (Ok (q, account)))
-  check_read account same first next =
-      asks_then same first next (λ a b h k. record {
-        for_question = a;
-        for_account = b;
-        in_order = refl;
-        question_read = subst (λ (n : FileNames). ReadsQuestion n (Ok q) a) named h;
-        account_read = subst (λ (n : Text). ReadsAccount n (Ok account) b) is_name k;
-      })
+    -- both are read
+    pub read_with_file : (value : X) → SameAnswers R Q → Asks R s m (ReadsQuestion names (Ok q)) → Asks Q m t (ReadsAs shows format name (Ok value)) → Asks R s t (ReadsBoth shows format word words (Ok (q, value)))
+    read_with_file value same first next =
+        asks_then same first next (λ a b h k. record {
+          for_question = a;
+          for_file = b;
+          in_order = refl;
+          question_read = subst (λ (n : FileNames). ReadsQuestion n (Ok q) a) named h;
+          file_read = subst (λ (n : Text). ReadsAs shows format n (Ok value) b) is_name k;
+        })
 
 -- ---- how a run ends
 

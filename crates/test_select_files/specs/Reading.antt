@@ -140,27 +140,34 @@ ReadsQuestion names (Ok q) asked = IsQuestionRead names q asked
 ReadsQuestion names (Err failure) asked =
     ReadsRecord names.workspace (Err failure) asked ⊎ (ChoiceFails names failure asked ⊎ TableFails names failure asked)
 
--- the question and the account were read, in this order
-pub record IsCheckRead (words : List Row) (q : FeatureQuestion) (account : AccountValue) (asked : Asked) : Type 0 where
-  pub for_question : Asked
-  pub for_account : Asked
-  pub in_order : asked ≡ for_question ++ for_account
-  pub question_read : ReadsQuestion (files_named words) (Ok q) for_question
-  pub account_read : ReadsAccount (word_or_empty (codes "account") words) (Ok account) for_account
+-- ---- a question and one more file, which a word names
 
--- the question was read, and then the account failed
-pub record AccountFails (words : List Row) (failure : RunFailure) (asked : Asked) : Type 0 where
-  pub for_question : Asked
-  pub for_account : Asked
-  pub in_order : asked ≡ for_question ++ for_account
-  pub question : FeatureQuestion
-  pub question_read : ReadsQuestion (files_named words) (Ok question) for_question
-  pub fails : ReadsAccount (word_or_empty (codes "account") words) (Err failure) for_account
+module _ {X Y : Type 0} (shows : X → Y) (format : Data → Result Y Fault) (word : Text) (words : List Row) where
+  -- the question and then the file were read
+  pub record AreBothRead (q : FeatureQuestion) (value : X) (asked : Asked) : Type 0 where
+    pub for_question : Asked
+    pub for_file : Asked
+    pub in_order : asked ≡ for_question ++ for_file
+    pub question_read : ReadsQuestion (files_named words) (Ok q) for_question
+    pub file_read : ReadsAs shows format (word_or_empty word words) (Ok value) for_file
 
--- the question and the account that the words name, or why the first file that failed did
+  -- the question was read, and then the file failed
+  pub record FileFailsAfter (failure : RunFailure) (asked : Asked) : Type 0 where
+    pub for_question : Asked
+    pub for_file : Asked
+    pub in_order : asked ≡ for_question ++ for_file
+    pub question : FeatureQuestion
+    pub question_read : ReadsQuestion (files_named words) (Ok question) for_question
+    pub fails : ReadsAs shows format (word_or_empty word words) (Err failure) for_file
+
+  -- what was read of both, or why the first file that failed did
+  abbrev pub ReadsBoth : Result (FeatureQuestion × X) RunFailure → Asked → Type 0
+  ReadsBoth (Ok both) asked = AreBothRead both.0 both.1 asked
+  ReadsBoth (Err failure) asked = ReadsQuestion (files_named words) (Err failure) asked ⊎ FileFailsAfter failure asked
+
+-- the question and the account that the words name
 abbrev pub ReadsCheck : List Row → Result (FeatureQuestion × AccountValue) RunFailure → Asked → Type 0
-ReadsCheck words (Ok files) asked = IsCheckRead words files.0 files.1 asked
-ReadsCheck words (Err failure) asked = ReadsQuestion (files_named words) (Err failure) asked ⊎ AccountFails words failure asked
+ReadsCheck = ReadsBoth (λ (a : AccountValue). a) account_file (codes "account")
 
 module _ {X : Type 0} (Reads : Result X RunFailure → Asked → Type 0) (asked : Asked) where
   -- something was read, and this came of it
