@@ -10,7 +10,7 @@ ghost use Rattle.test_select_changes.specs.Changes.{Changes};
 ghost use Rattle.test_select_checks.specs.Contexts.{IsDeclaredGraph, IsNeeded};
 ghost use Rattle.test_select_files.specs.Failures as reading;
 ghost use Rattle.test_select_files.specs.Files.{SameAnswers};
-ghost use Rattle.test_select_files.specs.Reading.{Asks, bytes_read, ReadsRecord};
+ghost use Rattle.test_select_files.specs.Reading.{Asks, bytes_read};
 ghost use Rattle.test_select_files.specs.Words.{name_in};
 ghost use Rattle.test_select.specs.Changes.{
   EndsChanged,
@@ -28,13 +28,12 @@ use crate::failure::Failure;
 use clap::ArgMatches;
 use list_facts::write_bytes;
 use nextest_filter_syntax::{GenericGlob, ParsedExpr};
-use record_files::read_record;
 use std::alloc::{AllocError, Global};
 use std::io::Write;
 use std::str;
 use test_select_changes::{Changed, ChangedError, changed_filter, changed_packages};
 use test_select_checks::{CheckedRecord, SelectError};
-use test_select_files::{FileSource, RunFailure, accepted, bytes_in, required};
+use test_select_files::{FileSource, RunFailure, bytes_in, record_in, required};
 use workspace_record::WorkspaceRecord;
 
 /// What the command works on: the record, and the bytes of the file of paths.
@@ -84,20 +83,6 @@ fn changed_inputs<'a>(
     let workspace = record_in(alloc, required(asked, "record"), files)?;
     let listed = listed_paths(alloc, paths_file(asked), files)?;
     Ok(ChangedInputs { workspace, listed })
-}
-
-fn record_in<'a>(
-    alloc: Global,
-    name: &'a str,
-    files: &mut dyn FileSource,
-) -> Result<WorkspaceRecord, RunFailure<'a>>
-    ensures status { IfErr result (λ f. reading.status_of f ≡ 1) }
-    ensures reads { Asks (answers files.old) (state files.old) (state files.new)
-        (ReadsRecord name.now result) }
-    ensures same { SameAnswers (answers files.old) (answers files.new) }
-{
-    let bytes = bytes_in(alloc, name, files)?;
-    accepted(name, read_record(alloc, &bytes))
 }
 
 /// The bytes of the file of paths; none where none is named.

@@ -66,7 +66,8 @@ pub fn feature_question<'a>(
     })
 }
 
-fn record_in<'a>(
+/// The record in the file with this name.
+pub fn record_in<'a>(
     alloc: Global,
     name: &'a str,
     files: &mut dyn FileSource,

@@ -17,7 +17,9 @@ mod verdicts;
 
 pub use crate::command_line::{Program, Shape, Subcommand, Word};
 pub use crate::file_source::{FileFault, FileSource, SystemFiles};
-pub use crate::inputs::{FeatureQuestion, accepted, account_in, bytes_in, feature_question};
+pub use crate::inputs::{
+    FeatureQuestion, accepted, account_in, bytes_in, feature_question, record_in,
+};
 pub use crate::listed_files::{ListedFile, ListedFiles};
 pub use crate::main_parts::{exit_code, words};
 pub use crate::options::{
