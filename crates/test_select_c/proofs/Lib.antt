@@ -1,1 +1,2 @@
 pub mod PieceFacts
+pub mod CallFacts

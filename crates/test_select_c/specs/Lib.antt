@@ -1,3 +1,5 @@
 pub mod Pieces
 pub mod PieceViews
 pub mod Rooms
+pub mod Calls
+pub mod CallParts

@@ -1,10 +1,13 @@
 //! What a call prints, before it is written into the caller's rooms.
 
-ghost use Rattle.std.specs.Prelude.{◌≡◌, ◌≤◌, ◌⊎◌, length, IfOk, IsSome, ◌↔◌};
+ghost use Rattle.std.specs.Prelude.{◌≡◌, ◌≤◌, ◌⊎◌, length, IfOk, IfSome, IsSome, ◌↔◌};
+ghost use Rattle.test_select_c.specs.Calls.{LacksMemory, Prints};
+ghost use Rattle.test_select_c.specs.CallParts.{EndsOver, IsTakenFrom};
 ghost use Rattle.test_select_c.specs.Pieces.{IsCall};
 
 use crate::MALFORMED;
 use crate::pieces::{files_of, words_of};
+use list_facts::write_bytes;
 use std::alloc::{AllocError, Global};
 use test_select::run;
 use test_select_files::{ListedFile, ListedFiles};
@@ -29,6 +32,8 @@ pub(crate) fn printed_by(alloc: Global, words: &[u8], files: &[u8]) -> Printed
     ensures statuses { (result.status ≤ 2) ⊎ (result.status ≡ 4) }
     ensures called { IsCall words.now files.now → result.status ≤ 2 }
     ensures malformed { result.status ≡ 4 → IsCall words.now files.now → ⊥ }
+    ensures prints { IsCall words.now files.now
+        → Prints words.now files.now result.out.items result.err.items result.status }
     ensures quiet { result.status ≡ 0 → length result.err.items ≡ 0 }
     ensures bad_words { result.status ≡ 2 → length result.out.items ≡ 0 }
 {
@@ -44,7 +49,9 @@ fn call_of<'a>(
     words: &'a [u8],
     files: &'a [u8],
 ) -> Result<Option<Call<'a>>, AllocError>
-    ensures { IfOk result (λ found. IsSome found ↔ IsCall words.entry.now files.entry.now) }
+    ensures found { IfOk result (λ found. IsSome found ↔ IsCall words.entry.now files.entry.now) }
+    ensures parts { IfOk result (λ found. IfSome found (IsTakenFrom words.entry.now
+        files.entry.now)) }
 {
     let Some(words) = words_of(alloc, words)? else {
         return Ok(None);
@@ -57,6 +64,7 @@ fn call_of<'a>(
 
 fn printed_of(alloc: Global, call: &Call<'_>) -> Printed
     ensures statuses { result.status ≤ 2 }
+    ensures ends { EndsOver call.now result.out.items result.err.items result.status }
     ensures quiet { result.status ≡ 0 → length result.err.items ≡ 0 }
     ensures bad_words { result.status ≡ 2 → length result.out.items ≡ 0 }
 {
@@ -84,9 +92,9 @@ fn nothing_printed(alloc: Global, status: u32) -> Printed
 }
 
 fn without_memory(alloc: Global) -> Printed
-    ensures { result.status ≡ 1 }
+    ensures { LacksMemory result.out.items result.err.items result.status }
 {
     let mut printed = nothing_printed(alloc, 1);
-    let _ = printed.err.extend_from_slice(b"out of memory\n");
+    let _ = write_bytes(&mut printed.err, b"out of memory\n");
     printed
 }
