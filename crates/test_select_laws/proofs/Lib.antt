@@ -7,3 +7,5 @@ mod OrderPathFacts
 mod PathFacts
 mod PlainFacts
 mod ServedFacts
+pub mod LookupFacts
+pub mod TableFacts

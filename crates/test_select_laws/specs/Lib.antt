@@ -1,3 +1,4 @@
 pub mod Laws
 pub mod Orders
 pub mod Served
+pub mod Tables

@@ -4,6 +4,7 @@
 ghost use Rattle.test_select_laws.specs.Laws.{AcceptedTextsAgree, DeclaredSelectionsAgree, SwitchedDependenciesAreDeclared};
 ghost use Rattle.test_select_laws.specs.Orders.{SelectionOrderIsFree};
 ghost use Rattle.test_select_laws.specs.Served.{ServedQuestionsAreAnswered};
+ghost use Rattle.test_select_laws.specs.Tables.{RulesAskForAnswers, SelectionsAskForAnswers};
 
 /// What a package depends on by links that are on, it depends on by declared links: the packages of
 /// `deps(..)` and `rdeps(..)` over the switched-on graph are among those over the declared one, where
@@ -38,4 +39,11 @@ pub fn selection_order_is_free()
 /// out, or `regex` refuses a pattern, of which no clause says when it does.
 pub fn served_questions_are_answered()
     ensures answered { ServedQuestionsAreAnswered }
+{}
+
+/// Of a table nothing but its answers counts: two tables that answer each spec alike, and treat unknown
+/// answers alike, make the same rules and have the same selections.
+pub fn tables_are_asked_for_answers()
+    ensures rules { RulesAskForAnswers }
+    ensures selections { SelectionsAskForAnswers }
 {}
