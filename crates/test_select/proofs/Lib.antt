@@ -4,3 +4,8 @@ pub mod PrintingFacts
 pub mod RunFacts
 pub mod SelectionFacts
 pub mod TaskFacts
+pub mod AcceptedFacts
+pub mod OnceFacts
+pub mod RunLawFacts
+pub mod AccountLineFacts
+pub mod AccountLawFacts

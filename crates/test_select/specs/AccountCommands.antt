@@ -6,6 +6,7 @@ use Rattle.workspace_record.specs.Features.{FeatureValue}
 use Rattle.workspace_record.specs.Records.{Text}
 use Rattle.record_files.specs.Choices.{label_of}
 use Rattle.feature_account_making.specs.AccountText.{account_text}
+use Rattle.feature_account_making.specs.ReadBackLaws.{AreSizes}
 use Rattle.feature_account_making.specs.ExplanationText.{explanation_text}
 use Rattle.feature_account_making.specs.RuleLines.{entry_lines}
 use Rattle.feature_account_making.specs.Sources.{sourced_rules}
@@ -27,6 +28,11 @@ lines_of q entries = entry_lines (sourced_rules q.record.value q.choice q.table)
 abbrev pub account_shown : FeatureQuestion → Bool → List ℕ → Text
 account_shown q true entries = lines_of q entries
 account_shown q false entries = account_text entries
+
+-- the text is that of an account of these numbers, each of which a `usize` holds
+pub record IsAccountText (q : FeatureQuestion) (readable : Bool) (entries : List ℕ) (text : Text) : Type 0 where
+  pub shown : text ≡ account_shown q readable entries
+  pub sizes : AreSizes entries
 
 -- an explanation of the feature as it is printed
 abbrev pub explanation_shown : FeatureQuestion → Bool → FeatureValue → List ℕ → Text
@@ -62,7 +68,7 @@ PrintsText shown =
 -- the account of what is on is printed, for people or not, or how this fails
 abbrev pub PrintsAccount : Bool → FeatureQuestion → Result (Unit {0}) Failure → Option Text → Option Text → Type 0
 PrintsAccount readable q =
-    Prints (Accounts q.record.value q.choice q.table) (λ account text. text ≡ account_shown q readable account.rules.items) never
+    Prints (Accounts q.record.value q.choice q.table) (λ account. IsAccountText q readable account.rules.items) never
 
 -- the explanation of the feature is printed, for people or not, or that it is not on, or how this fails
 abbrev pub PrintsExplanation : Bool → FeatureValue → FeatureQuestion → Result (Unit {0}) Failure → Option Text → Option Text → Type 0

@@ -9,3 +9,4 @@ pub mod Running
 pub mod Runs
 pub mod Selections
 pub mod Tasks
+pub mod RunLaws
