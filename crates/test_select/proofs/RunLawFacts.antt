@@ -1,5 +1,6 @@
 -- Two runs of `tests` that were answered the same print the same, with `--plain` and without.
-use Rattle.std.proofs.Common.{◌≡◌, ◌≢◌, ◌∙◌, ℕ, inl, inr, Bool, true, false, List, [], ◌∷◌, ◌++◌, Option, Some, None, Result, Ok, Err, String, Vec, Global, codes, map, refl, sym, ap, ap₂, subst, string_bytes, unwrap_or, append-nil}
+use Rattle.std.proofs.Common.{◌≡◌, ◌≢◌, ◌∙◌, ℕ, inl, inr, Bool, true, false, List, [], ◌∷◌, ◌++◌, Option, Some, None, Result, Ok, Err, String, Vec, Global, codes, map, refl, sym, ap, ap₂, subst, string_bytes, unwrap_or, true≢false}
+use Rattle.std.proofs.lemmas.Slice.Eq.{bytes_eq-Decides}
 use Rattle.std.specs.Option.{option_map_or}
 use Rattle.std.specs.Str.{bytes_eq}
 use Rattle.std.specs.Cmp.Lexicographic.{slice_cmp}
@@ -20,9 +21,9 @@ use Rattle.test_select_laws.proofs.TableFacts.{selects_there}
 use Rattle.test_select_tests.specs.Partitions.{AsksForPart}
 use Rattle.test_select_tests.specs.Questions.{Question}
 use Rattle.test_select_tests.specs.Selecting.{Selects}
-use Rattle.test_select_tests.specs.Selections.{Selected, report}
+use Rattle.test_select_tests.specs.SelectionLaws.{SelectionsReportAlike}
+use Rattle.test_select_tests.specs.Selections.{Selected}
 use Rattle.test_select_tests.proofs.OnceFacts.{asked_once, grouped_once}
-use Rattle.test_select_tests.proofs.ReportFacts.{report_alike}
 use Rattle.test_select.specs.Asking.{AsksForTestsOf, IsPartAsked, MeansPart, asks_in, filters_in, scope_in, is_given, scope_by, says}
 use Rattle.test_select.specs.RunLaws.{DifferInPlain, PlainPrintsTheSame}
 use Rattle.test_select.specs.Selections.{IsTextOf, Listings, ShowsTests, asks_for_json, tests_of}
@@ -47,6 +48,10 @@ shown_once true tests one other a b = a.2 ∙ ap listings_line (grouped_once tes
 
 -- ---- what the words say
 
+-- a word that is spelled otherwise is another one
+apart : (name : Text) → bytes_eq name (codes "plain") ≡ false → name ≢ codes "plain"
+apart name off same = true≢false (sym ((bytes_eq-Decides name (codes "plain")).1 same) ∙ off)
+
 -- the first value of a word is this text
 abbrev says_of : Text → Option Text → Bool
 says_of text value = option_map_or (λ v. bytes_eq v text) value false
@@ -57,25 +62,25 @@ module _ (one other : List Row) (differ : DifferInPlain one other) where
 
   files_alike : files_named one ≡ files_named other
   files_alike =
-      let workspace = first_alike (codes "record") (λ e. cc e) in
-      let choice = first_alike (codes "choice") (λ e. cc e) in
-      let table = first_alike (codes "table") (λ e. cc e) in
+      let workspace = first_alike (codes "record") (apart (codes "record") refl) in
+      let choice = first_alike (codes "choice") (apart (codes "choice") refl) in
+      let table = first_alike (codes "table") (apart (codes "table") refl) in
       λ i. record { workspace = unwrap_or (workspace i) []; choice = choice i; table = table i }
 
   listings_alike : word_or_empty (codes "listings") one ≡ word_or_empty (codes "listings") other
-  listings_alike = ap (λ o. unwrap_or o []) (first_alike (codes "listings") (λ e. cc e))
+  listings_alike = ap (λ o. unwrap_or o []) (first_alike (codes "listings") (apart (codes "listings") refl))
 
   json_alike : asks_for_json one ≡ asks_for_json other
-  json_alike = ap (says_of (codes "json")) (first_alike (codes "format") (λ e. cc e))
+  json_alike = ap (says_of (codes "json")) (first_alike (codes "format") (apart (codes "format") refl))
 
   scope_alike : scope_in one ≡ scope_in other
-  scope_alike = ap (λ o. scope_by (says_of (codes "true") o)) (first_alike (codes "declared") (λ e. cc e))
+  scope_alike = ap (λ o. scope_by (says_of (codes "true") o)) (first_alike (codes "declared") (apart (codes "declared") refl))
 
   filters_alike : filters_in one ≡ filters_in other
-  filters_alike = ap (λ (o : Option (List Text)). unwrap_or o []) (differ (codes "filter") (λ e. cc e)).1
+  filters_alike = ap (λ (o : Option (List Text)). unwrap_or o []) (differ (codes "filter") (apart (codes "filter") refl)).1
 
   part_alike : first_of (codes "partition") one ≡ first_of (codes "partition") other
-  part_alike = first_alike (codes "partition") (λ e. cc e)
+  part_alike = first_alike (codes "partition") (apart (codes "partition") refl)
 
   -- a text of the same tests is one text
   text_alike : (selection others : Selected) (text same : Text) → selection.chosen ≡ others.chosen → IsTextOf one selection text → IsTextOf other others same → text ≡ same
@@ -110,14 +115,14 @@ module _ (one other : List Row) (differ : DifferInPlain one other) (q p : Featur
     asks = asks_in other;
   }
 
-  chosen_alike : (mine theirs : Listings) (selection others : Selected) (after later : Shown) → map listing mine.entries ≡ map listing theirs.entries → Selects (asked_by one q) (unasked mine) selection after → Selects (asked_by other p) (unasked theirs) others later → selection.chosen ≡ others.chosen
-  chosen_alike mine theirs selection others after later same a b =
+  chosen_alike : SelectionsReportAlike → (mine theirs : Listings) (selection others : Selected) (after later : Shown) → map listing mine.entries ≡ map listing theirs.entries → Selects (asked_by one q) (unasked mine) selection after → Selects (asked_by other p) (unasked theirs) others later → selection.chosen ≡ others.chosen
+  chosen_alike report_alike mine theirs selection others after later same a b =
       let there = selects_there (asked_by other p) q.table (unasked theirs) later others tables_alike b in
       let here = subst (λ (k : Question). Selects k (unasked theirs) others later) as_first there in
       (report_alike (asked_by one q) (asks_in other) (unasked mine) after (unasked theirs) later selection others a here (λ id inside. listed_alike mine theirs same id)).0
 
-pub plain_prints_the_same : PlainPrintsTheSame
-plain_prints_the_same one other asked old new before after differ (inl run) (inl again) =
+pub plain_prints_the_same : SelectionsReportAlike → PlainPrintsTheSame
+plain_prints_the_same report_alike one other asked old new before after differ (inl run) (inl again) =
     let names = files_alike one other differ in
     let mine = run.read in
     let theirs = again.read in
@@ -126,8 +131,8 @@ plain_prints_the_same one other asked old new before after differ (inl run) (inl
     let name = listings_alike one other differ in
     let listed : IsReadAs listings_file (word_or_empty (codes "listings") other) (Ok (map listing run.value.1.entries)) mine.for_file = subst (λ n. IsReadAs listings_file n (Ok (map listing run.value.1.entries)) mine.for_file) name mine.file_read in
     let listings = read_first listings_file (word_or_empty (codes "listings") other) (map listing run.value.1.entries) mine.for_file theirs.for_file [] [] listed (map listing again.value.1.entries) theirs.file_read (ap (λ (l : Asked). l ++ []) questions.1) in
-    let chosen = chosen_alike one other differ run.value.0 again.value.0 questions.0 run.value.1 again.value.1 run.ends.answer again.ends.answer run.ends.given.0 again.ends.given.0 listings.0 run.ends.given.1 again.ends.given.1 in
+    let chosen = chosen_alike one other differ run.value.0 again.value.0 questions.0 report_alike run.value.1 again.value.1 run.ends.answer again.ends.answer run.ends.given.0 again.ends.given.0 listings.0 run.ends.given.1 again.ends.given.1 in
     let text = text_alike one other differ run.ends.answer again.ends.answer run.ends.text again.ends.text chosen run.ends.is_text again.ends.is_text in
     (run.ends.text, run.ends.holds, subst (λ (t : Text). Appends before after t) (sym text) again.ends.holds)
-plain_prints_the_same one other asked old new before after differ (inl run) (inr stopped) = absurd (cc stopped.stops.0)
-plain_prints_the_same one other asked old new before after differ (inr stopped) again = absurd (cc stopped.stops.0)
+plain_prints_the_same report_alike one other asked old new before after differ (inl run) (inr stopped) = absurd (cc stopped.stops.0)
+plain_prints_the_same report_alike one other asked old new before after differ (inr stopped) again = absurd (cc stopped.stops.0)

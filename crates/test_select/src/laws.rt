@@ -35,7 +35,9 @@ pub use test_select_tests::laws::{
 /// bytes where both end with 0 and their files answered the same.
 pub fn plain_prints_the_same()
     ensures same { PlainPrintsTheSame }
-{}
+{
+    selections_report_alike();
+}
 
 /// What `test_select account` printed, where it ended with 0, is accepted by `check` with the same other
 /// files, as a file that holds just these bytes; unless memory runs out, or the output takes no more.
