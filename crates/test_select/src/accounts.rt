@@ -2,6 +2,7 @@
 
 ghost use Rattle.std.specs.Prelude.{◌≡◌, IfErr};
 ghost use Rattle.clap.specs.Words.{found_of, rows_of};
+ghost use Rattle.feature_account_making.specs.ReadBackLaws.{AreSizes};
 ghost use Rattle.test_select_files.specs.Files.{SameAnswers};
 ghost use Rattle.test_select_files.specs.Reading.{Asks};
 ghost use Rattle.test_select.specs.AccountCommands.{EndsAccount, PrintsAccount};
@@ -45,9 +46,16 @@ fn print_account_of<'a, O: Write>(
 {
     let (record, choice, table) = (&question.record, &question.choice, &question.table);
     let account = account_shared(alloc, record, choice, table)?;
+    let numbers = account.rules.as_slice();
+    are_sizes(numbers);
     if readable {
-        return print_entries(alloc, question, &account.rules, out);
+        return print_entries(alloc, question, numbers, out);
     }
-    write_account(alloc, &account.rules, out)?;
+    write_account(alloc, numbers, out)?;
     Ok(())
 }
+
+/// Says of numbers of rules that each is one that a `usize` holds.
+fn are_sizes(numbers: &[usize])
+    ensures sizes { AreSizes numbers.now }
+{}
