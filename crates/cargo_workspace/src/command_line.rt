@@ -1,9 +1,22 @@
 //! The command line, as `clap` reads it.
 
+ghost use Rattle.std.specs.Prelude.{◌≡◌, IfOk};
+ghost use Rattle.clap.specs.Words.{app_of};
+ghost use Rattle.cargo_workspace.specs.Maker.{maker};
+
+use clap::Command;
+use std::alloc::{AllocError, Global};
 use test_select_files::{Program, Shape, Subcommand, Word};
 
+/// The program's command, with a subcommand for each conversion.
+pub(crate) fn command<'a>(alloc: Global) -> Result<Command<'a>, AllocError>
+    ensures app { IfOk result (λ c. app_of c ≡ maker) }
+{
+    PROGRAM.command(alloc)
+}
+
 /// The program, with a subcommand for each conversion.
-pub(crate) const PROGRAM: Program = Program {
+const PROGRAM: Program = Program {
     name: "cargo_workspace",
     about: "Make the files for test_select from the output of Cargo, rustc and test programs",
     help: STATUSES,

@@ -1,112 +1,245 @@
 //! The conversions, each from the bytes of its files to the text of the one that is made.
 
-use crate::failure::Failure;
-use crate::lists::folder_listings;
-use cargo_files::{
-    FeatureWords, Refusal, RefusedFile, binary_ids, choice_file, listings_file, nextest_listings,
-    record_file, settings_file, table_file,
+ghost use Rattle.std.specs.Prelude.{◌≡◌, IfErr, map, string_bytes};
+ghost use Rattle.clap.specs.Words.{found_of, rows_of, subcommand_rows_of};
+ghost use Rattle.cargo_files.specs.Added.{listing};
+ghost use Rattle.test_select_files.specs.Files.{SameAnswers};
+ghost use Rattle.cargo_workspace.specs.Conversions.{
+  MakesChoice,
+  MakesListings,
+  MakesRecord,
+  MakesTable,
+  MakesTableFor,
+  ReadsIds,
+  ReadsListings,
+  ReadsListsBy,
+  ReadsSettings,
 };
-use cargo_record::RequestedMembers;
+ghost use Rattle.cargo_workspace.specs.Failures.{status_of};
+ghost use Rattle.cargo_workspace.specs.Files.{Asks};
+ghost use Rattle.cargo_workspace.specs.Reading.{shown};
+ghost use Rattle.cargo_workspace.specs.Running.{conversion_named, Makes, MakesAsked};
+
+use crate::asking::{feature_words, is_given, requested_members};
+use crate::failure::Failure;
+use crate::lists::{listings_in_folder, listings_of_nextest};
+use crate::reading::{accepted, bytes_in};
+use crate::sources::Sources;
+use cargo_files::{
+    CfgSetting, Listings, binary_ids, choice_file, listings_file, record_file, settings_file,
+    table_file,
+};
 use clap::ArgMatches;
-use std::alloc::AllocGlobal;
-use std::fs;
-use std::io::ErrorKind;
-use std::rt::Files;
+use std::alloc::Global;
 use test_select_files::required;
 
+/// What the program makes.
+#[derive(Clone, Copy)]
+pub(crate) enum Conversion {
+    Record,
+    Table,
+    Choice,
+    Listings,
+}
+
 /// The text that the command line asks for. `clap` takes no command line without a command.
-pub(crate) fn converted<'a, R: Files + AllocGlobal>(
-    rt: &R,
+pub(crate) fn text_made<'a>(
+    alloc: Global,
     matches: &ArgMatches<'a>,
-) -> Result<String, Failure<'a>> {
-    match matches.subcommand() {
-        Some(("record", asked)) => record_made(rt, asked),
-        Some(("table", asked)) => table_made(rt, asked),
-        Some(("choice", asked)) => choice_made(rt, asked),
-        Some(("listings", asked)) => listings_made(rt, asked),
-        _ => Ok(String::new(rt.alloc())),
-    }
-}
-
-fn record_made<'a, R: Files + AllocGlobal>(
-    rt: &R,
-    asked: &ArgMatches<'a>,
-) -> Result<String, Failure<'a>> {
-    let name = required(asked, "metadata");
-    let bytes = bytes_in(rt, name)?;
-    accepted(name, record_file(rt.alloc(), &bytes, wanted_in(asked)))
-}
-
-/// The members that the command line asks about.
-fn wanted_in<'m, 'a: 'm>(asked: &'m ArgMatches<'a>) -> RequestedMembers<'m> {
-    match asked.get_strs("package") {
-        Some(names) => RequestedMembers::Named(names),
-        None if asked.get_flag("workspace") => RequestedMembers::Workspace,
-        None => RequestedMembers::Default,
-    }
-}
-
-fn table_made<'a, R: Files + AllocGlobal>(
-    rt: &R,
-    asked: &ArgMatches<'a>,
-) -> Result<String, Failure<'a>> {
-    let name = required(asked, "cfg");
-    let printed = bytes_in(rt, name)?;
-    let settings = accepted(name, settings_file(rt.alloc(), &printed))?;
-    let name = required(asked, "record");
-    let bytes = bytes_in(rt, name)?;
-    let triple = required(asked, "triple");
-    accepted(name, table_file(rt.alloc(), &bytes, triple, &settings))
-}
-
-fn choice_made<'a, R: Files + AllocGlobal>(
-    rt: &R,
-    asked: &ArgMatches<'a>,
-) -> Result<String, Failure<'a>> {
-    let name = required(asked, "record");
-    let bytes = bytes_in(rt, name)?;
-    accepted(name, choice_file(rt.alloc(), &bytes, words_in(asked)))
-}
-
-/// What the command line asks of features.
-fn words_in<'m, 'a: 'm>(asked: &'m ArgMatches<'a>) -> FeatureWords<'m> {
-    FeatureWords {
-        features: asked.get_strs("features").unwrap_or_default(),
-        no_default_features: asked.get_flag("no-default-features"),
-        all_features: asked.get_flag("all-features"),
-    }
-}
-
-fn listings_made<'a, R: Files + AllocGlobal>(
-    rt: &R,
-    asked: &ArgMatches<'a>,
-) -> Result<String, Failure<'a>> {
-    let name = required(asked, "record");
-    let bytes = bytes_in(rt, name)?;
-    let ids = accepted(name, binary_ids(rt.alloc(), &bytes))?;
-    let (lists, built) = (required(asked, "lists"), asked.get_flag("built"));
-    let listings = if asked.get_flag("nextest") {
-        let bytes = bytes_in(rt, lists)?;
-        accepted(lists, nextest_listings(rt.alloc(), &bytes, &ids, built))?
-    } else {
-        accepted(lists, folder_listings(rt, lists, &ids, built))?
+    files: &mut dyn Sources,
+) -> Result<String, Failure<'a>>
+    ensures status { IfErr result (λ f. status_of f ≡ 1) }
+    ensures makes { Asks (answers files.old) (state files.old) (state files.new)
+        (MakesAsked (subcommand_rows_of matches.now) (shown string_bytes result)) }
+{
+    let Some((name, asked)) = matches.subcommand() else {
+        return Ok(String::new(alloc));
     };
-    accepted(lists, listings_file(rt.alloc(), &listings))
-}
-
-fn bytes_in<'a, R: Files + AllocGlobal>(rt: &R, name: &'a str) -> Result<Vec<u8>, Failure<'a>> {
-    match fs::read(rt, name) {
-        Ok(bytes) => Ok(bytes),
-        Err(error) if error.kind() == ErrorKind::OutOfMemory => Err(Failure::Memory),
-        Err(_) => Err(Failure::CannotRead(name)),
+    match conversion_named(name) {
+        Some(conversion) => converted(alloc, conversion, asked, files),
+        None => Ok(String::new(alloc)),
     }
 }
 
-/// What was made of the file with this name.
-fn accepted<T>(name: &str, made: Result<T, Refusal>) -> Result<T, Failure<'_>> {
-    match made {
-        Ok(value) => Ok(value),
-        Err(Refusal::Memory) => Err(Failure::Memory),
-        Err(refusal) => Err(Failure::Refused(RefusedFile { name, refusal })),
+/// The conversion with this name, if there is one.
+fn conversion_named(name: &str) -> Option<Conversion>
+    ensures conversion { result ≡ conversion_named name.now }
+{
+    match name {
+        "record" => Some(Conversion::Record),
+        "table" => Some(Conversion::Table),
+        "choice" => Some(Conversion::Choice),
+        "listings" => Some(Conversion::Listings),
+        _ => None,
+    }
+}
+
+/// The text that a conversion makes.
+fn converted<'a>(
+    alloc: Global,
+    conversion: Conversion,
+    asked: &ArgMatches<'a>,
+    files: &mut dyn Sources,
+) -> Result<String, Failure<'a>>
+    ensures status { IfErr result (λ f. status_of f ≡ 1) }
+    ensures makes { Asks (answers files.old) (state files.old) (state files.new)
+        (Makes conversion (rows_of (found_of asked.now)) (shown string_bytes result)) }
+{
+    match conversion {
+        Conversion::Record => record_made(alloc, asked, files),
+        Conversion::Table => table_made(alloc, asked, files),
+        Conversion::Choice => choice_made(alloc, asked, files),
+        Conversion::Listings => listings_made(alloc, asked, files),
+    }
+}
+
+/// The record of what `cargo metadata` printed.
+fn record_made<'a>(
+    alloc: Global,
+    asked: &ArgMatches<'a>,
+    files: &mut dyn Sources,
+) -> Result<String, Failure<'a>>
+    ensures status { IfErr result (λ f. status_of f ≡ 1) }
+    ensures makes { Asks (answers files.old) (state files.old) (state files.new)
+        (MakesRecord (rows_of (found_of asked.now)) (shown string_bytes result)) }
+    ensures same { SameAnswers (answers files.old) (answers files.new) }
+{
+    let wanted = requested_members(asked);
+    let name = required(asked, "metadata");
+    let bytes = bytes_in(alloc, name, files)?;
+    accepted(name, record_file(alloc, &bytes, wanted))
+}
+
+/// The table of a record. The settings of the platform are read first.
+fn table_made<'a>(
+    alloc: Global,
+    asked: &ArgMatches<'a>,
+    files: &mut dyn Sources,
+) -> Result<String, Failure<'a>>
+    ensures status { IfErr result (λ f. status_of f ≡ 1) }
+    ensures makes { Asks (answers files.old) (state files.old) (state files.new)
+        (MakesTable (rows_of (found_of asked.now)) (shown string_bytes result)) }
+    ensures same { SameAnswers (answers files.old) (answers files.new) }
+{
+    let triple = required(asked, "triple");
+    let settings = settings_in(alloc, asked, files)?;
+    table_for(alloc, asked, triple, &settings, files)
+}
+
+/// The settings of the platform.
+fn settings_in<'a>(
+    alloc: Global,
+    asked: &ArgMatches<'a>,
+    files: &mut dyn Sources,
+) -> Result<Vec<CfgSetting>, Failure<'a>>
+    ensures status { IfErr result (λ f. status_of f ≡ 1) }
+    ensures reads { Asks (answers files.old) (state files.old) (state files.new)
+        (ReadsSettings (rows_of (found_of asked.now)) (shown (λ v. v.items) result)) }
+    ensures same { SameAnswers (answers files.old) (answers files.new) }
+{
+    let name = required(asked, "cfg");
+    let bytes = bytes_in(alloc, name, files)?;
+    accepted(name, settings_file(alloc, &bytes))
+}
+
+/// The table for a target with this triple and these settings.
+fn table_for<'a>(
+    alloc: Global,
+    asked: &ArgMatches<'a>,
+    triple: &str,
+    settings: &[CfgSetting],
+    files: &mut dyn Sources,
+) -> Result<String, Failure<'a>>
+    ensures status { IfErr result (λ f. status_of f ≡ 1) }
+    ensures makes { Asks (answers files.old) (state files.old) (state files.new)
+        (MakesTableFor (rows_of (found_of asked.now)) triple.now settings.now
+        (shown string_bytes result)) }
+    ensures same { SameAnswers (answers files.old) (answers files.new) }
+{
+    let name = required(asked, "record");
+    let bytes = bytes_in(alloc, name, files)?;
+    accepted(name, table_file(alloc, &bytes, triple, settings))
+}
+
+/// The choice that Cargo's words mean for a record.
+fn choice_made<'a>(
+    alloc: Global,
+    asked: &ArgMatches<'a>,
+    files: &mut dyn Sources,
+) -> Result<String, Failure<'a>>
+    ensures status { IfErr result (λ f. status_of f ≡ 1) }
+    ensures makes { Asks (answers files.old) (state files.old) (state files.new)
+        (MakesChoice (rows_of (found_of asked.now)) (shown string_bytes result)) }
+    ensures same { SameAnswers (answers files.old) (answers files.new) }
+{
+    let words = feature_words(asked);
+    let name = required(asked, "record");
+    let bytes = bytes_in(alloc, name, files)?;
+    accepted(name, choice_file(alloc, &bytes, words))
+}
+
+/// The listings of a record's test binaries. The record is read first.
+fn listings_made<'a>(
+    alloc: Global,
+    asked: &ArgMatches<'a>,
+    files: &mut dyn Sources,
+) -> Result<String, Failure<'a>>
+    ensures status { IfErr result (λ f. status_of f ≡ 1) }
+    ensures makes { Asks (answers files.old) (state files.old) (state files.new)
+        (MakesListings (rows_of (found_of asked.now)) (shown string_bytes result)) }
+    ensures same { SameAnswers (answers files.old) (answers files.new) }
+{
+    let listings = listings_in(alloc, asked, files)?;
+    accepted(required(asked, "lists"), listings_file(alloc, &listings))
+}
+
+fn listings_in<'a>(
+    alloc: Global,
+    asked: &ArgMatches<'a>,
+    files: &mut dyn Sources,
+) -> Result<Listings, Failure<'a>>
+    ensures status { IfErr result (λ f. status_of f ≡ 1) }
+    ensures reads { Asks (answers files.old) (state files.old) (state files.new)
+        (ReadsListings (rows_of (found_of asked.now)) (shown (λ v. map listing v.items) result)) }
+    ensures same { SameAnswers (answers files.old) (answers files.new) }
+{
+    let ids = ids_in(alloc, asked, files)?;
+    listings_by(alloc, asked, &ids, files)
+}
+
+/// The ids of the record's test binaries.
+fn ids_in<'a>(
+    alloc: Global,
+    asked: &ArgMatches<'a>,
+    files: &mut dyn Sources,
+) -> Result<Vec<String>, Failure<'a>>
+    ensures status { IfErr result (λ f. status_of f ≡ 1) }
+    ensures reads { Asks (answers files.old) (state files.old) (state files.new)
+        (ReadsIds (rows_of (found_of asked.now)) (shown (λ v. map string_bytes v.items) result)) }
+    ensures same { SameAnswers (answers files.old) (answers files.new) }
+{
+    let name = required(asked, "record");
+    let bytes = bytes_in(alloc, name, files)?;
+    accepted(name, binary_ids(alloc, &bytes))
+}
+
+/// The listings of these binaries: with `--nextest` of what nextest printed, and else of a folder.
+fn listings_by<'a>(
+    alloc: Global,
+    asked: &ArgMatches<'a>,
+    ids: &[String],
+    files: &mut dyn Sources,
+) -> Result<Listings, Failure<'a>>
+    ensures status { IfErr result (λ f. status_of f ≡ 1) }
+    ensures reads { Asks (answers files.old) (state files.old) (state files.new)
+        (ReadsListsBy (rows_of (found_of asked.now)) (map string_bytes ids.now)
+        (shown (λ v. map listing v.items) result)) }
+    ensures same { SameAnswers (answers files.old) (answers files.new) }
+{
+    let (lists, built) = (required(asked, "lists"), is_given(asked, "built"));
+    if is_given(asked, "nextest") {
+        listings_of_nextest(alloc, lists, built, ids, files)
+    } else {
+        listings_in_folder(alloc, lists, built, ids, files)
     }
 }

@@ -1,8 +1,14 @@
 //! Why a run of the program ends early.
 
+ghost use Rattle.std.specs.Prelude.{◌≡◌};
+ghost use Rattle.clap.specs.Words.{kind_of};
+ghost use Rattle.clap.specs.declared.error.ErrorKind.TheVariants.{OutOfMemory};
+ghost use Rattle.cargo_workspace.specs.Failures.{status_of};
+ghost use Rattle.cargo_workspace.specs.declared.failure.Failure.TheVariants.{CannotWrite, Memory};
+
 use cargo_files::RefusedFile;
 use clap::error::ErrorKind;
-use std::alloc::{AllocError, AllocFailed};
+use std::alloc::AllocError;
 use std::{fmt, io};
 
 /// Why a run of the program ends early. Names of files are as the command line gives them.
@@ -22,7 +28,9 @@ pub(crate) enum Failure<'a> {
 
 impl Failure<'_> {
     /// The status with which the program ends.
-    pub(crate) fn status(&self) -> u8 {
+    pub(crate) fn status(&self) -> u8
+        ensures status { result ≡ status_of self.now }
+    {
         match self {
             Failure::CommandLine(_) => 2,
             _ => 1,
@@ -30,8 +38,12 @@ impl Failure<'_> {
     }
 }
 
-/// The line that tells of the failure.
+/// The lines that tell of the failure, each with its line feed.
 impl fmt::Display for Failure<'_> {
+    ghost use Rattle.cargo_workspace.specs.Failures.{failure_lines};
+
+    ghost output = { λ failure. failure_lines failure };
+
     fn fmt<W: fmt::Write>(&self, f: &mut fmt::Formatter<W>) -> fmt::Result {
         match self {
             Failure::CommandLine(error) => write!(f, "{error}"),
@@ -44,6 +56,8 @@ impl fmt::Display for Failure<'_> {
 }
 
 impl From<clap::Error> for Failure<'_> {
+    ghost from_gives = { λ e f. kind_of e ≡ OutOfMemory → f ≡ Memory };
+
     fn from(error: clap::Error) -> Self {
         match error.kind() {
             ErrorKind::OutOfMemory => Failure::Memory,
@@ -53,19 +67,17 @@ impl From<clap::Error> for Failure<'_> {
 }
 
 impl From<io::Error> for Failure<'_> {
+    ghost from_gives = { λ _ f. f ≡ CannotWrite };
+
     fn from(_: io::Error) -> Self {
         Failure::CannotWrite
     }
 }
 
 impl From<AllocError> for Failure<'_> {
-    fn from(_: AllocError) -> Self {
-        Failure::Memory
-    }
-}
+    ghost from_gives = { λ _ f. f ≡ Memory };
 
-impl<T: Drop> From<AllocFailed<T>> for Failure<'_> {
-    fn from(_: AllocFailed<T>) -> Self {
+    fn from(_: AllocError) -> Self {
         Failure::Memory
     }
 }

@@ -1,0 +1,16 @@
+use Rattle.std.proofs.Common.{◌≡◌, rules, string_bytes}
+use Rattle.cargo_files.specs.Choices.{IsChoiceFile}
+use Rattle.cargo_files.specs.Refused.{RefusesChoice}
+use Rattle.cargo_workspace.proofs.ReadingFacts.{asks_such, made_asks, unmade_asks}
+use Rattle.cargo_workspace.proofs.conversions.choice_made.Goals as goal
+
+pub returns-in_err-bytes-clause-makes : goal.returns-in_err-bytes-clause-makes
+returns-in_err-bytes-clause-makes g c =
+    let asked = c.feature_words-words.result in
+    asks_such (unmade_asks string_bytes (λ file text. IsChoiceFile file asked text) (λ file why. RefusesChoice file asked why) c.required-name.result _ c.required-name.ensures.value c.in_err-bytes.field-0.0 _ c.from_residual.ensures.1 c.in_err-bytes.ensures.reads) (λ a h. (asked, c.feature_words-words.ensures.asks, h))
+
+pub returns-clause-makes : goal.returns-clause-makes
+returns-clause-makes g c =
+    let asked = c.feature_words-words.result in
+    let lent : c.deref.result.now ≡ c.in_ok-bytes.bytes.items = search rules in
+    asks_such (made_asks string_bytes (λ file text. IsChoiceFile file asked text) (λ file why. RefusesChoice file asked why) c.required-name.result _ c.required-name.ensures.value _ _ _ _ c.in_ok-bytes.ensures.reads lent c.choice_file.ensures.made c.choice_file.ensures.refused c.accepted.ensures.accepted) (λ a h. (asked, c.feature_words-words.ensures.asks, h))

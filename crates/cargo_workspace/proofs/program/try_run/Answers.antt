@@ -1,0 +1,14 @@
+use Rattle.std.proofs.Common.{refl}
+use Rattle.cargo_workspace.proofs.RunFacts.{below_are, ends_as, memory_ends, memory_is, only_memory}
+use Rattle.cargo_workspace.proofs.program.try_run.Goals as goal
+
+pub returns-in_err-command-clause-ends : goal.returns-in_err-command-clause-ends
+returns-in_err-command-clause-ends g c = λ none. memory_ends _ _ _ _ (memory_is _ c.from_residual.ensures.1) refl
+
+pub returns-in-Ok-clause-ends : goal.returns-in-Ok-clause-ends
+returns-in-Ok-clause-ends g c = λ none. ends_as _ _ _ _ _ (below_are _ _ _ c.in_ok-command.ensures.app c.in-Ok.ensures.matches) c.print_made.ensures.ends
+
+pub returns-in-Err-clause-ends : goal.returns-in-Err-clause-ends
+returns-in-Err-clause-ends g c = λ none.
+    let ran_out = c.show.ensures.memory (only_memory _ _ c.in-Err.shown c.in_ok-command.ensures.app c.in-Err.ensures.kinds none) in
+    memory_ends _ _ _ _ ran_out.0 ran_out.1
