@@ -1,5 +1,5 @@
 -- The words of a command line, as the program gets them.
-use Rattle.std.proofs.Common.{◌≡◌, ◌∙◌, ℕ, List, [], refl, sym, ap, map, Option, Some, None, option_map, unwrap_or, Bor}
+use Rattle.std.proofs.Common.{◌≡◌, ◌∙◌, List, [], refl, sym, ap, map, Option, Some, None, option_map, unwrap_or, Bor}
 use Rattle.std.specs.Option.{UnwrapsOrElse, option_eq, option_map_or}
 use Rattle.std.specs.Prelude.{Bool, false, codes}
 use Rattle.std.specs.Str.{bytes_eq}

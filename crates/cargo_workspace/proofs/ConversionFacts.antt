@@ -6,7 +6,6 @@ use Rattle.std.specs.Borrow.{Bor}
 use Rattle.clap.specs.Words.{Row}
 use Rattle.workspace_record.specs.Records.{Text}
 use Rattle.record_writing.specs.Files.{ReadAsListings}
-use Rattle.cargo_files.specs.Settings.{Setting}
 use Rattle.cargo_files.specs.declared.refusal.Refusal.{Refusal}
 use Rattle.cargo_files.specs.declared.refusal.Refusal.TheVariants as refusal
 use Rattle.test_select_files.specs.Words.{word_or_empty}

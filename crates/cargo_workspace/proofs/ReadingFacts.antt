@@ -1,6 +1,6 @@
 -- What follows of files that were asked for.
-use Rattle.std.proofs.Common.{◌≡◌, ◌≢◌, ◌∙◌, ◌++◌, ℕ, List, [], ◌∷◌, refl, subst, inl, inr, sym, ap, append_assoc, Result, Ok, Err}
-use Rattle.std.specs.Prelude.{Some, None, IfOk, IfErr, IsErrAnd}
+use Rattle.std.proofs.Common.{◌≡◌, ◌≢◌, ◌∙◌, ◌++◌, ℕ, List, [], ◌∷◌, refl, subst, inl, inr, sym, ap, Result, Ok, Err}
+use Rattle.std.specs.Prelude.{Some, IfOk, IfErr, IsErrAnd}
 use Rattle.std.specs.Borrow.{Bor}
 use Rattle.workspace_record.specs.Records.{Text}
 use Rattle.cargo_files.specs.declared.refusal.Refusal.{Refusal}
@@ -10,7 +10,7 @@ use Rattle.test_select_files.specs.declared.file_source.FileFault.TheVariants as
 use Rattle.test_select_files.proofs.ReadingFacts.{answered_alike, answered_then}
 use Rattle.cargo_workspace.specs.Files.{Answer, Asked, Asks}
 use Rattle.cargo_workspace.specs.Failures.{accepted, refused}
-use Rattle.cargo_workspace.specs.Reading.{FileFails, Follows, InTurn, IsUnread, MakesOf, ReadsBytes, shown}
+use Rattle.cargo_workspace.specs.Reading.{FileFails, Follows, InTurn, MakesOf, ReadsBytes, shown}
 use Rattle.cargo_workspace.specs.declared.failure.Failure.{Failure}
 use Rattle.cargo_workspace.specs.declared.failure.Failure.TheVariants.{CommandLine, CannotRead, Refused, CannotWrite, Memory}
 

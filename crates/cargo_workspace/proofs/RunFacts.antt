@@ -14,7 +14,7 @@ use Rattle.clap.specs.declared.parser.ArgMatches.{ArgMatches}
 use Rattle.clap.proofs.OnLiterals.{clap_on_literals}
 use Rattle.list_facts.specs.Writers.{Writes}
 use Rattle.workspace_record.specs.Records.{Text}
-use Rattle.cargo_workspace.specs.Files.{Answer, Asked, Asks}
+use Rattle.cargo_workspace.specs.Files.{Answer, Asks}
 use Rattle.cargo_workspace.specs.Maker.{maker}
 use Rattle.cargo_workspace.specs.Running.{EndsRun, Makes, MakesAsked, MakesIfAny, conversion_named}
 use Rattle.cargo_workspace.specs.declared.conversions.Conversion.{Conversion}

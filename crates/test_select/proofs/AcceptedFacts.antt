@@ -1,6 +1,6 @@
 -- A valid account has no verdict but that it is accepted.
-use Rattle.std.proofs.Common.{◌≡◌, ◌≢◌, ◌∙◌, ℕ, zero, suc, true, false, List, [], ◌∷◌, ◌++◌, Option, Some, None, take, slice_get, refl, sym, ap, subst, append-nil, append_assoc}
-use Rattle.feature_account.specs.Accounts.{IsFirstFault, IsRepeated, IsSound, IsSoundAfter, IsUnknown, IsUnsupported, IsValidAccount, IsVerdict, MayStand, concludes}
+use Rattle.std.proofs.Common.{◌≡◌, ℕ, zero, suc, List, [], ◌∷◌, ◌++◌, Option, Some, take, slice_get, refl, sym, subst, append-nil, append_assoc}
+use Rattle.feature_account.specs.Accounts.{IsFirstFault, IsRepeated, IsSoundAfter, IsUnknown, IsUnsupported, IsValidAccount, IsVerdict, MayStand}
 use Rattle.feature_account.specs.declared.verdict.Verdict.{Verdict}
 use Rattle.feature_account.specs.declared.verdict.Verdict.TheVariants.{Accepted, MissingPremise, NotClosed, NotGoal, RepeatedConclusion, UnknownRule, Unused}
 use Rattle.feature_account.proofs.AccountFacts.{Contains-slice_get}

@@ -1,27 +1,22 @@
 -- What a run of `account` prints is accepted by `check`.
-use Rattle.std.proofs.Common.{◌≡◌, ◌≢◌, ◌∙◌, ℕ, inl, inr, Bool, true, false, List, [], ◌∷◌, ◌++◌, Option, Some, None, Result, Ok, Err, codes, refl, sym, ap, subst, ⊎_elim}
+use Rattle.std.proofs.Common.{◌≡◌, ◌∙◌, ℕ, inl, inr, List, [], ◌∷◌, ◌++◌, Option, None, Result, Ok, Err, codes, refl, sym, ap, subst, ⊎_elim}
 use Rattle.clap.specs.Words.{Row}
 use Rattle.list_facts.specs.Writers.{AddsUpTo}
 use Rattle.workspace_record.specs.Records.{Text}
-use Rattle.feature_account.specs.Accounts.{IsValidAccount, IsVerdict}
-use Rattle.feature_account.specs.declared.verdict.Verdict.{Verdict}
-use Rattle.feature_account.specs.declared.verdict.Verdict.TheVariants.{Accepted}
+use Rattle.feature_account.specs.Accounts.{IsValidAccount}
 use Rattle.feature_account_rules.specs.RuleList.{rule_list}
-use Rattle.feature_account_making.specs.AccountText.{account_text}
-use Rattle.feature_account_making.specs.ReadBackLaws.{AreSizes}
 use Rattle.record_files.specs.Accounts.{AccountValue, account_file}
 use Rattle.record_files.specs.Files.{Reads}
-use Rattle.test_select_files.specs.Files.{Answer}
 use Rattle.test_select_files.specs.Reading.{Asked, FileFailsAfter, IsQuestionRead, IsReadAs}
-use Rattle.test_select_files.specs.Verdicts.{EndsCheck, IsVerdictOn, PrintsVerdict, verdict_line}
+use Rattle.test_select_files.specs.Verdicts.{EndsCheck, PrintsVerdict, verdict_line}
 use Rattle.test_select_files.specs.Words.{FileNames, files_named, word_or_empty}
 use Rattle.test_select_files.specs.declared.inputs.FeatureQuestion.{FeatureQuestion}
 use Rattle.test_select_files.specs.declared.run_failure.RunFailure.{RunFailure}
 use Rattle.test_select_files.specs.declared.run_failure.RunFailure.TheVariants.{CommandLine, CannotRead, BadFile, Denied, CannotWrite, Memory}
 use Rattle.test_select_laws.proofs.LookupFacts.{alike_by_entries}
 use Rattle.test_select_laws.proofs.TableFacts.{rules_alike}
-use Rattle.test_select.specs.AccountCommands.{EndsAccount, account_shown}
-use Rattle.test_select.specs.RunLaws.{ChecksAccepted, HasAccepted, PrintedAccountsAreAccepted}
+use Rattle.test_select.specs.AccountCommands.{account_shown}
+use Rattle.test_select.specs.RunLaws.{HasAccepted, PrintedAccountsAreAccepted}
 use Rattle.test_select.proofs.AccountLineFacts.{account_read}
 use Rattle.test_select.proofs.AcceptedFacts.{accepted_alone}
 use Rattle.test_select.proofs.OnceFacts.{IsOneQuestion, fails_for_memory, question_fails_for_memory, question_once, read_first}

@@ -1,9 +1,9 @@
 -- The line of an account is read as it is, with its line feed.
-use Rattle.std.proofs.Common.{◌≡◌, ◌∙◌, ℕ, suc, ◌<◌, ◌^◌, Bool, true, List, [], ◌∷◌, ◌++◌, None, Ok, codes, decimal, option_and_then, refl, sym, ap, subst, append_assoc, arith}
+use Rattle.std.proofs.Common.{◌≡◌, ◌∙◌, ℕ, suc, ◌<◌, ◌^◌, true, List, [], ◌∷◌, ◌++◌, None, Ok, codes, decimal, option_and_then, refl, sym, ap, subst, append_assoc, arith}
 use Rattle.std.specs.List.{flat_map}
 use Rattle.std.specs.Str.{IsUtf8}
 use Rattle.json.specs.Json as json
-use Rattle.json.specs.Lex.{Lexeme, between, comma, colon, fresh, lex, punctuate, token}
+use Rattle.json.specs.Lex.{between, comma, colon, fresh, lex, punctuate, token}
 use Rattle.json.specs.Text.{content}
 use Rattle.json.specs.Word.{ends_word}
 use Rattle.json.specs.Token.{begin_array, begin_object, number, string}

@@ -1,8 +1,8 @@
 -- What files answered has one reading.
-use Rattle.std.proofs.Common.{◌≡◌, ◌++◌, ◌∙◌, ℕ, ◌⊎◌, inl, inr, List, [], ◌∷◌, Option, Some, None, Result, Ok, Err, map, refl, sym, ap, subst, append_assoc, append-nil}
+use Rattle.std.proofs.Common.{◌≡◌, ◌++◌, ◌∙◌, ℕ, inl, inr, List, [], ◌∷◌, Option, Some, None, Result, Ok, Err, map, refl, sym, ap, subst, append_assoc, append-nil}
 use Rattle.serde_json.specs.Data.{Data}
 use Rattle.workspace_record.specs.Choices.{Choice}
-use Rattle.workspace_record.specs.Records.{Text, Workspace}
+use Rattle.workspace_record.specs.Records.{Text}
 use Rattle.workspace_record.specs.Tables.{answered, entry_of}
 use Rattle.workspace_record.specs.declared.choice.PlatformTable.{PlatformTable}
 use Rattle.record_files.specs.Choices.{choice_file}
@@ -13,7 +13,7 @@ use Rattle.record_files.specs.Tables.{table_file, table_view}
 use Rattle.record_files.specs.declared.error.ReadError.{ReadError}
 use Rattle.record_files.specs.declared.error.ReadError.TheVariants as error
 use Rattle.test_select_files.specs.Files.{Answer}
-use Rattle.test_select_files.specs.Reading.{Asked, ChoiceFails, FileFails, IsQuestionRead, IsReadAs, ReadsChoice, ReadsIfNamed, ReadsQuestion, ReadsRecord, ReadsTable, Refuses, TableFails}
+use Rattle.test_select_files.specs.Reading.{Asked, ChoiceFails, FileFails, IsQuestionRead, IsReadAs, ReadsChoice, ReadsIfNamed, ReadsQuestion, ReadsTable, Refuses, TableFails}
 use Rattle.test_select_files.specs.Words.{FileNames}
 use Rattle.test_select_files.specs.declared.file_source.FileFault.TheVariants as fault
 use Rattle.test_select_files.specs.declared.inputs.FeatureQuestion.{FeatureQuestion}

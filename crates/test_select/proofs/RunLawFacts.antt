@@ -1,12 +1,12 @@
 -- Two runs of `tests` that were answered the same print the same, with `--plain` and without.
-use Rattle.std.proofs.Common.{◌≡◌, ◌≢◌, ◌∙◌, ℕ, inl, inr, Bool, true, false, List, [], ◌∷◌, ◌++◌, Option, Some, None, Result, Ok, Err, String, Vec, Global, codes, map, refl, sym, ap, ap₂, subst, string_bytes, unwrap_or, true≢false}
+use Rattle.std.proofs.Common.{◌≡◌, ◌≢◌, ◌∙◌, ℕ, inl, inr, Bool, true, false, List, [], ◌++◌, Option, Some, None, Ok, String, Vec, Global, codes, map, refl, sym, ap, ap₂, subst, string_bytes, unwrap_or, true≢false}
 use Rattle.std.proofs.lemmas.Slice.Eq.{bytes_eq-Decides}
 use Rattle.std.specs.Option.{option_map_or}
 use Rattle.std.specs.Str.{bytes_eq}
 use Rattle.std.specs.Cmp.Lexicographic.{slice_cmp}
 use Rattle.std.specs.Io.KnownBytes.{Appends}
 use Rattle.std.specs.Ordering.{is_eq, nat_cmp}
-use Rattle.clap.specs.Words.{Row, all_of, first_of}
+use Rattle.clap.specs.Words.{Row, first_of}
 use Rattle.list_facts.specs.Texts.{texts}
 use Rattle.workspace_record.specs.Records.{Text}
 use Rattle.record_files.specs.Listings.{listing, listings_file}
@@ -18,13 +18,12 @@ use Rattle.test_select_files.specs.declared.inputs.FeatureQuestion.{FeatureQuest
 use Rattle.test_select_laws.specs.Tables.{HaveOneAnswer}
 use Rattle.test_select_laws.proofs.LookupFacts.{alike_by_entries, lookup_alike}
 use Rattle.test_select_laws.proofs.TableFacts.{selects_there}
-use Rattle.test_select_tests.specs.Partitions.{AsksForPart}
 use Rattle.test_select_tests.specs.Questions.{Question}
 use Rattle.test_select_tests.specs.Selecting.{Selects}
 use Rattle.test_select_tests.specs.SelectionLaws.{SelectionsReportAlike}
 use Rattle.test_select_tests.specs.Selections.{Selected}
 use Rattle.test_select_tests.proofs.OnceFacts.{asked_once, grouped_once}
-use Rattle.test_select.specs.Asking.{AsksForTestsOf, IsPartAsked, MeansPart, asks_in, filters_in, scope_in, is_given, scope_by, says}
+use Rattle.test_select.specs.Asking.{IsPartAsked, asks_in, filters_in, scope_in, scope_by}
 use Rattle.test_select.specs.RunLaws.{DifferInPlain, PlainPrintsTheSame}
 use Rattle.test_select.specs.Selections.{IsTextOf, Listings, ShowsTests, asks_for_json, tests_of}
 use Rattle.test_select.proofs.OnceFacts.{IsOneQuestion, question_once, read_first}

@@ -1,25 +1,25 @@
 -- What a command that selects or explains comes to, by the files that it read and what it answered.
-use Rattle.std.proofs.Common.{◌≡◌, ℕ, List, Bool, false, refl, ap, sym, subst, inl, inr, Result, Ok, Err}
+use Rattle.std.proofs.Common.{◌≡◌, ℕ, List, Bool, false, refl, ap, sym, subst, inl, Result, Ok, Err}
 use Rattle.std.specs.Prelude.{Option, IsErrAnd, codes}
 use Rattle.std.specs.Io.KnownBytes.{Appends}
 use Rattle.clap.specs.Words.{Row, first_of}
 use Rattle.list_facts.specs.Writers.{AddsUpTo}
 use Rattle.workspace_record.specs.Records.{Text}
 use Rattle.test_select_checks.specs.declared.select_error.SelectError.{SelectError}
-use Rattle.test_select_files.specs.Files.{Answer, SameAnswers}
-use Rattle.test_select_files.specs.Reading.{Asked, Asks, ReadsQuestion}
+use Rattle.test_select_files.specs.Files.{Answer}
+use Rattle.test_select_files.specs.Reading.{Asked, Asks}
 use Rattle.test_select_files.specs.Verdicts.{WritesLine}
-use Rattle.test_select_files.specs.Words.{FileNames, files_named, word_or_empty}
+use Rattle.test_select_files.specs.Words.{word_or_empty}
 use Rattle.test_select_files.specs.declared.inputs.FeatureQuestion.{FeatureQuestion}
 use Rattle.test_select_files.specs.declared.run_failure.RunFailure.{RunFailure}
 use Rattle.test_select_files.specs.declared.run_failure.RunFailure.TheVariants as run
-use Rattle.test_select_files.proofs.ReadingFacts.{asks_such, asks_then, ends_by, ends_on}
+use Rattle.test_select_files.proofs.ReadingFacts.{ends_by, ends_on}
 use Rattle.test_select.specs.Printing.{EndsReading, Prints, never}
 use Rattle.test_select.specs.Asking.{AsksForTestsOf, asks_in, filters_in, scope_in}
 use Rattle.test_select.specs.Runs.{AnswersQuestion, ExplainsQuestion}
 use Rattle.test_select_tests.specs.declared.asked_binaries.AskedBinaries.{AskedBinaries}
 use Rattle.test_select_tests.specs.declared.scope.LinkScope.{LinkScope}
-use Rattle.test_select.specs.Selections.{IsTextOf, Listings, PrintsShown, ReadsListings, ReadsTests, SaysWhy, Selects, ShowsTests, asks_for_json, tests_of}
+use Rattle.test_select.specs.Selections.{IsTextOf, Listings, PrintsShown, SaysWhy, Selects, ShowsTests, asks_for_json, tests_of}
 use Rattle.nextest_binaries.specs.Listers.{Shown, unasked}
 use Rattle.test_select_checks.specs.declared.select_error.SelectError.TheVariants.{Memory}
 use Rattle.test_select_tests.specs.Selections.{Selected}

@@ -1,5 +1,5 @@
 -- What the commands print that select tests or say why: the tests that run, the binaries that are asked for theirs, and why a test is chosen or a binary asked.
-use Rattle.std.specs.Prelude.{◌≡◌, ℕ, ◌⊎◌, Bool, true, false, not, List, ◌++◌, Option, Some, None, Result, Ok, Err, String, Vec, codes, flat_map, map}
+use Rattle.std.specs.Prelude.{◌≡◌, ℕ, Bool, true, false, not, List, ◌++◌, Option, Some, None, Result, Ok, String, Vec, codes, flat_map, map}
 use Rattle.std.specs.BTreeMap.{BTreeMap}
 use Rattle.std.specs.Global.{Global}
 use Rattle.clap.specs.Words.{Row, first_of}

@@ -1,5 +1,5 @@
 -- Tables of the same answers make the same rules, switch on the same lines, and have the same selections.
-use Rattle.std.proofs.Common.{◌≡◌, Bool, ◌&&◌, List, [], ◌∷◌, ◌++◌, Option, Some, None, map, filter, unwrap_or, refl, sym, ap, ap₂, if◌then◌else◌, String, Global, string_bytes}
+use Rattle.std.proofs.Common.{◌≡◌, Bool, ◌&&◌, List, [], ◌++◌, Option, Some, None, map, filter, unwrap_or, refl, sym, ap, ap₂, if◌then◌else◌}
 use mathlib.Core.Path.{fun_ext}
 use Rattle.std.specs.List.{flat_map}
 use Rattle.std.proofs.Common.{subst}

@@ -1,4 +1,4 @@
-use Rattle.std.proofs.Common.{◌∙◌, String, Vec, codes, false, map, string_bytes, sym, true}
+use Rattle.std.proofs.Common.{◌∙◌, String, Vec, false, map, string_bytes, sym, true}
 use Rattle.std.specs.Global.{Global}
 use Rattle.clap.specs.Words.{found_of, rows_of}
 use Rattle.cargo_files.specs.Added.{listing}

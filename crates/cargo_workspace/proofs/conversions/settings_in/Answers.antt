@@ -1,4 +1,4 @@
-use Rattle.std.proofs.Common.{◌≡◌, rules, List, Vec, ℕ}
+use Rattle.std.proofs.Common.{◌≡◌, rules, Vec}
 use Rattle.std.specs.Global.{Global}
 use Rattle.cargo_files.specs.Printed.{AreSettings}
 use Rattle.cargo_files.specs.Refused.{RefusesPlatform}

@@ -1,4 +1,4 @@
-use Rattle.std.proofs.Common.{◌≡◌, ℕ, List, rules, string_bytes, subst}
+use Rattle.std.proofs.Common.{◌≡◌, List, rules, string_bytes, subst}
 use Rattle.clap.specs.Words.{found_of, rows_of}
 use Rattle.cargo_files.specs.Settings.{Setting}
 use Rattle.cargo_workspace.specs.Conversions.{MakesTableFor, ReadsSettings}

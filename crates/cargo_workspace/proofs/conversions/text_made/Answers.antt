@@ -1,5 +1,4 @@
-use Rattle.std.proofs.Common.{refl}
-use Rattle.cargo_workspace.proofs.RunFacts.{asked_makes, none_makes}
+use Rattle.cargo_workspace.proofs.RunFacts.{asked_makes}
 use Rattle.cargo_workspace.proofs.conversions.text_made.Goals as goal
 
 pub returns-in-Some-conversion_named-clause-makes : goal.returns-in-Some-conversion_named-clause-makes
