@@ -35,7 +35,7 @@ def build(top, name):
     for it in with_below([name])[:-1]:
         words += ["-L", f"dependency={top}/crates/{it}/out/rlib"]
     words += ["--antt-project", f"{home}/rattle/logic/antt-project.json", "--logic-built", f"{home}/logic_built"]
-    words += ["--toolchain", f"{home}/toolchain", "--backend", "llvm", "--crate-type", "staticlib", "--links", f"{name}=", "--jobs", "1"]
+    words += ["--toolchain", f"{home}/toolchain", "--backend", "llvm", "--crate-type", "staticlib", "--links", f"{name}=", "--jobs", "1", "--incremental", "out/incremental"]
     folder, archive = f"{top}/crates/{name}", f"out/lib{name}.a"
     os.makedirs(f"{folder}/out", exist_ok=True)
     ended = subprocess.run([*words, "-o", archive], cwd=folder, stdin=subprocess.DEVNULL, stdout=subprocess.PIPE, stderr=subprocess.STDOUT)
