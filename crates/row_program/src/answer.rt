@@ -4,7 +4,7 @@ use std::alloc::{AllocError, Global};
 use std::fmt::Display;
 
 /// What came of a row, each text under the key by which rows say what they want of it. Where a key has
-/// several texts, each is to be the wanted one. A row for one of whose texts there was no memory was not
+/// several texts, each is to be the expected one. A row for one of whose texts there was no memory was not
 /// run: `refused` says so, and those who keep a text need not ask.
 #[derive(Drop)]
 pub struct Answers {
@@ -100,19 +100,19 @@ impl Answers {
 }
 
 impl Answer {
-    /// Whether this is what was wanted: a text or a number is wanted as it stands, of a list of texts
-    /// each is to stand somewhere in it, and null wants nothing.
-    pub(crate) fn is_wanted(&self, alloc: Global, wanted: &Value) -> Result<bool, RowFault> {
-        if wanted.is_null() {
+    /// Whether this is what was expected: a text or a number is expected as it stands, of a list of texts
+    /// each is to stand somewhere in it, and null expects nothing.
+    pub(crate) fn is_expected(&self, alloc: Global, expected: &Value) -> Result<bool, RowFault> {
+        if expected.is_null() {
             return Ok(true);
         }
-        if let Some(text) = wanted.as_str() {
+        if let Some(text) = expected.as_str() {
             return Ok(self.text.as_str() == text);
         }
-        if let Some(parts) = wanted.as_array() {
+        if let Some(parts) = expected.as_array() {
             return self.holds_each(parts.as_slice());
         }
-        let printed = wanted.to_string(alloc)?;
+        let printed = expected.to_string(alloc)?;
         Ok(self.text == printed)
     }
 

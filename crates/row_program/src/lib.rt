@@ -1,7 +1,7 @@
 //! What the program of rows stands on: rows read from a file, each run, and what differs told.
 //!
 //! A file of rows is a JSON list. A row is an object with a `name`, what it is run on, and what is
-//! wanted. An object with a list `rows` is a group: each of its rows says what the group says, but
+//! expected. An object with a list `rows` is a group: each of its rows says what the group says, but
 //! for what it says itself.
 //!
 //! Where rows speak of workspaces, what they are run on are records, choices, tables, accounts and

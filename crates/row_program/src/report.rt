@@ -30,10 +30,10 @@ impl<'a> Report<'a> {
         let _ = writeln!(self.text, "{}: {told}", self.name);
     }
 
-    /// Adds what was wanted, and what came.
-    pub(crate) fn differs(&mut self, answer: &Answer, wanted: &Value) {
+    /// Adds what was expected, and what came.
+    pub(crate) fn differs(&mut self, answer: &Answer, expected: &Value) {
         self.line(&answer.key);
-        let _ = writeln!(self.text, "  wanted {wanted}");
+        let _ = writeln!(self.text, "  expected {expected}");
         let _ = writeln!(self.text, "  came   {:?}", answer.text);
     }
 }

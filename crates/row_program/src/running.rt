@@ -21,11 +21,11 @@ pub trait RowRunner {
     ) -> Result<(), RowFault>;
 }
 
-/// Runs each row of this sort in the file with the name, and writes what differs from what is wanted: the
-/// row's name, the key, what was wanted and what came. The last line counts the rows of the sort, and
+/// Runs each row of this sort in the file with the name, and writes what differs from what is expected: the
+/// row's name, the key, what was expected and what came. The last line counts the rows of the sort, and
 /// those that differ.
 ///
-/// Answers whether there were rows and none differs. A row differs too where it wants nothing, or has
+/// Answers whether there were rows and none differs. A row differs too where it expects nothing, or has
 /// a key that is neither an input nor the key of an answer.
 pub fn run_file<R: RowRunner, W: Write>(
     rt: &HostRuntime,
@@ -102,7 +102,7 @@ fn rows_of<'a>(alloc: Global, values: &'a [Value]) -> io::Result<Vec<Row<'a>>> {
     Ok(rows)
 }
 
-/// Runs one row, and answers whether it came as wanted.
+/// Runs one row, and answers whether it came as expected.
 fn run_one<R: RowRunner, W: Write>(
     alloc: Global,
     row: Row<'_>,
@@ -134,7 +134,7 @@ fn tell_one(
     false
 }
 
-/// Tells each difference between what came and what the row wants.
+/// Tells each difference between what came and what the row expects.
 fn told(
     alloc: Global,
     row: Row<'_>,
@@ -143,21 +143,21 @@ fn told(
     report: &mut Report<'_>,
 ) -> bool {
     let mut same = keys_are_known(row, inputs, answers, report);
-    let mut wants = false;
+    let mut expects = false;
     for answer in answers {
-        let Some(wanted) = row.get(answer.key) else {
+        let Some(expected) = row.get(answer.key) else {
             continue;
         };
-        wants |= !wanted.is_null();
-        if !answer.is_wanted(alloc, wanted).unwrap_or(false) {
+        expects |= !expected.is_null();
+        if !answer.is_expected(alloc, expected).unwrap_or(false) {
             same = false;
-            report.differs(answer, wanted);
+            report.differs(answer, expected);
         }
     }
-    if !wants {
-        report.line(&"nothing is wanted");
+    if !expects {
+        report.line(&"the row expects nothing");
     }
-    same && wants
+    same && expects
 }
 
 /// Tells each key of the row and its group that nobody reads.
