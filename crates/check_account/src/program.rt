@@ -3,9 +3,9 @@
 ghost use Rattle.std.specs.Prelude.{◌≡◌, ◌≤◌, [], Err, IfErr, IfOk, map, Ok};
 ghost use Rattle.clap.specs.Words.{app_of, fault_of, kind_of, matches_of};
 ghost use Rattle.clap.specs.declared.error.ErrorKind.TheVariants.{OutOfMemory};
-ghost use Rattle.test_select_files.specs.Failures.{failure_lines, status_of};
+ghost use Rattle.test_select_files.specs.Failures.{failure_lines, is_denial, status_of};
 ghost use Rattle.test_select_files.specs.Reading.{Asks};
-ghost use Rattle.test_select_files.specs.Telling.{Tells};
+ghost use Rattle.test_select_files.specs.Telling.{TellsUnless};
 ghost use Rattle.test_select_files.specs.Verdicts.{EndsCheck};
 ghost use Rattle.test_select_files.specs.declared.run_failure.RunFailure.TheVariants.{Memory};
 ghost use Rattle.check_account.specs.Checker.{checker};
@@ -40,12 +40,15 @@ pub(crate) fn run<S: AsStr, O: Write, E: Write>(
     ensures failed { result ≡ 1 → fault_of checker (map S.text words.now) ≡ []
         → (f : RunFailure) × Asks (answers files.old) (state files.old) (state files.new)
         (EndsCheck (matches_of checker (map S.text words.now)) (Err f) (O.contents out.old)
-        (O.contents out.new)) × Tells (failure_lines f) (E.contents err.old) (E.contents err.new) }
+        (O.contents out.new))
+        × TellsUnless (is_denial f) (failure_lines f) (E.contents err.old) (E.contents err.new) }
 {
     match try_run(alloc, words, files, out) {
         Ok(()) => 0,
         Err(failure) => {
-            tell(alloc, &failure, err);
+            if !failure.is_denial() {
+                tell(alloc, &failure, err);
+            }
             failure.status()
         }
     }

@@ -1,5 +1,5 @@
 -- The statuses of a run that fails, the lines that tell of it, and what a failure to write comes to.
-use Rattle.std.specs.Prelude.{ℕ, ◌++◌, Option, Some, codes, string_bytes}
+use Rattle.std.specs.Prelude.{ℕ, Bool, false, ◌++◌, Option, Some, codes, string_bytes}
 use Rattle.feature_account_making.specs.declared.write_account_error.WriteAccountError.{WriteAccountError}
 use Rattle.feature_account_making.specs.declared.write_account_error.WriteAccountError.TheVariants as written
 use Rattle.workspace_record.specs.Records.{Text}
@@ -19,6 +19,15 @@ status_of (BadPartition text) = 2
 status_of (NotText name) = 1
 status_of (BadGlob text error) = 1
 status_of (NotBelow path) = 1
+
+-- what was asked is denied, as the output says
+abbrev pub is_denial : Failure → Bool
+is_denial (Run failure) = files.is_denial failure
+is_denial (Refused error) = false
+is_denial (BadPartition text) = false
+is_denial (NotText name) = false
+is_denial (BadGlob text error) = false
+is_denial (NotBelow path) = false
 
 -- what is told of a part that the command line does not name, as `clap` tells of a value that it does not take
 abbrev pub bad_partition_lines : Text → Text

@@ -5,13 +5,13 @@ use Rattle.clap.specs.Words.{App, Row, fault_of, subcommand_of}
 use Rattle.workspace_record.specs.Records.{Text}
 use Rattle.test_select_files.specs.Files.{Answer}
 use Rattle.test_select_files.specs.Reading.{Asked, Asks}
-use Rattle.test_select_files.specs.Telling.{Tells}
+use Rattle.test_select_files.specs.Telling.{TellsUnless}
 use Rattle.test_select_files.specs.Verdicts.{EndsCheck}
 use Rattle.test_select_files.specs.declared.run_failure.RunFailure.{RunFailure}
 use Rattle.test_select.specs.AccountCommands.{EndsAccount, EndsExplanation}
 use Rattle.test_select.specs.Asking.{AsksNoPart}
 use Rattle.test_select.specs.Changes.{EndsChanged}
-use Rattle.test_select.specs.Failures.{failure_lines, status_of}
+use Rattle.test_select.specs.Failures.{failure_lines, is_denial, status_of}
 use Rattle.test_select.specs.FeatureCommands.{EndsFeatures, EndsOrder, EndsRules}
 use Rattle.test_select.specs.Selections.{EndsBinaries, EndsTests, EndsWhy}
 use Rattle.test_select.specs.Tasks.{IsSelector, task_named}
@@ -74,10 +74,10 @@ abbrev pub status_by : Result (Unit {0}) Failure → ℕ
 status_by (Ok x) = 0
 status_by (Err failure) = status_of failure
 
--- what standard error gets of how a run ends: nothing, or the lines of its failure
+-- what standard error gets of how a run ends: nothing, also where what was asked is denied, or the lines of its failure
 abbrev pub TellsOutcome : Result (Unit {0}) Failure → Option Text → Option Text → Type 0
 TellsOutcome (Ok x) old new = new ≡ old
-TellsOutcome (Err failure) old new = Tells (failure_lines failure) old new
+TellsOutcome (Err failure) old new = TellsUnless (is_denial failure) (failure_lines failure) old new
 
 -- a run on these words ends with the status, has printed what its task answers by what the files answered, and has told of its failure
 pub record EndsProgram (words : List Text) (R : List ℕ → Text → Answer → List ℕ → Type 0) (s t : List ℕ) (old new err_old err_new : Option Text) (status : ℕ) : Type 0 where

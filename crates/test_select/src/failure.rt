@@ -5,7 +5,7 @@ ghost use Rattle.std.specs.Fmt.{WritesOnOk};
 ghost use Rattle.clap.specs.Words.{kind_of};
 ghost use Rattle.clap.specs.declared.error.ErrorKind.TheVariants.{OutOfMemory};
 ghost use Rattle.test_select_files.specs.declared.run_failure.RunFailure.TheVariants.{CannotWrite, Memory};
-ghost use Rattle.test_select.specs.Failures.{bad_partition_lines, status_of, unwritten};
+ghost use Rattle.test_select.specs.Failures.{bad_partition_lines, is_denial, status_of, unwritten};
 ghost use Rattle.test_select.specs.declared.failure.Failure.TheVariants.{Refused, Run};
 
 use nextest_filter_syntax::GlobError;
@@ -34,6 +34,16 @@ pub(crate) enum Failure<'a> {
 }
 
 impl Failure<'_> {
+    /// Whether the output says it all, so that standard error gets nothing.
+    pub(crate) fn is_denial(&self) -> bool
+        ensures { result ≡ is_denial self.now }
+    {
+        match self {
+            Failure::Run(failure) => failure.is_denial(),
+            _ => false,
+        }
+    }
+
     /// The status with which the program ends.
     pub(crate) fn status(&self) -> u8
         ensures { result ≡ status_of self.now }

@@ -88,7 +88,9 @@ pub fn run<S: AsStr, O: Write, E: Write>(
     match try_run(alloc, words, files, out) {
         Ok(()) => 0,
         Err(failure) => {
-            tell(alloc, &failure, err);
+            if !failure.is_denial() {
+                tell(alloc, &failure, err);
+            }
             failure.status()
         }
     }

@@ -1,5 +1,5 @@
 -- The statuses of a run that fails, and the lines that tell of it.
-use Rattle.std.specs.Prelude.{ℕ, ◌++◌, [], Option, Some, None, codes}
+use Rattle.std.specs.Prelude.{ℕ, Bool, true, false, ◌++◌, [], Option, Some, None, codes}
 use Rattle.workspace_record.specs.Records.{Text}
 use Rattle.record_files.specs.Faults.{fault_of, fault_text}
 use Rattle.record_files.specs.declared.error.ReadError.{ReadError}
@@ -16,6 +16,15 @@ status_of (BadFile name error) = 1
 status_of Denied = 1
 status_of CannotWrite = 1
 status_of Memory = 1
+
+-- what was asked is denied, as the output says
+abbrev pub is_denial : RunFailure → Bool
+is_denial (CommandLine error) = false
+is_denial (CannotRead name) = false
+is_denial (BadFile name error) = false
+is_denial Denied = true
+is_denial CannotWrite = false
+is_denial Memory = false
 
 -- what is said of a file whose shape is wrong
 abbrev pub bad_shape_line : Text → Field → Text

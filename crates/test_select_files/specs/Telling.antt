@@ -1,5 +1,5 @@
 -- What standard error gets of a failure.
-use Rattle.std.specs.Prelude.{◌≡◌, ◌⊎◌, IfSome, Option, codes}
+use Rattle.std.specs.Prelude.{◌≡◌, ◌⊎◌, Bool, true, false, IfSome, Option, codes}
 use Rattle.workspace_record.specs.Records.{Text}
 use Rattle.list_facts.specs.Writers.{AddsUpTo}
 
@@ -9,3 +9,8 @@ pub record Tells (lines old new : Option Text) : Type 0 where
   pub is_told : IfSome lines (λ text. told ≡ text) ⊎ (told ≡ codes "out of memory\n")
   pub rest : Text
   pub begun : AddsUpTo old new told rest
+
+-- nothing was written of a denial, which the output says, and of another failure its lines
+abbrev pub TellsUnless : Bool → Option Text → Option Text → Option Text → Type 0
+TellsUnless true lines old new = new ≡ old
+TellsUnless false lines old new = Tells lines old new

@@ -4,7 +4,7 @@ ghost use Rattle.std.specs.Prelude.{◌≡◌};
 ghost use Rattle.std.specs.Fmt.{WritesOnOk};
 ghost use Rattle.clap.specs.Words.{kind_of};
 ghost use Rattle.clap.specs.declared.error.ErrorKind.TheVariants.{OutOfMemory};
-ghost use Rattle.test_select_files.specs.Failures.{bad_shape_line, status_of};
+ghost use Rattle.test_select_files.specs.Failures.{bad_shape_line, is_denial, status_of};
 ghost use Rattle.test_select_files.specs.Refusals.{refused, unread};
 ghost use Rattle.test_select_files.specs.declared.run_failure.RunFailure.TheVariants.{CannotWrite, Memory};
 
@@ -52,6 +52,13 @@ impl<'a> RunFailure<'a> {
             ReadError::Memory => RunFailure::Memory,
             _ => RunFailure::BadFile(name, error),
         }
+    }
+
+    /// Whether the output says it all, so that standard error gets nothing.
+    pub fn is_denial(&self) -> bool
+        ensures { result ≡ is_denial self.now }
+    {
+        matches!(self, RunFailure::Denied)
     }
 
     /// The status with which the program ends.
