@@ -1,6 +1,6 @@
 -- Tests chosen from listings, one binary after another.
 use Rattle.std.proofs.Common.{◌≡◌, ◌↔◌, ◌⊎◌, inl, inr, ⊎_elim, ℕ, zero, suc, ◌+◌, ◌<◌, List, [], ◌∷◌, ◌++◌, length, get_or, take, map, refl, sym, ◌∙◌, ap, subst, Contains, Bor, Some, Option, String, Vec, string_bytes, add-one, arith, drop, take_all}
-use Rattle.std.proofs.lemmas.List.{append-nil, drop_all, length-map}
+use Rattle.std.proofs.lemmas.List.{append-nil, drop_all, length-map, map-append}
 use Rattle.std.specs.Global.{Global}
 use Rattle.std.specs.List.{zip}
 use Rattle.list_facts.specs.Ascending.{IsAscendingOf, pair_cmp}
@@ -17,7 +17,6 @@ use Rattle.test_select_rules.specs.BinaryView.{binary_view}
 use Rattle.test_select_rules.specs.declared.test_binary.TestBinary.{TestBinary}
 use Rattle.nextest_binaries.specs.Queries as asked
 use Rattle.nextest_filtering.specs.SameFilters.{AreBytes}
-use Rattle.nextest_filtering.proofs.PickFacts.{more_of}
 use Rattle.test_select_tests.specs.Choosing.{AreListed, IsCarriedOut, IsListed, IsMatched, IsTestOf, ids_of}
 use Rattle.test_select_tests.specs.Kept.{Adds}
 use Rattle.test_select_tests.specs.Passing.{ArePassing, IsPassing}
@@ -27,17 +26,6 @@ use Rattle.test_select_tests.specs.QuestionFilters.{CompiledQuestion, Pass}
 use Rattle.test_select_tests.specs.Selections.{Selected}
 use Rattle.test_select_rules.specs.Told.{Told, told_by, told_of}
 use Rattle.test_select_tests.proofs.KeptFacts.{adds_none, adds_one, adds_then}
-
--- one pair more of two lists
-module _ {A B : Type 0} where
-  zip_suc : (xs : List A) (ys : List B) (i : ℕ) (d : A) (e : B) → i < length xs → i < length ys → zip (take (suc i) xs) (take (suc i) ys) ≡ zip (take i xs) (take i ys) ++ (get_or xs i d, get_or ys i e) ∷ []
-  zip_suc [] ys i d e lt le = absurd (omega arith)
-  zip_suc (x ∷ xs) [] i d e lt le = absurd (omega arith)
-  zip_suc (x ∷ xs) (y ∷ ys) zero d e lt le = refl
-  zip_suc (x ∷ xs) (y ∷ ys) (suc i) d e lt le = ap (λ zs. (x, y) ∷ zs) (zip_suc xs ys i d e (omega arith) (omega arith))
-
-  pub zip_more : (xs : List A) (ys : List B) (i : ℕ) (d : A) (e : B) → i < length xs → i < length ys → zip (take (i + 1) xs) (take (i + 1) ys) ≡ zip (take i xs) (take i ys) ++ (get_or xs i d, get_or ys i e) ∷ []
-  zip_more xs ys i d e lt le = rw (add-one i) (zip_suc xs ys i d e lt le)
 
 -- the ids that are told are the ids of the binaries
 pub ids_told : (infos : List BinaryInfo) (bs : List Binary) → map told_by infos ≡ map told_of bs → map (λ (i : BinaryInfo). i.id.now) infos ≡ ids_of bs
@@ -59,9 +47,6 @@ lent_back f old new n count same =
 
 -- names of one binary of which the filters hold
 module _ (filters : CompiledQuestion) (b : asked.Binary) where
-  pub no_names : (name : Text) → IsPassing filters b [] name → ⊥
-  no_names name h = Contains-none name h.named
-
   names_cases : (front : List Text) (last name : Text) → IsPassing filters b (front ++ last ∷ []) name ↔ (IsPassing filters b front name ⊎ IsPassing filters b (last ∷ []) name)
   names_cases front last name = (
     λ h. ⊎_elim (λ i. inl (record { named = i; passes = h.passes })) (λ i. inr (record { named = i; passes = h.passes })) (Contains-append_cases front (last ∷ []) name h.named),
@@ -69,9 +54,9 @@ module _ (filters : CompiledQuestion) (b : asked.Binary) where
   )
 
   -- one name more of a listing
-  pub one_name_more : (names : List (String Global)) (i : ℕ) (d : String Global) (name : Text) (old mid new : List Text) → i < length names → d ≡ get_or names i d → name ≡ string_bytes d → Adds (IsPassing filters b (texts (take i names))) old mid → Adds (IsPassing filters b (name ∷ [])) mid new → Adds (IsPassing filters b (texts (take (i + 1) names))) old new
-  one_name_more names i d name old mid new lt is named first second =
-      rw (more_of string_bytes names i d d lt is) (adds_then _ _ _ old mid new first (subst (λ x. Adds (IsPassing filters b (x ∷ [])) mid new) named second) (names_cases (texts (take i names)) (string_bytes d)))
+  pub one_name_more : (names : List (String Global)) (last : String Global) (old mid new : List Text) → Adds (IsPassing filters b (texts names)) old mid → Adds (IsPassing filters b (string_bytes last ∷ [])) mid new → Adds (IsPassing filters b (texts (names ++ last ∷ []))) old new
+  one_name_more names last old mid new first second =
+      rw (map-append string_bytes names (last ∷ [])) (adds_then _ _ _ old mid new first second (names_cases (texts names) (string_bytes last)))
 
   -- one name, of whose test they hold or do not
   pub passing_added : (name : Text) (old new : List Text) → Pass filters (record { binary = b; name = name }) → new ≡ old ++ name ∷ [] → Adds (IsPassing filters b (name ∷ [])) old new
@@ -90,17 +75,16 @@ module _ (filters : CompiledQuestion) (b : asked.Binary) where
   )
 
 -- the tests of these names, under the id of a binary of the record
-pub tests_added : (filters : CompiledQuestion) (b : Binary) (a : asked.Binary) (names : List (String Global)) (passing : List (Bor Text)) (old new : List (Text × Text)) → a ≡ binary_asked b → ArePassing filters a (texts names) (map (λ t. t.now) passing) → new ≡ old ++ map (λ (t : Bor Text). (b.id, t.now)) passing → Adds (IsTestOf (PassesIn filters) b names) old new
+pub tests_added : (filters : CompiledQuestion) (b : Binary) (a : asked.Binary) (names passing : List (String Global)) (old new : List (Text × Text)) → a ≡ binary_asked b → ArePassing filters a (texts names) (texts passing) → new ≡ old ++ map (λ (t : String Global). (b.id, string_bytes t)) passing → Adds (IsTestOf (PassesIn filters) b names) old new
 tests_added filters b a names passing old new same are grown pair =
-    let under : Bor Text → Text × Text = λ t. (b.id, t.now) in
-    let now : Bor Text → Text = λ t. t.now in
+    let under : String Global → Text × Text = λ t. (b.id, string_bytes t) in
     let to : Contains (map under passing) pair → IsTestOf (PassesIn filters) b names pair = λ h.
     let (t, there, is) = Contains-map_cases under passing pair h in
-    let p = (are t.now).0 (Contains-map now passing t there) in
-    subst (IsTestOf (PassesIn filters) b names) is (record { id = refl; listed = p.named; is_held = subst (λ x. Pass filters (record { binary = x; name = t.now })) same p.passes }) in
+    let p = (are (string_bytes t)).0 (Contains-map string_bytes passing t there) in
+    subst (IsTestOf (PassesIn filters) b names) is (record { id = refl; listed = p.named; is_held = subst (λ x. Pass filters (record { binary = x; name = string_bytes t })) same p.passes }) in
     let from : IsTestOf (PassesIn filters) b names pair → Contains (map under passing) pair = λ h.
     let p : IsPassing filters a (texts names) pair.1 = record { named = h.listed; passes = subst (λ x. Pass filters (record { binary = x; name = pair.1 })) (sym same) h.is_held } in
-    let (t, there, is) = Contains-map_cases now passing pair.1 ((are pair.1).1 p) in
+    let (t, there, is) = Contains-map_cases string_bytes passing pair.1 ((are pair.1).1 p) in
     subst (Contains (map under passing)) (λ i. (h.id i, is i)) (Contains-map under passing t there) in
     rw grown (
       λ h. ⊎_elim (λ l. inl l) (λ r. inr (to r)) (Contains-append_cases old (map under passing) pair h),
@@ -109,22 +93,16 @@ tests_added filters b a names passing old new same are grown pair =
 
 module _ (holds : Binary → Text → Type 0) where
   -- the tests of one binary more
-  pub listed_none : (pair : Text × Text) → IsListed holds [] [] pair → ⊥
-  listed_none pair h = Contains-none h.entry h.among
-
-  pub listed_more : (asked : List TestBinary) (listings : List (Vec (String Global) Global)) (i : ℕ) (b : TestBinary) (names : List (String Global)) (l : Vec (String Global) Global) (old mid new : List (Text × Text)) → i < length asked → i < length listings → b ≡ get_or asked i b → names ≡ l.items → l ≡ get_or listings i l → Adds (IsListed holds (take i asked) (take i listings)) old mid → Adds (IsTestOf holds (binary_view b) names) mid new → Adds (IsListed holds (take (i + 1) asked) (take (i + 1) listings)) old new
-  listed_more asked listings i b names l old mid new lt le is told at first second =
-      let entry : TestBinary × Vec (String Global) Global = (b, l) in
-      let more : zip (take (i + 1) asked) (take (i + 1) listings) ≡ zip (take i asked) (take i listings) ++ entry ∷ [] =
-      zip_more asked listings i b l lt le ∙ ap (λ x. zip (take i asked) (take i listings) ++ (x, get_or listings i l) ∷ []) (sym is) ∙ ap (λ y. zip (take i asked) (take i listings) ++ (b, y) ∷ []) (sym at) in
-      let its : Adds (IsTestOf holds (binary_view b) l.items) mid new = subst (λ ns. Adds (IsTestOf holds (binary_view b) ns) mid new) told second in
-      adds_then (IsListed holds (take i asked) (take i listings)) (IsTestOf holds (binary_view b) l.items) (IsListed holds (take (i + 1) asked) (take (i + 1) listings)) old mid new first its (λ pair. (
-        λ h. ⊎_elim (λ a. inl (record { entry = h.entry; among = a; is_its = h.is_its })) (λ a. ⊎_elim (λ e. inr (subst (λ (x : TestBinary × Vec (String Global) Global). IsTestOf holds (binary_view x.0) x.1.items pair) (sym e) h.is_its)) (λ n. absurd (Contains-none h.entry n)) (Contains-cons_cases entry [] h.entry a)) (Contains-append_cases (zip (take i asked) (take i listings)) (entry ∷ []) h.entry (subst (λ zs. Contains zs h.entry) more h.among)),
-        λ s. ⊎_elim (λ h. record { entry = h.entry; among = subst (λ zs. Contains zs h.entry) (sym more) (Contains-append_left (zip (take i asked) (take i listings)) (entry ∷ []) h.entry h.among); is_its = h.is_its }) (λ t. record { entry = entry; among = subst (λ zs. Contains zs entry) (sym more) (Contains-append_right (zip (take i asked) (take i listings)) (entry ∷ []) entry (Contains-first entry [])); is_its = t }) s,
+  pub listed_more : (entries : List (TestBinary × Vec (String Global) Global)) (b : TestBinary) (names : Vec (String Global) Global) (old mid new : List (Text × Text)) → Adds (IsListed holds entries) old mid → Adds (IsTestOf holds (binary_view b) names.items) mid new → Adds (IsListed holds (entries ++ (b, names) ∷ [])) old new
+  listed_more entries b names old mid new first second =
+      let entry : TestBinary × Vec (String Global) Global = (b, names) in
+      adds_then (IsListed holds entries) (IsTestOf holds (binary_view b) names.items) (IsListed holds (entries ++ entry ∷ [])) old mid new first second (λ pair. (
+        λ h. ⊎_elim (λ a. inl (record { entry = h.entry; among = a; is_its = h.is_its })) (λ a. ⊎_elim (λ e. inr (subst (λ (x : TestBinary × Vec (String Global) Global). IsTestOf holds (binary_view x.0) x.1.items pair) (sym e) h.is_its)) (λ n. absurd (Contains-none h.entry n)) (Contains-cons_cases entry [] h.entry a)) (Contains-append_cases entries (entry ∷ []) h.entry h.among),
+        λ s. ⊎_elim (λ h. record { entry = h.entry; among = Contains-append_left entries (entry ∷ []) h.entry h.among; is_its = h.is_its }) (λ t. record { entry = entry; among = Contains-append_right entries (entry ∷ []) entry (Contains-first entry []); is_its = t }) s,
       ))
 
   -- the listings of all binaries, sorted
-  pub listed_all : (asked : List TestBinary) (listings : List (Vec (String Global) Global)) (found sorted : List (Text × Text)) → Adds (IsListed holds asked listings) [] found → IsAscendingOf pair_cmp found sorted → AreListed holds asked listings sorted
+  pub listed_all : (asked : List TestBinary) (listings : List (Vec (String Global) Global)) (found sorted : List (Text × Text)) → Adds (IsListed holds (zip asked listings)) [] found → IsAscendingOf pair_cmp found sorted → AreListed holds asked listings sorted
   listed_all asked listings found sorted added ascending = record {
     members = λ pair. (
       λ h. ⊎_elim (λ n. absurd (Contains-none pair n)) (λ l. l) ((added pair).0 ((ascending.members pair).0 h)),
@@ -161,12 +139,12 @@ module _ (holds : Binary → Text → Type 0) where
         (Contains-cons_cases (binary_view t) (map binary_view ts) b i)
 
     -- the listed tests are those that are matched
-    pub each_iff : (asked : List TestBinary) (listings : List (Vec (String Global) Global)) → map Some (answers listings) ≡ map listing_of (ids_of (map binary_view asked)) → (pair : Text × Text) → IsListed holds asked listings pair ↔ IsMatched holds (map binary_view asked) listing_of pair
+    pub each_iff : (asked : List TestBinary) (listings : List (Vec (String Global) Global)) → map Some (answers listings) ≡ map listing_of (ids_of (map binary_view asked)) → (pair : Text × Text) → IsListed holds (zip asked listings) pair ↔ IsMatched holds (map binary_view asked) listing_of pair
     each_iff asked listings held pair =
-        let there : IsListed holds asked listings pair → IsMatched holds (map binary_view asked) listing_of pair = λ h.
+        let there : IsListed holds (zip asked listings) pair → IsMatched holds (map binary_view asked) listing_of pair = λ h.
         let e = entry_held asked listings held h.entry h.among in
         record { binary = binary_view h.entry.0; is_asked = e.0; id = h.is_its.id; names = texts h.entry.1.items; listing = e.1; listed = h.is_its.listed; is_held = h.is_its.is_held } in
-        let back : IsMatched holds (map binary_view asked) listing_of pair → IsListed holds asked listings pair = λ m.
+        let back : IsMatched holds (map binary_view asked) listing_of pair → IsListed holds (zip asked listings) pair = λ m.
         let f = entry_found asked listings held m.binary m.is_asked in
         let e = entry_held asked listings held f.0 f.1 in
         let names : m.names ≡ texts f.0.1.items = some_exact (sym m.listing ∙ sym (ap (λ (x : Binary). listing_of x.id) f.2) ∙ e.1) in

@@ -29,15 +29,15 @@ module _ (holds : Binary → Text → Type 0) where
     pub listed : Contains (texts names) pair.1
     pub is_held : holds b pair.1
 
-  -- the same of a binary and the listing at its place
-  pub record IsListed (asked : List TestBinary) (listings : List (Vec (String Global) Global)) (pair : Text × Text) : Type 0 where
+  -- the same of one of these binaries and its listing
+  pub record IsListed (entries : List (TestBinary × Vec (String Global) Global)) (pair : Text × Text) : Type 0 where
     pub entry : TestBinary × Vec (String Global) Global
-    pub among : Contains (zip asked listings) entry
+    pub among : Contains entries entry
     pub is_its : IsTestOf (binary_view entry.0) entry.1.items pair
 
   -- the tests of the binaries that are said to hold, ascending, each once
   pub record AreListed (asked : List TestBinary) (listings : List (Vec (String Global) Global)) (pairs : List (Text × Text)) : Type 0 where
-    pub members : (pair : Text × Text) → Contains pairs pair ↔ IsListed asked listings pair
+    pub members : (pair : Text × Text) → Contains pairs pair ↔ IsListed (zip asked listings) pair
     pub ascending : IsStrictlySortedBy pair_cmp pairs
 
   -- the test is in the listing of one of the binaries, and it is said to hold

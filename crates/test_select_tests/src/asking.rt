@@ -1,6 +1,6 @@
 //! Asking for the tests of the planned binaries, and choosing from the answers.
 
-ghost use Rattle.std.specs.Prelude.{◌≡◌, ◌∷◌, ◌++◌, [], IfOk, OnOk, length, map};
+ghost use Rattle.std.specs.Prelude.{◌≡◌, ◌∷◌, ◌++◌, [], IfOk, OnOk, map, string_bytes};
 ghost use Rattle.list_facts.specs.Texts.{texts, pair_of};
 ghost use Rattle.test_select_rules.specs.BinaryView.{binary_view};
 ghost use Rattle.test_select_tests.specs.Choosing.{AreListed, CarriesOut, IsTestOf, ids_of};
@@ -35,7 +35,7 @@ pub(crate) fn ask_and_choose(
     let mut ids = ids(alloc, &plan.asked)?;
     let infos = infos(alloc, &plan.asked)?;
     match ask_each(alloc, &infos, lister) {
-        Ok(listings) => Ok(Selection::new(choose(alloc, plan, &listings)?, ids)),
+        Ok(listings) => Ok(Selection::new(choose(alloc, plan, listings)?, ids)),
         Err(AskError::Lister(place)) => Err(SelectError::Lister(ids.swap_remove(place))),
         Err(AskError::BadListing(place, fault)) => {
             Err(SelectError::BadListing(ids.swap_remove(place), fault))
@@ -58,21 +58,19 @@ fn infos<'a>(alloc: Global, asked: &'a [TestBinary<'_>]) -> Result<Vec<BinaryInf
     Ok(infos)
 }
 
-/// The tests of which the filters hold, each under its binary's id.
+/// The tests of which the filters hold, each under its binary's id. Names are moved, and none is copied.
 fn choose(
     alloc: Global,
     plan: &Plan<'_>,
-    listings: &[Listing],
+    listings: Vec<Listing>,
 ) -> Result<Vec<(String, String)>, AllocError>
-    requires { length listings.now ≡ length plan.now.asked.items }
     ensures { IfOk result (λ v. AreListed (PassesIn (question_view plan.now.filters))
-        plan.now.asked.items listings.now (map pair_of v.items)) }
+        plan.now.asked.items listings.items (map pair_of v.items)) }
 {
     let filters = lent_filters(alloc, &plan.filters)?;
     let mut searchers = filters.searchers(alloc)?;
     let mut chosen = Vec::new(alloc);
-    for (place, names) in listings.iter().enumerate() {
-        let binary = &plan.asked[place];
+    for (binary, names) in plan.asked.iter().zip(listings) {
         push_chosen(alloc, &filters, &mut searchers, binary, names, &mut chosen)?;
     }
     ascending_pairs(chosen)
@@ -83,55 +81,55 @@ fn push_chosen<'f>(
     filters: &LentFilters<'f>,
     searchers: &mut [Matcher<'f>],
     binary: &TestBinary<'_>,
-    names: &[String],
+    names: Listing,
     chosen: &mut Vec<(String, String)>,
 ) -> Result<(), AllocError>
     requires patterns { map matcher_pattern searchers.old ≡ lent_searches (lent_of filters.now) }
     ensures added { (q : CompiledQuestion) → lent_of filters.now ≡ lent_question q
-        → OnOk result (Adds (IsTestOf (PassesIn q) (binary_view binary.now) names.now)
+        → OnOk result (Adds (IsTestOf (PassesIn q) (binary_view binary.now) names.items)
         (map pair_of chosen.old.items) (map pair_of chosen.new.items)) }
     ensures same { map matcher_pattern searchers.new ≡ map matcher_pattern searchers.old }
 {
     let ready = ReadyFilters::new(alloc, filters, binary.query())?;
     let passing = passing_names(alloc, &ready, searchers, names)?;
-    push_tests(alloc, binary.id.as_str(), &passing, chosen)
+    push_tests(alloc, binary.id.as_str(), passing, chosen)
 }
 
 /// Those of the names of which the filters hold, ascending. Binaries are planned in the order of their
 /// ids, so what is chosen is then ascending as it is made.
-fn passing_names<'a, 'f>(
+fn passing_names<'f>(
     alloc: Global,
     ready: &ReadyFilters<'f>,
     searchers: &mut [Matcher<'f>],
-    names: &'a [String],
-) -> Result<Vec<&'a str>, AllocError>
+    names: Listing,
+) -> Result<Listing, AllocError>
     ensures passing { (q : CompiledQuestion) (b : Binary)
         → IsReadyFor (map matcher_pattern searchers.old) q b (ready_view ready.now)
-        → IfOk result (λ v. ArePassing q b (texts names.entry.now) (map (λ t. t.now) v.items)) }
+        → IfOk result (λ v. ArePassing q b (texts names.items) (texts v.items)) }
     ensures same { map matcher_pattern searchers.new ≡ map matcher_pattern searchers.old }
 {
-    let mut passing: Vec<&'a str> = Vec::new(alloc);
+    let mut passing = Vec::new(alloc);
     for name in names {
-        push_if_passing(ready, searchers, name.as_str(), &mut passing)?;
+        push_if_passing(ready, searchers, name, &mut passing)?;
     }
     passing.sort()?;
     Ok(passing)
 }
 
 /// Adds the name if the filters hold of the test.
-fn push_if_passing<'a, 'f>(
+fn push_if_passing<'f>(
     ready: &ReadyFilters<'f>,
     searchers: &mut [Matcher<'f>],
-    name: &'a str,
-    passing: &mut Vec<&'a str>,
+    name: String,
+    passing: &mut Listing,
 ) -> Result<(), AllocError>
     ensures added { (q : CompiledQuestion) (b : Binary)
         → IsReadyFor (map matcher_pattern searchers.old) q b (ready_view ready.now)
-        → OnOk result (Adds (IsPassing q b (name.entry.now ∷ []))
-        (map (λ t. t.now) passing.old.items) (map (λ t. t.now) passing.new.items)) }
+        → OnOk result (Adds (IsPassing q b (string_bytes name ∷ []))
+        (texts passing.old.items) (texts passing.new.items)) }
     ensures same { map matcher_pattern searchers.new ≡ map matcher_pattern searchers.old }
 {
-    if ready.hold(searchers, name) {
+    if ready.hold(searchers, name.as_str()) {
         passing.push(name)?;
     }
     Ok(())
@@ -141,14 +139,14 @@ fn push_if_passing<'a, 'f>(
 fn push_tests(
     alloc: Global,
     id: &str,
-    names: &[&str],
+    names: Listing,
     chosen: &mut Vec<(String, String)>,
 ) -> Result<(), AllocError>
     ensures { OnOk result (map pair_of chosen.new.items
-        ≡ map pair_of chosen.old.items ++ map (λ name. (id.now, name.now)) names.now) }
+        ≡ map pair_of chosen.old.items ++ map (λ name. (id.now, string_bytes name)) names.items) }
 {
     for name in names {
-        push_test(alloc, id, *name, chosen)?;
+        push_test(alloc, id, name, chosen)?;
     }
     Ok(())
 }
@@ -156,14 +154,14 @@ fn push_tests(
 fn push_test(
     alloc: Global,
     id: &str,
-    name: &str,
+    name: String,
     chosen: &mut Vec<(String, String)>,
 ) -> Result<(), AllocError>
     ensures { OnOk result (map pair_of chosen.new.items
-        ≡ map pair_of chosen.old.items ++ (id.now, name.now) ∷ []) }
+        ≡ map pair_of chosen.old.items ++ (id.now, string_bytes name) ∷ []) }
 {
     let id = String::from_str(alloc, id)?;
-    chosen.push((id, String::from_str(alloc, name)?))?;
+    chosen.push((id, name))?;
     Ok(())
 }
 

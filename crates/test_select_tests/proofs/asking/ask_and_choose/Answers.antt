@@ -1,5 +1,4 @@
-use Rattle.std.proofs.Common.{◌≡◌, List, Vec, String, map, ap, ◌∙◌, subst}
-use Rattle.std.specs.Global.{Global}
+use Rattle.std.proofs.Common.{◌≡◌, List, map, ap, ◌∙◌}
 use Rattle.list_facts.specs.Texts.{texts, pair_of}
 use Rattle.workspace_record.specs.Records.{Text}
 use Rattle.test_select_rules.specs.Binaries.{Binary}
@@ -39,6 +38,5 @@ returns-in-Ok g c =
     let view : List TestBinary → List Text = λ bs. ids_of (map binary_view bs) in
     let told : map (λ b. b.id.now) c.deref-3.result.now ≡ view asked = ap (map (λ b. b.id.now)) c.deref-3.ensures.value ∙ c.in_ok-infos.ensures.ids ∙ ap view c.deref-2.ensures.value in
     let all : texts c.in_ok-ids.ids.items ≡ view asked = c.in_ok-ids.ensures ∙ ap view c.deref.ensures.value in
-    let ascending : AreListed holds asked c.in-Ok.listings.items chosen =
-    subst (λ (ls : List (Vec (String Global) Global)). AreListed holds asked ls chosen) c.deref-in-Ok.ensures.value c.in_ok-choose-in-Ok.ensures in
+    let ascending : AreListed holds asked c.in-Ok.listings.items chosen = c.in_ok-choose-in-Ok.ensures in
     carried_out holds asked _ _ (map (λ b. b.id.now) c.deref-3.result.now) c.in-Ok.listings.items chosen (texts c.in_ok-ids.ids.items) c.new.result told c.in-Ok.ensures ascending (pairs_bytes c.in_ok-choose-in-Ok.field-0.items) all c.new.ensures

@@ -1,8 +1,15 @@
-use Rattle.std.proofs.Common.{◌<◌, [], length, map, take, take_all, subst, arith, ap, ◌∙◌, rules}
+use Rattle.std.proofs.Common.{◌∷◌, [], Bor, List, Vec, String, map, subst, sym, ap, ◌∙◌, length, rules}
+use Rattle.std.specs.Global.{Global}
+use Rattle.std.specs.List.{zip}
+use Rattle.std.proofs.lemmas.List.{map-append}
+use Rattle.std.proofs.lemmas.Iterator.{YieldsList-from_slice, YieldsList-from_zip}
+use Rattle.std.proofs.lemmas.Iterator.Adapters.{YieldsList-from_vec}
+use Rattle.std.proofs.lemmas.Iterator.Consumers.{YieldsList-at, YieldsList-end}
 use Rattle.regex.specs.Strings.{matcher_pattern}
 use Rattle.list_facts.specs.Texts.{pair_of}
 use Rattle.test_select_checks.proofs.ContextFacts.{if_ok_so}
 use Rattle.test_select_rules.specs.Binaries.{Binary}
+use Rattle.test_select_rules.specs.declared.test_binary.TestBinary.{TestBinary}
 use Rattle.workspace_record.specs.Records.{Text}
 use Rattle.test_select_tests.specs.Choosing.{IsListed}
 use Rattle.test_select_tests.specs.Kept.{Adds}
@@ -11,25 +18,15 @@ use Rattle.test_select_tests.specs.QuestionFilters.{question_view}
 use Rattle.test_select_tests.proofs.ChoosingFacts.{lent_back, listed_all, listed_more}
 use Rattle.test_select_tests.proofs.asking.choose.Goals as goal
 
-pub loop-place-preserved : goal.loop-place-preserved
-loop-place-preserved c =
-    let holds : Binary → Text → Type 0 = PassesIn (question_view c.args.plan.now.filters) in
-    let asked = c.args.plan.now.asked.items in
-    let listings = c.args.listings.now in
-    let i = c.loop-place.place in
-    let within : i < length asked = omega (arith, c.loop-place-test.true, c.requires) in
-    record {
-      patterns = lent_back matcher_pattern c.loop-place.searchers.items c.push_chosen.new.searchers c.loop-place.searchers.len (search rules) (c.in_ok-push_chosen.ensures.same ∙ ap (map matcher_pattern) c.deref_mut.ensures.value) ∙ c.loop-place.invariant.patterns;
-      listed = listed_more holds asked listings i c.index-binary.result.now c.deref.result.now c.index-listings-place.result [] (map pair_of c.loop-place.chosen.items) (map pair_of c.push_chosen.new.chosen.items) within c.loop-place-test.true c.index-binary.ensures c.deref.ensures.value c.index-listings-place.is c.loop-place.invariant.listed (c.in_ok-push_chosen.ensures.added (question_view c.args.plan.now.filters) c.in_ok-filters.ensures.lent);
-    }
+abbrev entry_of : Bor TestBinary × Vec (String Global) Global → TestBinary × Vec (String Global) Global
+entry_of e = (e.0.now, e.1)
 
-pub returns : goal.returns
-returns c =
+pub loop-binary-preserved : goal.loop-binary-preserved
+loop-binary-preserved c =
     let holds : Binary → Text → Type 0 = PassesIn (question_view c.args.plan.now.filters) in
-    let asked = c.args.plan.now.asked.items in
-    let listings = c.args.listings.now in
-    let i = c.loop-place.place in
-    let found = map pair_of c.loop-place.chosen.items in
-    let one : Adds (IsListed holds (take i asked) listings) [] found = subst (λ ls. Adds (IsListed holds (take i asked) ls) [] found) (take_all i listings c.loop-place-test.false) c.loop-place.invariant.listed in
-    let all : Adds (IsListed holds asked listings) [] found = subst (λ bs. Adds (IsListed holds bs listings) [] found) (take_all i asked (omega (arith, c.loop-place-test.false, c.requires))) one in
-    if_ok_so _ _ c.ascending_pairs.result (λ v ascending. listed_all holds asked listings found (map pair_of v.items) all ascending) c.ascending_pairs.ensures
+    let seen = c.loop-binary.yielded in
+    let new = map pair_of c.push_chosen.new.chosen.items in
+    record {
+      patterns = lent_back matcher_pattern c.loop-binary.searchers.items c.push_chosen.new.searchers c.loop-binary.searchers.len (search rules) (c.in_ok-push_chosen.ensures.same ∙ ap (map matcher_pattern) c.deref_mut.ensures.value) ∙ c.loop-binary.invariant.patterns;
+      listed = subst (λ es. Adds (IsListed holds es) [] new) (sym (map-append entry_of seen ((c.in-Some.binary, c.in-Some.names) ∷ []))) (listed_more holds (map entry_of seen) c.in-Some.binary.now c.in-Some.names [] (map pair_of c.loop-binary.chosen.items) new c.loop-binary.invariant.listed (c.in_ok-push_chosen.ensures.added (question_view c.args.plan.now.filters) c.in_ok-filters.ensures.lent));
+    }

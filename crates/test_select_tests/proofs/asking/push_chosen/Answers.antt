@@ -1,4 +1,4 @@
-use Rattle.std.proofs.Common.{◌≡◌, ◌++◌, List, map, refl, subst, sym, Bor}
+use Rattle.std.proofs.Common.{◌≡◌, ◌++◌, map, refl, string_bytes, subst}
 use Rattle.list_facts.specs.Texts.{pair_of, texts}
 use Rattle.test_select_rules.specs.BinaryView.{binary_view}
 use Rattle.workspace_record.specs.Records.{Text}
@@ -18,9 +18,8 @@ returns-clause-added c q same =
     let old = map pair_of c.args.chosen.now.items in
     let new = map pair_of c.push_tests.new.chosen.items in
     let alike : AnswerAlike f a view = subst (λ b. AnswerAlike f b view) c.query.ensures.asked c.in_ok-ready.ensures.ready in
-    let are : ArePassing q a (texts c.args.names.now) (map (λ (t : Bor Text). t.now) c.deref.result.now) =
-    subst (λ (ns : List (Bor Text)). ArePassing q a (texts c.args.names.now) (map (λ (t : Bor Text). t.now) ns)) (sym c.deref.ensures.value) (c.in_ok-passing.ensures.passing q a (ready_for _ f q a view c.requires.patterns same alike)) in
+    let are : ArePassing q a (texts c.args.names.items) (texts c.in_ok-passing.passing.items) = c.in_ok-passing.ensures.passing q a (ready_for _ f q a view c.requires.patterns same alike) in
     on_ok_so
     c.push_tests.result
-    (λ h. tests_added q (binary_view c.args.binary.now) a c.args.names.now c.deref.result.now old new refl are (subst (λ (id : Text). new ≡ old ++ map (λ (t : Bor Text). (id, t.now)) c.deref.result.now) c.as_str.ensures.text h))
+    (λ h. tests_added q (binary_view c.args.binary.now) a c.args.names.items c.in_ok-passing.passing.items old new refl are (subst (λ (id : Text). new ≡ old ++ map (λ t. (id, string_bytes t)) c.in_ok-passing.passing.items) c.as_str.ensures.text h))
     c.push_tests.ensures

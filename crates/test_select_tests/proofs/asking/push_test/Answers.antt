@@ -1,4 +1,4 @@
-use Rattle.std.proofs.Common.{◌≡◌, ◌∙◌, ◌∷◌, ◌++◌, [], List, ap, map}
+use Rattle.std.proofs.Common.{◌≡◌, ◌∙◌, ◌∷◌, ◌++◌, [], List, ap, map, string_bytes}
 use Rattle.std.proofs.lemmas.List.{map-append}
 use Rattle.list_facts.specs.Texts.{pair_of}
 use Rattle.workspace_record.specs.Records.{Text}
@@ -7,5 +7,5 @@ use Rattle.test_select_tests.proofs.asking.push_test.Goals as goal
 pub returns : goal.returns
 returns c =
     let old : List (Text × Text) = map pair_of c.args.chosen.now.items in
-    let pair : pair_of (c.in_ok-id.id, c.in_ok-from_str.field-0) ≡ (c.args.id.now, c.args.name.now) = λ i. (c.in_ok-id.ensures.ok i, c.in_ok-from_str.ensures.ok i) in
-    ap (map pair_of) c.in_ok-push.ensures.items ∙ map-append pair_of c.args.chosen.now.items ((c.in_ok-id.id, c.in_ok-from_str.field-0) ∷ []) ∙ ap (λ (x : Text × Text). old ++ x ∷ []) pair
+    let pair : pair_of (c.in_ok-id.id, c.args.name) ≡ (c.args.id.now, string_bytes c.args.name) = λ i. (c.in_ok-id.ensures.ok i, string_bytes c.args.name) in
+    ap (map pair_of) c.in_ok-push.ensures.items ∙ map-append pair_of c.args.chosen.now.items ((c.in_ok-id.id, c.args.name) ∷ []) ∙ ap (λ (x : Text × Text). old ++ x ∷ []) pair
