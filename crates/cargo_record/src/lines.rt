@@ -1,10 +1,8 @@
 //! The links of the record, with their lines.
 
-ghost use Rattle.std.specs.Prelude.{◌<◌, ◌≡◌, ◌↔◌, Contains, IfErr, IfOk, IfSome, IsTrue, List, OnOk, Some, [], ◌∷◌, false, length, nat_eq, slice_get, string_bytes, true};
+ghost use Rattle.std.specs.Prelude.{◌<◌, ◌≡◌, ◌↔◌, Contains, IfErr, IfOk, IfSome, IsTrue, List, OnOk, Some, [], ◌∷◌, false, length, slice_get, string_bytes, true};
 ghost use Rattle.std.specs.List.{list_all, list_any};
-ghost use Rattle.workspace_record.specs.Kinds.{line_kind_index};
-ghost use Rattle.workspace_record.specs.Records.{Target, Workspace};
-ghost use Rattle.workspace_record.specs.declared.kinds.LineKind.TheVariants as kind;
+ghost use Rattle.workspace_record.specs.Records.{Workspace};
 ghost use Rattle.workspace_record.specs.Packages.{is_member};
 ghost use Rattle.cargo_metadata.specs.Dependencies.{Declared, name_of};
 ghost use Rattle.cargo_metadata.specs.Packages.{Declaring};
@@ -94,27 +92,7 @@ fn check_targets(
     if !index.is_member(id_of(package)) {
         return Ok(());
     }
-    check_each_target(alloc, package, targets_of(package))
-}
-
-fn targets_of(package: &DeclaringPackage) -> &[TargetRecord]
-    ensures { result.now ≡ «package».entry.now.row.targets }
-{
-    &package.row.targets
-}
-
-/// The same for these targets of a package.
-fn check_each_target(
-    alloc: Global,
-    package: &DeclaringPackage,
-    targets: &[TargetRecord],
-) -> Result<(), RecordFault>
-    ensures own { IfOk result (λ _. list_all (requires_own «package».now.row.features) targets.now
-        ≡ true) }
-    ensures refused { IfErr result (λ e. ((t : Target) → Contains targets.now t
-        → Contains «package».now.row.targets t) → RefusesTargets «package».now e) }
-{
-    for target in targets {
+    for target in &package.row.targets {
         check_target(alloc, package, target)?;
     }
     Ok(())
@@ -164,26 +142,8 @@ fn push_links(
     ensures refused { IfErr result (RefusesOne index.now «package».now.row.id node.now.dependencies
         «package».now.dependencies) }
 {
-    push_each(alloc, links, index, package, node, &package.dependencies)?;
-    Ok(())
-}
-
-/// Adds the lines of these dependencies of a package.
-fn push_each(
-    alloc: Global,
-    links: &mut Vec<LinkRecord>,
-    index: &RecordIndex<'_>,
-    package: &DeclaringPackage,
-    node: &ResolvedPackage,
-    dependencies: &[Dependency],
-) -> Result<(), RecordFault>
-    ensures taken { OnOk result (TakesUp index.now «package».now node.now dependencies.now
-        (line_rows links.old.items) (line_rows links.new.items)) }
-    ensures refused { IfErr result (RefusesOne index.now «package».now.row.id node.now.dependencies
-        dependencies.now) }
-{
     let start = links.len();
-    for dependency in dependencies {
+    for dependency in &package.dependencies {
         push_dependency(alloc, links, start, index, package, node, dependency)?;
     }
     Ok(())
@@ -223,14 +183,7 @@ fn id_of(package: &DeclaringPackage) -> &str
 fn counts(index: &RecordIndex<'_>, id: &str, dependency: &Dependency) -> bool
     ensures { result ≡ counts index.now id.now dependency.now }
 {
-    index.is_member(id) || !is_for_development(dependency)
-}
-
-fn is_for_development(dependency: &Dependency) -> bool
-    ensures { result ≡ nat_eq (line_kind_index dependency.now.line.kind)
-        (line_kind_index kind.Dev) }
-{
-    dependency.line.kind == LineKind::Dev
+    index.is_member(id) || dependency.line.kind != LineKind::Dev
 }
 
 /// Adds the line of a dependency to what it was resolved to.
@@ -252,7 +205,7 @@ fn push_resolved(
     match found {
         Resolution::To(to) => Ok(push_line(alloc, links, start, id, to, dependency)?),
         Resolution::Several => Err(ambiguous(alloc, id, dependency.name())),
-        Resolution::Nothing if !is_optional(dependency) => {
+        Resolution::Nothing if !dependency.line.optional => {
             Err(no_dependency(alloc, id, dependency.name()))
         }
         Resolution::Nothing if index.is_member(id) => {
@@ -260,12 +213,6 @@ fn push_resolved(
         }
         Resolution::Nothing => Ok(()),
     }
-}
-
-fn is_optional(dependency: &Dependency) -> bool
-    ensures { result ≡ dependency.now.line.optional }
-{
-    dependency.line.optional
 }
 
 fn ambiguous(alloc: Global, id: &str, name: &str) -> RecordFault
