@@ -1,6 +1,6 @@
 //! Listings of the test binaries of a record.
 
-ghost use Rattle.std.specs.Prelude.{◌≡◌, ◌++◌, [], IfErr, IfOk, None, OnErr, OnOk, bytes_eq, false, get_or, map, option_map, string_bytes};
+ghost use Rattle.std.specs.Prelude.{◌≡◌, ◌++◌, [], IfErr, IfOk, OnErr, OnOk, bytes_eq, get_or, map, option_map, string_bytes};
 ghost use Rattle.serde_json.specs.View.{view};
 ghost use Rattle.guppy_package_rules.specs.Places.{first_repeat};
 ghost use Rattle.test_select_rules.specs.Binaries.{binaries};
@@ -74,7 +74,7 @@ pub fn add_listing(
         return if built {
             Ok(())
         } else {
-            Err(no_list(alloc, id)?)
+            Err(Refusal::NoList(String::from_str(alloc, id)?))
         };
     };
     if let Some(place) = first_repeated(alloc, &tests)? {
@@ -88,7 +88,10 @@ pub fn add_listing(
 fn first_repeated(alloc: Global, names: &[String]) -> Result<Option<usize>, AllocError>
     ensures { IfOk result (λ place. place ≡ first_repeat bytes_eq (map string_bytes names.now)) }
 {
-    let lent = lent_names(alloc, names)?;
+    let mut lent = Vec::new(alloc);
+    for name in names {
+        lent.push(name.as_str())?;
+    }
     first_repeated_text(alloc, &lent)
 }
 
@@ -99,16 +102,6 @@ fn name_at(names: &[String], place: usize) -> &str
         Some(name) => name.as_str(),
         None => "",
     }
-}
-
-fn lent_names<'a>(alloc: Global, names: &'a [String]) -> Result<Vec<&'a str>, AllocError>
-    ensures { IfOk result (λ v. map (λ t. t.now) v.items ≡ map string_bytes names.entry.now) }
-{
-    let mut lent = Vec::new(alloc);
-    for name in names {
-        lent.push(name.as_str())?;
-    }
-    Ok(lent)
 }
 
 /// The tests of these binaries that `cargo nextest list --message-format json` printed.
@@ -191,12 +184,6 @@ fn tests_listed(alloc: Global, id: &str, text: &str) -> Result<Vec<String>, Refu
         }
         Err(TerseFault::Memory) => Err(Refusal::Memory),
     }
-}
-
-fn no_list(alloc: Global, id: &str) -> Result<Refusal, AllocError>
-    ensures { IfOk result (λ r. RefusesTests id.now None false r) }
-{
-    Ok(Refusal::NoList(String::from_str(alloc, id)?))
 }
 
 fn repeated(alloc: Global, id: &str, name: &str) -> Result<Refusal, AllocError>
