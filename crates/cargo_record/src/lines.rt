@@ -8,7 +8,7 @@ ghost use Rattle.cargo_metadata.specs.Dependencies.{Declared, name_of};
 ghost use Rattle.cargo_metadata.specs.Packages.{Declaring};
 ghost use Rattle.cargo_metadata.specs.Resolved.{Entry};
 ghost use Rattle.cargo_record.specs.Fitting.{IsResolution, fits, several_fit};
-ghost use Rattle.cargo_record.specs.Kept.{is_feature, owns_targets, requires_own};
+ghost use Rattle.cargo_record.specs.Kept.{owns_targets, requires_own};
 ghost use Rattle.cargo_record.specs.Lines.{AreLines, AreLinesOf, IsLink, IsLinkAt, IsOneMore, IsPushed, TakesUp, counts, line_rows, row_of};
 ghost use Rattle.cargo_record.specs.Refused.{HasNoLine, RefusesLinks, RefusesOne, RefusesPackages, RefusesTargets};
 
@@ -107,26 +107,13 @@ fn check_target(
     ensures refused { IfErr result (λ e. Contains «package».now.row.targets target.now
         → RefusesTargets «package».now e) }
 {
-    match foreign_feature(&package.row.features, &target.required_features) {
-        Some(feature) => Err(foreign(alloc, id_of(package), target, feature)?),
-        None => Ok(()),
-    }
-}
-
-fn foreign(
-    alloc: Global,
-    id: &str,
-    target: &TargetRecord,
-    feature: &str,
-) -> Result<RecordFault, AllocError>
-    ensures { IfOk result (λ e. (p : Declaring) → id.now ≡ p.row.id
-        → Contains p.row.targets target.now → Contains target.now.required_features feature.now
-        → is_feature p.row.features feature.now ≡ false → RefusesTargets p e) }
-{
-    let id = String::from_str(alloc, id)?;
+    let Some(feature) = foreign_feature(&package.row.features, &target.required_features) else {
+        return Ok(());
+    };
+    let id = String::from_str(alloc, id_of(package))?;
     let name = String::from_str(alloc, target.name.as_str())?;
     let feature = String::from_str(alloc, feature)?;
-    Ok(RecordFault::ForeignFeature(id, name, feature))
+    Err(RecordFault::ForeignFeature(id, name, feature))
 }
 
 /// Adds the lines of a package's dependencies.
@@ -205,11 +192,8 @@ fn push_resolved(
     match found {
         Resolution::To(to) => Ok(push_line(alloc, links, start, id, to, dependency)?),
         Resolution::Several => Err(ambiguous(alloc, id, dependency.name())),
-        Resolution::Nothing if !dependency.line.optional => {
-            Err(no_dependency(alloc, id, dependency.name()))
-        }
-        Resolution::Nothing if index.is_member(id) => {
-            Err(no_optional(alloc, id, dependency.name()))
+        Resolution::Nothing if !dependency.line.optional || index.is_member(id) => {
+            Err(no_dependency(alloc, id, dependency))
         }
         Resolution::Nothing => Ok(()),
     }
@@ -225,24 +209,16 @@ fn ambiguous(alloc: Global, id: &str, name: &str) -> RecordFault
     }
 }
 
-fn no_dependency(alloc: Global, id: &str, name: &str) -> RecordFault
-    ensures { (w : Workspace) (entries : List Entry) (d : Declared) → name.now ≡ name_of d
-        → d.line.optional ≡ false → list_any (fits w d) entries ≡ false
-        → HasNoLine w id.now entries d result }
+/// The fault of a dependency that nothing fits.
+fn no_dependency(alloc: Global, id: &str, dependency: &Dependency) -> RecordFault
+    ensures { (w : Workspace) (entries : List Entry)
+        → (dependency.now.line.optional ≡ true → is_member w id.now ≡ true)
+        → list_any (fits w dependency.now) entries ≡ false
+        → HasNoLine w id.now entries dependency.now result }
 {
-    match copies(alloc, id, name) {
+    match copies(alloc, id, dependency.name()) {
+        Ok((id, name)) if dependency.line.optional => RecordFault::NoOptional(id, name),
         Ok((id, name)) => RecordFault::NoDependency(id, name),
-        Err(_) => RecordFault::Memory,
-    }
-}
-
-fn no_optional(alloc: Global, id: &str, name: &str) -> RecordFault
-    ensures { (w : Workspace) (entries : List Entry) (d : Declared) → name.now ≡ name_of d
-        → d.line.optional ≡ true → is_member w id.now ≡ true → list_any (fits w d) entries ≡ false
-        → HasNoLine w id.now entries d result }
-{
-    match copies(alloc, id, name) {
-        Ok((id, name)) => RecordFault::NoOptional(id, name),
         Err(_) => RecordFault::Memory,
     }
 }

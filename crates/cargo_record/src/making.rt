@@ -6,7 +6,6 @@ ghost use Rattle.cargo_record.specs.Kept as spec;
 ghost use Rattle.cargo_record.specs.Lines.{AreLinesOf, line_rows, unlinked};
 ghost use Rattle.cargo_record.specs.Members.{IsWorkspaceOf, are_names};
 ghost use Rattle.cargo_record.specs.Refused.{RefusesRecord};
-ghost use Rattle.cargo_record.specs.declared.fault.RecordFault.TheVariants.{Format};
 
 use crate::fault::RecordFault;
 use crate::lines::links_of;
@@ -34,23 +33,14 @@ pub fn record_of(
     ensures askable { IfOk result (λ _. (metadata.now.format ≡ Some 1)
         × (are_names metadata.now wanted.entry ≡ true)) }
 {
-    check_format(metadata)?;
+    let Some(1) = metadata.format else {
+        return Err(RecordFault::Format);
+    };
     let workspace = workspace_of(alloc, metadata, wanted)?;
     let packages = kept_rows(alloc, &metadata.packages)?;
     let rows = without_links(alloc, packages, workspace);
     let links = links_of(alloc, &rows, metadata)?;
     Ok(linked(rows, links))
-}
-
-fn check_format(metadata: &Metadata) -> Result<(), RecordFault>
-    ensures format { IfOk result (λ _. metadata.now.format ≡ Some 1) }
-    ensures refused { IfErr result (λ e. (e ≡ Format) × (metadata.now.format ≡ Some 1 → ⊥)) }
-{
-    if metadata.format == Some(1) {
-        Ok(())
-    } else {
-        Err(RecordFault::Format)
-    }
 }
 
 fn without_links(

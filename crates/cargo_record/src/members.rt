@@ -208,20 +208,9 @@ fn default_members_of(
         ≡ filter (spec.is_among (spec.ids members.now))
         (spec.named_defaults (option_map (λ w. map string_bytes w.items) defaults.now))) }
 {
-    match defaults {
-        Some(ids) => ids_among(alloc, ids, members),
-        None => Ok(Vec::new(alloc)),
-    }
-}
-
-fn ids_among(
-    alloc: Global,
-    ids: &[String],
-    members: &[MemberRecord],
-) -> Result<Vec<String>, AllocError>
-    ensures { IfOk result (λ v. map string_bytes v.items
-        ≡ filter (spec.is_among (spec.ids members.now)) (map string_bytes ids.now)) }
-{
+    let Some(ids) = defaults else {
+        return Ok(Vec::new(alloc));
+    };
     let mut found = Vec::new(alloc);
     for id in ids {
         if has_member(members, id.as_str()) {
@@ -274,14 +263,8 @@ fn unknown_name<'a>(metadata: &Metadata, names: &[&'a str]) -> Option<&'a str>
 fn is_member_name(metadata: &Metadata, name: &str) -> bool
     ensures { result ≡ spec.is_member_name metadata.now name.now }
 {
-    has_member_name(&metadata.packages, &metadata.workspace.members, name)
-}
-
-fn has_member_name(packages: &[DeclaringPackage], ids: &[String], name: &str) -> bool
-    ensures { result ≡ list_any (λ p. bytes_eq p.row.name name.now
-        && spec.is_among (map string_bytes ids.now) p.row.id) packages.now }
-{
-    packages.iter().any(|package| {
+    let ids = &metadata.workspace.members;
+    metadata.packages.iter().any(|package| {
         package.row.name.as_str() == name && is_among(ids, package.row.id.as_str())
     })
 }

@@ -26,13 +26,8 @@ fn kept_row(alloc: Global, row: &PackageRecord) -> Result<PackageRecord, AllocEr
     ensures { IfOk result (λ p. p ≡ spec.kept row.now) }
 {
     let targets = own_targets(alloc, &row.features, &row.targets)?;
-    Ok(with_targets(row.copy(alloc)?, targets))
-}
-
-fn with_targets(row: PackageRecord, targets: Vec<TargetRecord>) -> PackageRecord
-    ensures { result ≡ record row { targets = targets.items } }
-{
-    PackageRecord { targets, ..row }
+    let row = row.copy(alloc)?;
+    Ok(PackageRecord { targets, ..row })
 }
 
 fn own_targets(
