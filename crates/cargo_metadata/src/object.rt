@@ -7,7 +7,7 @@ ghost use Rattle.serde_json.specs.Find.{as_object};
 ghost use Rattle.serde_json.specs.View.{view, items_view};
 ghost use Rattle.cargo_metadata.specs.Faults.{Fault};
 ghost use Rattle.cargo_metadata.specs.Outcomes.{Gives};
-ghost use Rattle.cargo_metadata.specs.Values.{each, given, text_of, each_text, as_texts, text_at, optional_text_at, texts_of, texts_at, texts_or_none, optional_texts_at, flag_at, object_of, objects_at};
+ghost use Rattle.cargo_metadata.specs.Values.{each, given, text_of, as_texts, text_at, optional_text_at, texts_of, texts_at, texts_or_none, optional_texts_at, flag_at, object_of, objects_at};
 
 use crate::error::MetadataError;
 use crate::key::Key;
@@ -64,10 +64,14 @@ pub(crate) fn flag_at(value: &Value, key: Key) -> Result<bool, MetadataError>
     }
 }
 
-fn each_text(alloc: Global, values: &[Value]) -> Result<Option<Vec<String>>, AllocError>
+/// The texts of a list, if the value is one.
+pub(crate) fn as_texts(alloc: Global, value: &Value) -> Result<Option<Vec<String>>, AllocError>
     ensures { IfOk result (λ o. option_map (λ v. map string_bytes v.items) o
-        ≡ each_text (items_view values.now)) }
+        ≡ as_texts (view value.now)) }
 {
+    let Some(values) = value.as_array() else {
+        return Ok(None);
+    };
     let mut texts = Vec::new(alloc);
     for value in values {
         let Some(text) = value.as_str() else {
@@ -76,17 +80,6 @@ fn each_text(alloc: Global, values: &[Value]) -> Result<Option<Vec<String>>, All
         texts.push(String::from_str(alloc, text)?)?;
     }
     Ok(Some(texts))
-}
-
-/// The texts of a list, if the value is one.
-pub(crate) fn as_texts(alloc: Global, value: &Value) -> Result<Option<Vec<String>>, AllocError>
-    ensures { IfOk result (λ o. option_map (λ v. map string_bytes v.items) o
-        ≡ as_texts (view value.now)) }
-{
-    match value.as_array() {
-        None => Ok(None),
-        Some(values) => each_text(alloc, values),
-    }
 }
 
 pub(crate) fn texts_of(alloc: Global, value: &Value, key: Key) -> Result<Vec<String>, MetadataError>

@@ -1,9 +1,9 @@
 ghost use Rattle.std.specs.Prelude.{◌≡◌, [], IfOk};
-ghost use Rattle.serde_json.specs.View.{view, members_view};
+ghost use Rattle.serde_json.specs.View.{view};
 ghost use Rattle.list_facts.specs.Texts.{texts};
 ghost use Rattle.cargo_metadata.specs.declared.key.Key.TheVariants as key;
 ghost use Rattle.cargo_metadata.specs.Outcomes.{Gives};
-ghost use Rattle.cargo_metadata.specs.Packages.{contents_of, each_feature, features_of, is_new_optional, optional_names, package_of};
+ghost use Rattle.cargo_metadata.specs.Packages.{contents_of, features_of, is_new_optional, optional_names, package_of};
 ghost use Rattle.cargo_metadata.specs.Values.{required, texts_of};
 
 use crate::called::at_package;
@@ -13,7 +13,7 @@ use crate::error::MetadataError;
 use crate::key::Key;
 use crate::object::{FromValue, each_of, given, objects_at, text_at, texts_of};
 use crate::target::targets_of;
-use serde_json::{Map, Value};
+use serde_json::Value;
 use std::alloc::{AllocError, Global};
 use std::marker::Model;
 use workspace_record::{FeatureRecord, PackageRecord, TargetRecord};
@@ -112,18 +112,9 @@ fn contents_of(alloc: Global, owner: &str, value: &Value) -> Result<Contents, Me
 fn features_at(alloc: Global, value: &Value) -> Result<Vec<FeatureRecord>, MetadataError>
     ensures { Gives (λ v. v.items) result (required features_of key.Features (view value.now)) }
 {
-    match given(value, Key::Features).and_then(Value::as_object) {
-        None => Err(MetadataError::at(Key::Features)),
-        Some(members) => features_of(alloc, members),
-    }
-}
-
-fn features_of(
-    alloc: Global,
-    members: &Map<String, Value>,
-) -> Result<Vec<FeatureRecord>, MetadataError>
-    ensures { Gives (λ v. v.items) result (each_feature (members_view members.now.entries)) }
-{
+    let Some(members) = given(value, Key::Features).and_then(Value::as_object) else {
+        return Err(MetadataError::at(Key::Features));
+    };
     let mut features = Vec::new(alloc);
     for (name, value) in members.iter() {
         features.push(feature_of(alloc, name.as_str(), value)?)?;
