@@ -4,7 +4,6 @@ ghost use Rattle.std.specs.Prelude.{◌≡◌, ◌++◌, [], IfErr, IfOk, OnErr,
 ghost use Rattle.serde_json.specs.View.{view};
 ghost use Rattle.guppy_package_rules.specs.Places.{first_repeat};
 ghost use Rattle.test_select_rules.specs.Binaries.{binaries};
-ghost use Rattle.test_select_rules.specs.BinaryView.{binary_view};
 ghost use Rattle.record_writing.specs.Files.{ReadAsListings};
 ghost use Rattle.cargo_files.specs.Nextest.{suite_tests};
 ghost use Rattle.cargo_files.specs.Added.{IsAdded, listing};
@@ -21,7 +20,7 @@ use record_writing::listings_text;
 use serde_json::Value;
 use std::alloc::{AllocError, Global};
 use std::str;
-use test_select_rules::binaries::{TestBinary, binaries};
+use test_select_rules::binaries::binaries;
 use workspace_record::WorkspaceRecord;
 
 /// The tests of each binary, by its id.
@@ -41,15 +40,8 @@ fn ids_of(alloc: Global, record: &WorkspaceRecord) -> Result<Vec<String>, AllocE
         ≡ map (λ b. b.id) (binaries «record».now)) }
 {
     let all = binaries(alloc, record)?;
-    ids_among(alloc, &all)
-}
-
-fn ids_among(alloc: Global, all: &[TestBinary<'_>]) -> Result<Vec<String>, AllocError>
-    ensures { IfOk result (λ v. map string_bytes v.items
-        ≡ map (λ b. b.id) (map binary_view all.now)) }
-{
     let mut ids = Vec::new(alloc);
-    for binary in all {
+    for binary in &all {
         ids.push(String::from_str(alloc, binary.id.as_str())?)?;
     }
     Ok(ids)

@@ -1,6 +1,6 @@
 //! The features that a word means.
 
-ghost use Rattle.std.specs.Prelude.{◌≡◌, ◌++◌, IfOk, OnOk, flat_map, bytes_eq, option_copied};
+ghost use Rattle.std.specs.Prelude.{◌≡◌, ◌++◌, IfOk, OnOk, flat_map, option_copied};
 ghost use Rattle.workspace_record.specs.Packages.{is_member};
 ghost use Rattle.cargo_files.specs.Meaning.{meant, member_feature, member_named, own_feature};
 ghost use Rattle.cargo_files.specs.Words.{OfMember, word_value};
@@ -93,17 +93,13 @@ pub(crate) fn member_named<'i, 'r>(
 ) -> Option<&'i PackageIndex<'r>>
     ensures { option_copied result ≡ member_named index.entry.now owner.now }
 {
-    index.packages().iter().find(|package| is_member(index, package) && is_named(package, owner))
+    index.packages().iter().find(|package| {
+        is_member(index, package) && package.row().name.as_str() == owner
+    })
 }
 
 pub(crate) fn is_member(index: &RecordIndex<'_>, package: &PackageIndex<'_>) -> bool
     ensures { result ≡ is_member index.now «package».now.id }
 {
     index.is_member(package.row().id.as_str())
-}
-
-fn is_named(package: &PackageIndex<'_>, name: &str) -> bool
-    ensures { result ≡ bytes_eq «package».now.name name.now }
-{
-    package.row().name.as_str() == name
 }
