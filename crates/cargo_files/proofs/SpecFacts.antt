@@ -1,5 +1,5 @@
 -- What an answer says of a spec.
-use Rattle.std.proofs.Common.{◌≡◌, Bool, true, false, ◌&&◌, ◌||◌, not, ◌↔◌, inl, inr, List, Result, Ok, Err, IfOk, IsOkAnd, IsTrue, refl, sym, subst, ◌∙◌}
+use Rattle.std.proofs.Common.{◌≡◌, Bool, true, false, ◌&&◌, ◌||◌, not, ◌↔◌, inl, inr, List, Result, Ok, Err, IsOkAnd, IsTrue, refl, sym, subst, ◌∙◌}
 use Rattle.std.proofs.lemmas.Bool.{and_parts, or_cases, false≢true}
 use Rattle.workspace_record.specs.Records.{Text}
 use Rattle.cargo_files.specs.Settings.{Setting}
@@ -54,10 +54,6 @@ says_holds settings x = (said_holds settings x, holds_said settings x)
 pub is_ok_so : {T E : Type 0} (r : Result T E) (P Q : T → Type 0) → ((x : T) → P x → Q x) → IsOkAnd r P → IsOkAnd r Q
 is_ok_so (Ok x) P Q f h = f x h
 is_ok_so (Err e) P Q f h = h
-
-pub if_ok_so : {T E : Type 0} (r : Result T E) (P Q : T → Type 0) → ((x : T) → P x → Q x) → IfOk r P → IfOk r Q
-if_ok_so (Ok x) P Q f h = f x h
-if_ok_so (Err e) P Q f h = h
 
 pub cfg_answers : {E : Type 0} (text triple : Text) (settings : List Setting) (r : Result Bool E) → is_expression text ≡ true → ((x : Cfg) → IsCfg text x → IsOkAnd r (λ b. b ≡ says settings x)) → (s : Spec) → IsSpec text s → IsOkAnd r (λ b. IsTrue b ↔ SpecHolds triple settings s)
 cfg_answers text triple settings r begins only (cfg_spec x) is =

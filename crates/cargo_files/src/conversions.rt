@@ -1,7 +1,6 @@
 //! Records, tables and choices.
 
 ghost use Rattle.std.specs.Prelude.{◌≡◌, IfErr, IfOk, IfSome, find, option_copied, option_map, string_bytes};
-ghost use Rattle.std.specs.List.{list_any};
 ghost use Rattle.cargo_files.specs.Printed.{AreSettings};
 ghost use Rattle.cargo_files.specs.TableAnswers.{IsRefusal, specs_of};
 ghost use Rattle.cargo_files.specs.Choices.{IsChoiceFile, IsChoiceOf};
@@ -19,7 +18,7 @@ use cargo_record::{RequestedMembers, record_of};
 use record_files::read_record;
 use record_writing::{choice_text, record_text, table_text};
 use std::alloc::{AllocError, Global};
-use workspace_record::{LineRecord, LinkRecord, WorkspaceRecord};
+use workspace_record::{LinkRecord, WorkspaceRecord};
 
 /// The record of what `cargo metadata` printed, of which these members are asked about.
 pub fn record_file(
@@ -133,13 +132,7 @@ fn link_with<'a>(links: &'a [LinkRecord], spec: &str) -> Option<&'a LinkRecord>
 fn has_spec(link: &LinkRecord, spec: &str) -> bool
     ensures { result ≡ has_spec spec.now link.now }
 {
-    lines_have(&link.lines, spec)
-}
-
-fn lines_have(lines: &[LineRecord], spec: &str) -> bool
-    ensures { result ≡ list_any (λ line. is_spec spec.now line.spec) lines.now }
-{
-    lines.iter().any(|line| is_spec(&line.spec, spec))
+    link.lines.iter().any(|line| is_spec(&line.spec, spec))
 }
 
 fn is_spec(text: &Option<String>, spec: &str) -> bool

@@ -1,10 +1,9 @@
 //! Listings of the test binaries of a record.
 
-ghost use Rattle.std.specs.Prelude.{◌≡◌, ◌++◌, [], IfErr, IfOk, None, OnErr, OnOk, bytes_eq, false, get_or, map, option_map, string_bytes};
+ghost use Rattle.std.specs.Prelude.{◌≡◌, ◌++◌, [], IfErr, IfOk, OnErr, OnOk, bytes_eq, get_or, map, option_map, string_bytes};
 ghost use Rattle.serde_json.specs.View.{view};
 ghost use Rattle.guppy_package_rules.specs.Places.{first_repeat};
 ghost use Rattle.test_select_rules.specs.Binaries.{binaries};
-ghost use Rattle.test_select_rules.specs.BinaryView.{binary_view};
 ghost use Rattle.record_writing.specs.Files.{ReadAsListings};
 ghost use Rattle.cargo_files.specs.Nextest.{suite_tests};
 ghost use Rattle.cargo_files.specs.Added.{IsAdded, listing};
@@ -21,7 +20,7 @@ use record_writing::listings_text;
 use serde_json::Value;
 use std::alloc::{AllocError, Global};
 use std::str;
-use test_select_rules::binaries::{TestBinary, binaries};
+use test_select_rules::binaries::binaries;
 use workspace_record::WorkspaceRecord;
 
 /// The tests of each binary, by its id.
@@ -41,15 +40,8 @@ fn ids_of(alloc: Global, record: &WorkspaceRecord) -> Result<Vec<String>, AllocE
         ≡ map (λ b. b.id) (binaries «record».now)) }
 {
     let all = binaries(alloc, record)?;
-    ids_among(alloc, &all)
-}
-
-fn ids_among(alloc: Global, all: &[TestBinary<'_>]) -> Result<Vec<String>, AllocError>
-    ensures { IfOk result (λ v. map string_bytes v.items
-        ≡ map (λ b. b.id) (map binary_view all.now)) }
-{
     let mut ids = Vec::new(alloc);
-    for binary in all {
+    for binary in &all {
         ids.push(String::from_str(alloc, binary.id.as_str())?)?;
     }
     Ok(ids)
@@ -74,7 +66,7 @@ pub fn add_listing(
         return if built {
             Ok(())
         } else {
-            Err(no_list(alloc, id)?)
+            Err(Refusal::NoList(String::from_str(alloc, id)?))
         };
     };
     if let Some(place) = first_repeated(alloc, &tests)? {
@@ -88,7 +80,10 @@ pub fn add_listing(
 fn first_repeated(alloc: Global, names: &[String]) -> Result<Option<usize>, AllocError>
     ensures { IfOk result (λ place. place ≡ first_repeat bytes_eq (map string_bytes names.now)) }
 {
-    let lent = lent_names(alloc, names)?;
+    let mut lent = Vec::new(alloc);
+    for name in names {
+        lent.push(name.as_str())?;
+    }
     first_repeated_text(alloc, &lent)
 }
 
@@ -99,16 +94,6 @@ fn name_at(names: &[String], place: usize) -> &str
         Some(name) => name.as_str(),
         None => "",
     }
-}
-
-fn lent_names<'a>(alloc: Global, names: &'a [String]) -> Result<Vec<&'a str>, AllocError>
-    ensures { IfOk result (λ v. map (λ t. t.now) v.items ≡ map string_bytes names.entry.now) }
-{
-    let mut lent = Vec::new(alloc);
-    for name in names {
-        lent.push(name.as_str())?;
-    }
-    Ok(lent)
 }
 
 /// The tests of these binaries that `cargo nextest list --message-format json` printed.
@@ -191,12 +176,6 @@ fn tests_listed(alloc: Global, id: &str, text: &str) -> Result<Vec<String>, Refu
         }
         Err(TerseFault::Memory) => Err(Refusal::Memory),
     }
-}
-
-fn no_list(alloc: Global, id: &str) -> Result<Refusal, AllocError>
-    ensures { IfOk result (λ r. RefusesTests id.now None false r) }
-{
-    Ok(Refusal::NoList(String::from_str(alloc, id)?))
 }
 
 fn repeated(alloc: Global, id: &str, name: &str) -> Result<Refusal, AllocError>

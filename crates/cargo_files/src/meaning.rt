@@ -1,9 +1,9 @@
 //! The features that a word means.
 
-ghost use Rattle.std.specs.Prelude.{◌≡◌, ◌++◌, IfOk, OnOk, find, flat_map, bytes_eq, ◌&&◌, option_copied};
-ghost use Rattle.workspace_record.specs.Packages.{first_of_each, is_member};
+ghost use Rattle.std.specs.Prelude.{◌≡◌, ◌++◌, IfOk, OnOk, flat_map, option_copied};
+ghost use Rattle.workspace_record.specs.Packages.{is_member};
 ghost use Rattle.cargo_files.specs.Meaning.{meant, member_feature, member_named, own_feature};
-ghost use Rattle.cargo_files.specs.Words.{OfEach, OfMember, word_value};
+ghost use Rattle.cargo_files.specs.Words.{OfMember, word_value};
 
 use crate::word::{Word, word_of};
 use std::alloc::{AllocError, Global};
@@ -18,19 +18,9 @@ pub(crate) fn meant_by_word(
     ensures { IfOk result (λ v. v.items ≡ meant index.now (word_value word.now)) }
 {
     match word_of(word) {
-        Word::OfEach(name) => meant_of_each(alloc, index, name),
+        Word::OfEach(name) => features_among(alloc, index, index.packages(), name),
         Word::OfMember(owner, name) => meant_of_member(alloc, index, owner, name),
     }
-}
-
-fn meant_of_each(
-    alloc: Global,
-    index: &RecordIndex<'_>,
-    name: &str,
-) -> Result<Vec<Feature>, AllocError>
-    ensures { IfOk result (λ v. v.items ≡ meant index.now (OfEach name.now)) }
-{
-    features_among(alloc, index, index.packages(), name)
 }
 
 /// The features of this name of these packages, as far as they are members.
@@ -103,28 +93,13 @@ pub(crate) fn member_named<'i, 'r>(
 ) -> Option<&'i PackageIndex<'r>>
     ensures { option_copied result ≡ member_named index.entry.now owner.now }
 {
-    member_among(index, index.packages(), owner)
-}
-
-fn member_among<'i, 'r>(
-    index: &RecordIndex<'r>,
-    packages: &'i [PackageIndex<'r>],
-    owner: &str,
-) -> Option<&'i PackageIndex<'r>>
-    ensures { option_copied result ≡ find
-        (λ p. is_member index.now p.id && bytes_eq p.name owner.now) packages.entry.now }
-{
-    packages.iter().find(|package| is_member(index, package) && is_named(package, owner))
+    index.packages().iter().find(|package| {
+        is_member(index, package) && package.row().name.as_str() == owner
+    })
 }
 
 pub(crate) fn is_member(index: &RecordIndex<'_>, package: &PackageIndex<'_>) -> bool
     ensures { result ≡ is_member index.now «package».now.id }
 {
     index.is_member(package.row().id.as_str())
-}
-
-fn is_named(package: &PackageIndex<'_>, name: &str) -> bool
-    ensures { result ≡ bytes_eq «package».now.name name.now }
-{
-    package.row().name.as_str() == name
 }

@@ -20,13 +20,6 @@ impl Model for CfgSetting {
     ghost view = { λ s. record { name = string_bytes s.name; value = option_map string_bytes s.value } };
 }
 
-/// Whether the setting has this name and no value.
-fn is_name(setting: &CfgSetting, name: &[u8]) -> bool
-    ensures { result ≡ spec.is_name name.now setting.now }
-{
-    setting.value.is_none() && setting.name.as_bytes() == name
-}
-
 /// Whether the setting has this name and this value.
 fn is_pair(setting: &CfgSetting, name: &[u8], value: &[u8]) -> bool
     ensures { result ≡ spec.is_pair name.now value.now setting.now }
@@ -41,7 +34,7 @@ fn is_pair(setting: &CfgSetting, name: &[u8], value: &[u8]) -> bool
 pub(crate) fn has_name(settings: &[CfgSetting], name: &[u8]) -> bool
     ensures { result ≡ list_any (spec.is_name name.now) settings.now }
 {
-    settings.iter().any(|setting| is_name(setting, name))
+    settings.iter().any(|setting| setting.value.is_none() && setting.name.as_bytes() == name)
 }
 
 /// Whether the name is set to the value.

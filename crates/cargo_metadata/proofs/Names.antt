@@ -23,7 +23,7 @@ stays path false is none = refl
 pub no_manifest : (path : Text) → ((front : Text) → path ≡ front ++ codes "/Cargo.toml" → ⊥) → path ≡ folder_of path
 no_manifest path none = stays path (ends_as_manifest path) refl none
 
-pub new_optional : (seen : List (String Global)) (d : Declared) (optional among : Bool) (name : Text) → optional ≡ d.line.optional → optional ≡ true → name ≡ name_of d → among ≡ list_any (λ s. bytes_eq name (string_bytes s)) seen → not among ≡ is_new_optional (texts seen) d
-new_optional seen d optional among name is holds called found =
+pub new_optional : (seen : List (String Global)) (d : Declared) (among : Bool) (name : Text) → d.line.optional ≡ true → name ≡ name_of d → among ≡ list_any (λ s. bytes_eq name (string_bytes s)) seen → not among ≡ is_new_optional (texts seen) d
+new_optional seen d among name on called found =
     let here : among ≡ list_any (bytes_eq (name_of d)) (texts seen) = found ∙ among_texts name seen ∙ ap (λ n. list_any (bytes_eq n) (texts seen)) called in
-    ap not here ∙ ap (λ b. b && not (list_any (bytes_eq (name_of d)) (texts seen))) (sym holds ∙ is)
+    ap not here ∙ ap (λ b. b && not (list_any (bytes_eq (name_of d)) (texts seen))) (sym on)

@@ -130,10 +130,6 @@ optional_texts_at = optional texts_of
 abbrev pub flag_at : Key → Data → Result Bool Fault
 flag_at = required flag_of
 
--- an object that has to be given
-abbrev pub object_at : Key → Data → Result Data Fault
-object_at = required object_of
-
 -- a list of objects that has to be given
 abbrev pub objects_at : Key → Data → Result Items Fault
 objects_at = required objects_of

@@ -1,14 +1,13 @@
 ghost use Rattle.std.specs.Prelude.{◌≡◌};
-ghost use Rattle.serde_json.specs.View.{view, items_view};
+ghost use Rattle.serde_json.specs.View.{view};
 ghost use Rattle.cargo_metadata.specs.declared.key.Key.TheVariants as key;
 ghost use Rattle.cargo_metadata.specs.Dependencies as spec;
-ghost use Rattle.cargo_metadata.specs.Dependencies.{dependency_of, line_kind_at, line_of};
+ghost use Rattle.cargo_metadata.specs.Dependencies.{line_kind_at, line_of};
 ghost use Rattle.cargo_metadata.specs.Outcomes.{Gives};
-ghost use Rattle.cargo_metadata.specs.Values.{each};
 
 use crate::error::MetadataError;
 use crate::key::Key;
-use crate::object::{flag_at, given, optional_text_at, text_at, texts_at};
+use crate::object::{FromValue, flag_at, given, optional_text_at, text_at, texts_at};
 use serde_json::Value;
 use std::alloc::Global;
 use std::marker::Model;
@@ -56,39 +55,30 @@ impl Dependency {
     }
 }
 
-pub(crate) fn dependencies_of(
-    alloc: Global,
-    values: &[Value],
-) -> Result<Vec<Dependency>, MetadataError>
-    ensures { Gives (λ v. v.items) result (each dependency_of (items_view values.now)) }
-{
-    let mut dependencies = Vec::new(alloc);
-    for value in values {
-        dependencies.push(dependency_of(alloc, value)?)?;
-    }
-    Ok(dependencies)
-}
+impl FromValue for Dependency {
+    ghost use Rattle.cargo_metadata.specs.Dependencies.{dependency_of};
 
-#[tactic(auto, unfolding(crate::specs::Dependencies::dependency_of))]
-fn dependency_of(alloc: Global, value: &Value) -> Result<Dependency, MetadataError>
-    ensures { Gives (λ d. d) result (dependency_of (view value.now)) }
-{
-    let package_name = text_at(alloc, value, Key::Name)?;
-    let rename = optional_text_at(alloc, value, Key::Rename)?;
-    let source = optional_text_at(alloc, value, Key::Source)?;
-    let requirement = text_at(alloc, value, Key::Requirement)?;
-    let registry = optional_text_at(alloc, value, Key::Registry)?;
-    let path = optional_text_at(alloc, value, Key::Path)?;
-    let line = line_of(alloc, value)?;
-    Ok(Dependency {
-        package_name,
-        rename,
-        source,
-        requirement,
-        registry,
-        path,
-        line,
-    })
+    ghost read = { dependency_of };
+
+    #[tactic(auto, unfolding(crate::specs::Dependencies::dependency_of))]
+    fn from_value(alloc: Global, value: &Value) -> Result<Dependency, MetadataError> {
+        let package_name = text_at(alloc, value, Key::Name)?;
+        let rename = optional_text_at(alloc, value, Key::Rename)?;
+        let source = optional_text_at(alloc, value, Key::Source)?;
+        let requirement = text_at(alloc, value, Key::Requirement)?;
+        let registry = optional_text_at(alloc, value, Key::Registry)?;
+        let path = optional_text_at(alloc, value, Key::Path)?;
+        let line = line_of(alloc, value)?;
+        Ok(Dependency {
+            package_name,
+            rename,
+            source,
+            requirement,
+            registry,
+            path,
+            line,
+        })
+    }
 }
 
 #[tactic(auto, unfolding(crate::specs::Dependencies::line_of))]

@@ -1,17 +1,17 @@
-ghost use Rattle.std.specs.Prelude.{◌≡◌, option_map};
+ghost use Rattle.std.specs.Prelude.{option_map};
 ghost use Rattle.serde_json.specs.View.{view};
 ghost use Rattle.cargo_metadata.specs.Files.{ReadsFile};
-ghost use Rattle.cargo_metadata.specs.Metadata.{format_of, metadata_file, metadata_of, nodes_at, workspace_of};
+ghost use Rattle.cargo_metadata.specs.Metadata.{metadata_file, metadata_of, nodes_at, workspace_of};
 ghost use Rattle.cargo_metadata.specs.Outcomes.{Gives};
 
 use crate::error::MetadataError;
 use crate::file::value_of;
 use crate::key::Key;
 use crate::object::{
-    given, object_of, objects_at, optional_text_at, optional_texts_at, text_at, texts_at,
+    each_of, given, object_of, objects_at, optional_text_at, optional_texts_at, text_at, texts_at,
 };
-use crate::package::{DeclaringPackage, packages_of};
-use crate::resolved::{ResolvedPackage, nodes_of};
+use crate::package::DeclaringPackage;
+use crate::resolved::ResolvedPackage;
 use serde_json::Value;
 use std::alloc::Global;
 use std::marker::Model;
@@ -71,22 +71,16 @@ pub fn read_metadata(alloc: Global, bytes: &[u8]) -> Result<Metadata, MetadataEr
 fn metadata_of(alloc: Global, value: &Value) -> Result<Metadata, MetadataError>
     ensures { Gives (λ m. m) result (metadata_of (view value.now)) }
 {
-    let format = format_of(value);
+    let format = value.get("version").and_then(Value::as_u64);
     let workspace = workspace_of(alloc, value)?;
     let nodes = nodes_at(alloc, value)?;
-    let packages = packages_of(alloc, objects_at(value, Key::Packages)?)?;
+    let packages = each_of::<DeclaringPackage>(alloc, objects_at(value, Key::Packages)?)?;
     Ok(Metadata {
         format,
         packages,
         nodes,
         workspace,
     })
-}
-
-fn format_of(value: &Value) -> Option<u64>
-    ensures { result ≡ format_of (view value.now) }
-{
-    value.get("version").and_then(Value::as_u64)
 }
 
 #[tactic(auto, unfolding(crate::specs::Metadata::workspace_of))]
@@ -112,6 +106,9 @@ fn nodes_at(alloc: Global, value: &Value) -> Result<Option<Vec<ResolvedPackage>>
 {
     match given(value, Key::Resolve) {
         None => Ok(None),
-        Some(resolve) => Ok(Some(nodes_of(alloc, objects_at(resolve, Key::Nodes)?)?)),
+        Some(resolve) => Ok(Some(each_of::<ResolvedPackage>(
+            alloc,
+            objects_at(resolve, Key::Nodes)?,
+        )?)),
     }
 }

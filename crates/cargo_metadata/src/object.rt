@@ -1,11 +1,13 @@
 //! Values as texts, flags and lists, and the values at the keys of an object.
 
-ghost use Rattle.std.specs.Prelude.{◌≡◌, IfOk, map, is_some, option_map, string_bytes};
+ghost use Rattle.std.specs.Prelude.{◌≡◌, IfOk, Result, is_some, map, option_map, string_bytes};
 ghost use Rattle.std.specs.List.{list_all};
+ghost use Rattle.serde_json.specs.Data.{Data};
 ghost use Rattle.serde_json.specs.Find.{as_object};
 ghost use Rattle.serde_json.specs.View.{view, items_view};
+ghost use Rattle.cargo_metadata.specs.Faults.{Fault};
 ghost use Rattle.cargo_metadata.specs.Outcomes.{Gives};
-ghost use Rattle.cargo_metadata.specs.Values.{given, text_of, each_text, as_texts, text_at, optional_text_at, texts_of, texts_at, texts_or_none, optional_texts_at, flag_of, flag_at, object_of, object_at, objects_of, objects_at};
+ghost use Rattle.cargo_metadata.specs.Values.{each, given, text_of, as_texts, text_at, optional_text_at, texts_of, texts_at, texts_or_none, optional_texts_at, flag_at, object_of, objects_at};
 
 use crate::error::MetadataError;
 use crate::key::Key;
@@ -53,25 +55,23 @@ pub(crate) fn optional_text_at(
     }
 }
 
-pub(crate) fn flag_of(value: &Value, key: Key) -> Result<bool, MetadataError>
-    ensures { Gives (λ b. b) result (flag_of key (view value.now)) }
-{
-    value.as_bool().ok_or(MetadataError::at(key))
-}
-
 pub(crate) fn flag_at(value: &Value, key: Key) -> Result<bool, MetadataError>
     ensures { Gives (λ b. b) result (flag_at key (view value.now)) }
 {
     match given(value, key) {
         None => Err(MetadataError::at(key)),
-        Some(value) => flag_of(value, key),
+        Some(value) => value.as_bool().ok_or(MetadataError::at(key)),
     }
 }
 
-fn each_text(alloc: Global, values: &[Value]) -> Result<Option<Vec<String>>, AllocError>
+/// The texts of a list, if the value is one.
+pub(crate) fn as_texts(alloc: Global, value: &Value) -> Result<Option<Vec<String>>, AllocError>
     ensures { IfOk result (λ o. option_map (λ v. map string_bytes v.items) o
-        ≡ each_text (items_view values.now)) }
+        ≡ as_texts (view value.now)) }
 {
+    let Some(values) = value.as_array() else {
+        return Ok(None);
+    };
     let mut texts = Vec::new(alloc);
     for value in values {
         let Some(text) = value.as_str() else {
@@ -80,17 +80,6 @@ fn each_text(alloc: Global, values: &[Value]) -> Result<Option<Vec<String>>, All
         texts.push(String::from_str(alloc, text)?)?;
     }
     Ok(Some(texts))
-}
-
-/// The texts of a list, if the value is one.
-pub(crate) fn as_texts(alloc: Global, value: &Value) -> Result<Option<Vec<String>>, AllocError>
-    ensures { IfOk result (λ o. option_map (λ v. map string_bytes v.items) o
-        ≡ as_texts (view value.now)) }
-{
-    match value.as_array() {
-        None => Ok(None),
-        Some(values) => each_text(alloc, values),
-    }
 }
 
 pub(crate) fn texts_of(alloc: Global, value: &Value, key: Key) -> Result<Vec<String>, MetadataError>
@@ -147,15 +136,6 @@ pub(crate) fn object_of(value: &Value, key: Key) -> Result<&Value, MetadataError
     }
 }
 
-pub(crate) fn object_at(value: &Value, key: Key) -> Result<&Value, MetadataError>
-    ensures { Gives (λ v. view v.now) result (object_at key (view value.entry.now)) }
-{
-    match given(value, key) {
-        None => Err(MetadataError::at(key)),
-        Some(value) => object_of(value, key),
-    }
-}
-
 fn all_objects(values: &[Value]) -> bool
     ensures { result ≡ list_all (λ v. is_some (as_object (view v))) values.now }
 {
@@ -163,20 +143,34 @@ fn all_objects(values: &[Value]) -> bool
 }
 
 #[tactic(auto, using(crate::proofs::Lists::all_objects_seen))]
-fn objects_of(value: &Value, key: Key) -> Result<&[Value], MetadataError>
-    ensures { Gives (λ v. items_view v.now) result (objects_of key (view value.entry.now)) }
+pub(crate) fn objects_at(value: &Value, key: Key) -> Result<&[Value], MetadataError>
+    ensures { Gives (λ v. items_view v.now) result (objects_at key (view value.entry.now)) }
 {
-    match value.as_array() {
+    match given(value, key).and_then(Value::as_array) {
         Some(values) if all_objects(values) => Ok(values),
         _ => Err(MetadataError::at(key)),
     }
 }
 
-pub(crate) fn objects_at(value: &Value, key: Key) -> Result<&[Value], MetadataError>
-    ensures { Gives (λ v. items_view v.now) result (objects_at key (view value.entry.now)) }
+/// What is read of each value of a list.
+pub(crate) trait FromValue: Drop {
+    ghost read: { Data → Result Self Fault };
+
+    /// What is read of the value.
+    fn from_value(alloc: Global, value: &Value) -> Result<Self, MetadataError>
+        ensures { Gives (λ x. x) result (read (view value.now)) };
+}
+
+/// What is read of the values, in their order.
+pub(crate) fn each_of<T: FromValue>(
+    alloc: Global,
+    values: &[Value],
+) -> Result<Vec<T>, MetadataError>
+    ensures { Gives (λ v. v.items) result (each T.read (items_view values.now)) }
 {
-    match given(value, key) {
-        None => Err(MetadataError::at(key)),
-        Some(value) => objects_of(value, key),
+    let mut read = Vec::new(alloc);
+    for value in values {
+        read.push(T::from_value(alloc, value)?)?;
     }
+    Ok(read)
 }

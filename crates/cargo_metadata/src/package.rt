@@ -1,21 +1,19 @@
-ghost use Rattle.std.specs.Prelude.{◌≡◌, [], IfOk, bytes_eq, string_bytes};
-ghost use Rattle.std.specs.List.{list_any};
-ghost use Rattle.serde_json.specs.View.{view, items_view, members_view};
+ghost use Rattle.std.specs.Prelude.{◌≡◌, [], IfOk};
+ghost use Rattle.serde_json.specs.View.{view};
 ghost use Rattle.list_facts.specs.Texts.{texts};
 ghost use Rattle.cargo_metadata.specs.declared.key.Key.TheVariants as key;
 ghost use Rattle.cargo_metadata.specs.Outcomes.{Gives};
-ghost use Rattle.cargo_metadata.specs.Called.{of_package};
-ghost use Rattle.cargo_metadata.specs.Packages.{contents_of, each_feature, features_of, is_new_optional, optional_names, package_of};
-ghost use Rattle.cargo_metadata.specs.Values.{each, required, texts_of};
+ghost use Rattle.cargo_metadata.specs.Packages.{contents_of, features_of, is_new_optional, optional_names, package_of};
+ghost use Rattle.cargo_metadata.specs.Values.{required, texts_of};
 
 use crate::called::at_package;
-use crate::dependency::{Dependency, dependencies_of};
+use crate::dependency::Dependency;
 use crate::details::details_of;
 use crate::error::MetadataError;
 use crate::key::Key;
-use crate::object::{given, objects_at, text_at, texts_of};
+use crate::object::{FromValue, each_of, given, objects_at, text_at, texts_of};
 use crate::target::targets_of;
-use serde_json::{Map, Value};
+use serde_json::Value;
 use std::alloc::{AllocError, Global};
 use std::marker::Model;
 use workspace_record::{FeatureRecord, PackageRecord, TargetRecord};
@@ -35,26 +33,18 @@ impl Model for DeclaringPackage {
     ghost view = { λ p. record { row = p.row; dependencies = p.dependencies.items } };
 }
 
-pub(crate) fn packages_of(
-    alloc: Global,
-    values: &[Value],
-) -> Result<Vec<DeclaringPackage>, MetadataError>
-    ensures { Gives (λ v. v.items) result (each (of_package package_of) (items_view values.now)) }
-{
-    let mut packages = Vec::new(alloc);
-    for value in values {
-        packages.push(named_package(alloc, value)?)?;
-    }
-    Ok(packages)
-}
+impl FromValue for DeclaringPackage {
+    ghost use Rattle.cargo_metadata.specs.Called.{of_package};
+    ghost use Rattle.cargo_metadata.specs.Packages.{package_of};
 
-/// A package, which its faults name.
-fn named_package(alloc: Global, value: &Value) -> Result<DeclaringPackage, MetadataError>
-    ensures { Gives (λ p. p) result (of_package package_of (view value.now)) }
-{
-    match package_of(alloc, value) {
-        Err(MetadataError::BadShape(key)) => Err(at_package(alloc, value, key)?),
-        read => read,
+    ghost read = { of_package package_of };
+
+    /// A package, which its faults name.
+    fn from_value(alloc: Global, value: &Value) -> Result<DeclaringPackage, MetadataError> {
+        match package_of(alloc, value) {
+            Err(MetadataError::BadShape(key)) => Err(at_package(alloc, value, key)?),
+            read => read,
+        }
     }
 }
 
@@ -109,7 +99,7 @@ fn contents_of(alloc: Global, owner: &str, value: &Value) -> Result<Contents, Me
 {
     let features = features_at(alloc, value)?;
     let targets = targets_of(alloc, owner, objects_at(value, Key::Targets)?)?;
-    let dependencies = dependencies_of(alloc, objects_at(value, Key::Dependencies)?)?;
+    let dependencies = each_of::<Dependency>(alloc, objects_at(value, Key::Dependencies)?)?;
     let optional = optional_names(alloc, &dependencies)?;
     Ok(Contents {
         features,
@@ -122,18 +112,9 @@ fn contents_of(alloc: Global, owner: &str, value: &Value) -> Result<Contents, Me
 fn features_at(alloc: Global, value: &Value) -> Result<Vec<FeatureRecord>, MetadataError>
     ensures { Gives (λ v. v.items) result (required features_of key.Features (view value.now)) }
 {
-    match given(value, Key::Features).and_then(Value::as_object) {
-        None => Err(MetadataError::at(Key::Features)),
-        Some(members) => features_of(alloc, members),
-    }
-}
-
-fn features_of(
-    alloc: Global,
-    members: &Map<String, Value>,
-) -> Result<Vec<FeatureRecord>, MetadataError>
-    ensures { Gives (λ v. v.items) result (each_feature (members_view members.now.entries)) }
-{
+    let Some(members) = given(value, Key::Features).and_then(Value::as_object) else {
+        return Err(MetadataError::at(Key::Features));
+    };
     let mut features = Vec::new(alloc);
     for (name, value) in members.iter() {
         features.push(feature_of(alloc, name.as_str(), value)?)?;
@@ -166,17 +147,6 @@ fn optional_names(alloc: Global, dependencies: &[Dependency]) -> Result<Vec<Stri
 fn is_new_optional(seen: &[String], dependency: &Dependency) -> bool
     ensures { result ≡ is_new_optional (texts seen.now) dependency.now }
 {
-    is_optional(dependency) && !is_among(seen, dependency.name())
-}
-
-fn is_optional(dependency: &Dependency) -> bool
-    ensures { result ≡ dependency.now.line.optional }
-{
-    dependency.line.optional
-}
-
-fn is_among(texts: &[String], name: &str) -> bool
-    ensures { result ≡ list_any (λ s. bytes_eq name.now (string_bytes s)) texts.now }
-{
-    texts.iter().any(|text| text.as_str() == name)
+    let name = dependency.name();
+    dependency.line.optional && !seen.iter().any(|other| other.as_str() == name)
 }

@@ -3,34 +3,32 @@ use Rattle.std.proofs.Common.{◌≡◌, ℕ, ◌+◌, ◌<◌, ◌≤◌, true,
 use Rattle.std.proofs.lemmas.Bool.{false≢true}
 use Rattle.std.proofs.lemmas.List.{take_all, take_more}
 use Rattle.std.specs.List.{list_any}
-use Rattle.list_facts.proofs.Membership.{Contains-append_cases, Contains-append_left, Contains-append_right, Contains-cons_cases, Contains-first, Contains-none}
+use Rattle.list_facts.proofs.Membership.{Contains-append_cases, Contains-append_left, Contains-append_right, Contains-first, Contains-none}
 use Rattle.workspace_record.specs.Records.{Workspace}
 use Rattle.cargo_metadata.specs.Dependencies.{Declared}
 use Rattle.cargo_metadata.specs.Packages.{Declaring}
 use Rattle.cargo_metadata.specs.Resolved.{Node}
 use Rattle.cargo_record.specs.Fitting.{IsResolution, fits_to}
 use Rattle.cargo_record.specs.Lines.{AreLines, IsLeftOut, IsPushed, IsResolvedLine, IsSeenTo, IsWhole, LineRow, TakesUp, counts, row_of}
+use Rattle.cargo_record.proofs.RowFacts.{one_of}
 use Rattle.cargo_record.specs.declared.fitting.Resolution.{Resolution}
 use Rattle.cargo_record.specs.declared.fitting.Resolution.TheVariants.{Nothing, To, Several}
 
 module _ (w : Workspace) (p : Declaring) (n : Node) where
-  only : (x y : Declared) → Contains (x ∷ []) y → x ≡ y
-  only x y h = ⊎_elim (λ e. e) (λ none. absurd (Contains-none y none)) (Contains-cons_cases x [] y h)
-
   -- a dependency that does not count takes up nothing
   pub takes_none : (d : Declared) (rows : List LineRow) → counts w p.row.id d ≡ false → TakesUp w p n (d ∷ []) rows rows
-  takes_none d rows off = record { keeps = λ row h. h; sound = λ row h. inl h; whole = λ e h counting. absurd (false≢true (sym off ∙ ap (λ x. counts w p.row.id x) (only d e h) ∙ counting)) }
+  takes_none d rows off = record { keeps = λ row h. h; sound = λ row h. inl h; whole = λ e h counting. absurd (false≢true (sym off ∙ ap (λ x. counts w p.row.id x) (one_of d e h) ∙ counting)) }
 
   pub takes_one : (d : Declared) (found : Resolution) (old new : List LineRow) → counts w p.row.id d ≡ true → IsResolution w d n.dependencies found → IsPushed w p.row.id d found old new → TakesUp w p n (d ∷ []) old new
   takes_one d (To id) old new on fits pushed = record {
     keeps = λ row h. (pushed row).1 (inl h);
     sound = λ row h. ⊎_elim (λ a. inl a) (λ e. inr (d, Contains-first d [], record { counts = on; is = sym e ∙ ap (λ r. row_of p.row.id r.to d) e; resolved = subst (λ t. list_any (fits_to w d t) n.dependencies ≡ true) (ap (λ r. r.to) e) fits })) ((pushed row).0 h);
-    whole = λ e h counting. inl (id.now, subst (λ x. Contains new (row_of p.row.id id.now x)) (only d e h) ((pushed (row_of p.row.id id.now d)).1 (inr refl)));
+    whole = λ e h counting. inl (id.now, subst (λ x. Contains new (row_of p.row.id id.now x)) (one_of d e h) ((pushed (row_of p.row.id id.now d)).1 (inr refl)));
   }
   takes_one d Nothing old new on fits pushed = record {
     keeps = λ row h. subst (λ rows. Contains rows row) (sym pushed.0) h;
     sound = λ row h. inl (subst (λ rows. Contains rows row) pushed.0 h);
-    whole = λ e h counting. inr (subst (λ x. IsLeftOut w p n x) (only d e h) (record { optional = pushed.1; foreign = pushed.2; nothing = fits }));
+    whole = λ e h counting. inr (subst (λ x. IsLeftOut w p n x) (one_of d e h) (record { optional = pushed.1; foreign = pushed.2; nothing = fits }));
   }
   takes_one d Several old new on fits pushed = absurd pushed
 
@@ -60,9 +58,6 @@ takes_next w p n ds i d old mid new lt first last =
 pub takes_all : (w : Workspace) (p : Declaring) (n : Node) (ds : List Declared) (i : ℕ) (old new : List LineRow) → length ds ≤ i → TakesUp w p n (take i ds) old new → TakesUp w p n ds old new
 takes_all w p n ds i old new le taken = subst (λ xs. TakesUp w p n xs old new) (take_all i ds le) taken
 
-one_package : (x y : Declaring) → Contains (x ∷ []) y → x ≡ y
-one_package x y h = ⊎_elim (λ e. e) (λ none. absurd (Contains-none y none)) (Contains-cons_cases x [] y h)
-
 module _ (w : Workspace) (nodes : List Node) where
   pub no_lines : AreLines w [] nodes []
   no_lines = record {
@@ -81,7 +76,7 @@ module _ (w : Workspace) (nodes : List Node) where
   pub lines_more : (ps : List Declaring) (p : Declaring) (n : Node) (old new : List LineRow) → AreLines w ps nodes old → TakesUp w p n p.dependencies old new → Contains nodes n → n.id ≡ p.row.id → AreLines w (ps ++ p ∷ []) nodes new
   lines_more ps p n old new lines taken here same = record {
     sound = λ row h. ⊎_elim (λ a. later_line ps p row (lines.sound row a)) (λ c. record { owner = p; node = n; declared = c.0; is_owner = Contains-append_right ps (p ∷ []) p (Contains-first p []); is_node = here; same = same; is_declared = c.1; line = c.2 }) (taken.sound row h);
-    whole = λ q h. ⊎_elim (λ a. still_whole q old new taken.keeps (lines.whole q a)) (λ b. subst (λ x. IsWhole w nodes new x) (one_package p q b) (record { node = n; is_node = here; same = same; each = taken.whole })) (Contains-append_cases ps (p ∷ []) q h);
+    whole = λ q h. ⊎_elim (λ a. still_whole q old new taken.keeps (lines.whole q a)) (λ b. subst (λ x. IsWhole w nodes new x) (one_of p q b) (record { node = n; is_node = here; same = same; each = taken.whole })) (Contains-append_cases ps (p ∷ []) q h);
   }
 
   pub lines_next : (ps : List Declaring) (i : ℕ) (p : Declaring) (n : Node) (old new : List LineRow) → i < length ps → AreLines w (take i ps) nodes old → TakesUp w (get_or ps i p) n (get_or ps i p).dependencies old new → Contains nodes n × (n.id ≡ (get_or ps i p).row.id) → AreLines w (take (i + 1) ps) nodes new

@@ -8,7 +8,7 @@ use Rattle.cargo_metadata.specs.Dependencies.{Declared, name_of}
 use Rattle.cargo_record.specs.Lines.{IsLink, IsLinkAt, IsOneMore, line_rows, no_link, row_in, row_of}
 
 module _ {X : Type 0} where
-  one_of : (x y : X) → Contains (x ∷ []) y → x ≡ y
+  pub one_of : (x y : X) → Contains (x ∷ []) y → x ≡ y
   one_of x y h = ⊎_elim (λ e. e) (λ none. absurd (Contains-none y none)) (Contains-cons_cases x [] y h)
 
   one_here : (x y : X) → x ≡ y → Contains (x ∷ []) y

@@ -1,16 +1,14 @@
 //! The links of the record, with their lines.
 
-ghost use Rattle.std.specs.Prelude.{◌<◌, ◌≡◌, ◌↔◌, Contains, IfErr, IfOk, IfSome, IsTrue, List, OnOk, Some, [], ◌∷◌, false, length, nat_eq, slice_get, string_bytes, true};
+ghost use Rattle.std.specs.Prelude.{◌<◌, ◌≡◌, ◌↔◌, Contains, IfErr, IfOk, IfSome, IsTrue, List, OnOk, Some, [], ◌∷◌, false, length, slice_get, string_bytes, true};
 ghost use Rattle.std.specs.List.{list_all, list_any};
-ghost use Rattle.workspace_record.specs.Kinds.{line_kind_index};
-ghost use Rattle.workspace_record.specs.Records.{Target, Workspace};
-ghost use Rattle.workspace_record.specs.declared.kinds.LineKind.TheVariants as kind;
+ghost use Rattle.workspace_record.specs.Records.{Workspace};
 ghost use Rattle.workspace_record.specs.Packages.{is_member};
 ghost use Rattle.cargo_metadata.specs.Dependencies.{Declared, name_of};
 ghost use Rattle.cargo_metadata.specs.Packages.{Declaring};
 ghost use Rattle.cargo_metadata.specs.Resolved.{Entry};
 ghost use Rattle.cargo_record.specs.Fitting.{IsResolution, fits, several_fit};
-ghost use Rattle.cargo_record.specs.Kept.{is_feature, owns_targets, requires_own};
+ghost use Rattle.cargo_record.specs.Kept.{owns_targets, requires_own};
 ghost use Rattle.cargo_record.specs.Lines.{AreLines, AreLinesOf, IsLink, IsLinkAt, IsOneMore, IsPushed, TakesUp, counts, line_rows, row_of};
 ghost use Rattle.cargo_record.specs.Refused.{HasNoLine, RefusesLinks, RefusesOne, RefusesPackages, RefusesTargets};
 
@@ -94,27 +92,7 @@ fn check_targets(
     if !index.is_member(id_of(package)) {
         return Ok(());
     }
-    check_each_target(alloc, package, targets_of(package))
-}
-
-fn targets_of(package: &DeclaringPackage) -> &[TargetRecord]
-    ensures { result.now ≡ «package».entry.now.row.targets }
-{
-    &package.row.targets
-}
-
-/// The same for these targets of a package.
-fn check_each_target(
-    alloc: Global,
-    package: &DeclaringPackage,
-    targets: &[TargetRecord],
-) -> Result<(), RecordFault>
-    ensures own { IfOk result (λ _. list_all (requires_own «package».now.row.features) targets.now
-        ≡ true) }
-    ensures refused { IfErr result (λ e. ((t : Target) → Contains targets.now t
-        → Contains «package».now.row.targets t) → RefusesTargets «package».now e) }
-{
-    for target in targets {
+    for target in &package.row.targets {
         check_target(alloc, package, target)?;
     }
     Ok(())
@@ -129,26 +107,13 @@ fn check_target(
     ensures refused { IfErr result (λ e. Contains «package».now.row.targets target.now
         → RefusesTargets «package».now e) }
 {
-    match foreign_feature(&package.row.features, &target.required_features) {
-        Some(feature) => Err(foreign(alloc, id_of(package), target, feature)?),
-        None => Ok(()),
-    }
-}
-
-fn foreign(
-    alloc: Global,
-    id: &str,
-    target: &TargetRecord,
-    feature: &str,
-) -> Result<RecordFault, AllocError>
-    ensures { IfOk result (λ e. (p : Declaring) → id.now ≡ p.row.id
-        → Contains p.row.targets target.now → Contains target.now.required_features feature.now
-        → is_feature p.row.features feature.now ≡ false → RefusesTargets p e) }
-{
-    let id = String::from_str(alloc, id)?;
+    let Some(feature) = foreign_feature(&package.row.features, &target.required_features) else {
+        return Ok(());
+    };
+    let id = String::from_str(alloc, id_of(package))?;
     let name = String::from_str(alloc, target.name.as_str())?;
     let feature = String::from_str(alloc, feature)?;
-    Ok(RecordFault::ForeignFeature(id, name, feature))
+    Err(RecordFault::ForeignFeature(id, name, feature))
 }
 
 /// Adds the lines of a package's dependencies.
@@ -164,26 +129,8 @@ fn push_links(
     ensures refused { IfErr result (RefusesOne index.now «package».now.row.id node.now.dependencies
         «package».now.dependencies) }
 {
-    push_each(alloc, links, index, package, node, &package.dependencies)?;
-    Ok(())
-}
-
-/// Adds the lines of these dependencies of a package.
-fn push_each(
-    alloc: Global,
-    links: &mut Vec<LinkRecord>,
-    index: &RecordIndex<'_>,
-    package: &DeclaringPackage,
-    node: &ResolvedPackage,
-    dependencies: &[Dependency],
-) -> Result<(), RecordFault>
-    ensures taken { OnOk result (TakesUp index.now «package».now node.now dependencies.now
-        (line_rows links.old.items) (line_rows links.new.items)) }
-    ensures refused { IfErr result (RefusesOne index.now «package».now.row.id node.now.dependencies
-        dependencies.now) }
-{
     let start = links.len();
-    for dependency in dependencies {
+    for dependency in &package.dependencies {
         push_dependency(alloc, links, start, index, package, node, dependency)?;
     }
     Ok(())
@@ -223,14 +170,7 @@ fn id_of(package: &DeclaringPackage) -> &str
 fn counts(index: &RecordIndex<'_>, id: &str, dependency: &Dependency) -> bool
     ensures { result ≡ counts index.now id.now dependency.now }
 {
-    index.is_member(id) || !is_for_development(dependency)
-}
-
-fn is_for_development(dependency: &Dependency) -> bool
-    ensures { result ≡ nat_eq (line_kind_index dependency.now.line.kind)
-        (line_kind_index kind.Dev) }
-{
-    dependency.line.kind == LineKind::Dev
+    index.is_member(id) || dependency.line.kind != LineKind::Dev
 }
 
 /// Adds the line of a dependency to what it was resolved to.
@@ -252,20 +192,11 @@ fn push_resolved(
     match found {
         Resolution::To(to) => Ok(push_line(alloc, links, start, id, to, dependency)?),
         Resolution::Several => Err(ambiguous(alloc, id, dependency.name())),
-        Resolution::Nothing if !is_optional(dependency) => {
-            Err(no_dependency(alloc, id, dependency.name()))
-        }
-        Resolution::Nothing if index.is_member(id) => {
-            Err(no_optional(alloc, id, dependency.name()))
+        Resolution::Nothing if !dependency.line.optional || index.is_member(id) => {
+            Err(no_dependency(alloc, id, dependency))
         }
         Resolution::Nothing => Ok(()),
     }
-}
-
-fn is_optional(dependency: &Dependency) -> bool
-    ensures { result ≡ dependency.now.line.optional }
-{
-    dependency.line.optional
 }
 
 fn ambiguous(alloc: Global, id: &str, name: &str) -> RecordFault
@@ -278,24 +209,16 @@ fn ambiguous(alloc: Global, id: &str, name: &str) -> RecordFault
     }
 }
 
-fn no_dependency(alloc: Global, id: &str, name: &str) -> RecordFault
-    ensures { (w : Workspace) (entries : List Entry) (d : Declared) → name.now ≡ name_of d
-        → d.line.optional ≡ false → list_any (fits w d) entries ≡ false
-        → HasNoLine w id.now entries d result }
+/// The fault of a dependency that nothing fits.
+fn no_dependency(alloc: Global, id: &str, dependency: &Dependency) -> RecordFault
+    ensures { (w : Workspace) (entries : List Entry)
+        → (dependency.now.line.optional ≡ true → is_member w id.now ≡ true)
+        → list_any (fits w dependency.now) entries ≡ false
+        → HasNoLine w id.now entries dependency.now result }
 {
-    match copies(alloc, id, name) {
+    match copies(alloc, id, dependency.name()) {
+        Ok((id, name)) if dependency.line.optional => RecordFault::NoOptional(id, name),
         Ok((id, name)) => RecordFault::NoDependency(id, name),
-        Err(_) => RecordFault::Memory,
-    }
-}
-
-fn no_optional(alloc: Global, id: &str, name: &str) -> RecordFault
-    ensures { (w : Workspace) (entries : List Entry) (d : Declared) → name.now ≡ name_of d
-        → d.line.optional ≡ true → is_member w id.now ≡ true → list_any (fits w d) entries ≡ false
-        → HasNoLine w id.now entries d result }
-{
-    match copies(alloc, id, name) {
-        Ok((id, name)) => RecordFault::NoOptional(id, name),
         Err(_) => RecordFault::Memory,
     }
 }

@@ -5,8 +5,7 @@ ghost use Rattle.std.specs.List.{list_all};
 ghost use Rattle.cargo_record.specs.Kept as spec;
 ghost use Rattle.cargo_record.specs.Lines.{AreLinesOf, line_rows, unlinked};
 ghost use Rattle.cargo_record.specs.Members.{IsWorkspaceOf, are_names};
-ghost use Rattle.cargo_record.specs.Refused.{RefusesLinks, RefusesRecord};
-ghost use Rattle.cargo_record.specs.declared.fault.RecordFault.TheVariants.{Format};
+ghost use Rattle.cargo_record.specs.Refused.{RefusesRecord};
 
 use crate::fault::RecordFault;
 use crate::lines::links_of;
@@ -34,21 +33,14 @@ pub fn record_of(
     ensures askable { IfOk result (λ _. (metadata.now.format ≡ Some 1)
         × (are_names metadata.now wanted.entry ≡ true)) }
 {
-    check_format(metadata)?;
+    let Some(1) = metadata.format else {
+        return Err(RecordFault::Format);
+    };
     let workspace = workspace_of(alloc, metadata, wanted)?;
     let packages = kept_rows(alloc, &metadata.packages)?;
-    with_links(alloc, metadata, without_links(alloc, packages, workspace))
-}
-
-fn check_format(metadata: &Metadata) -> Result<(), RecordFault>
-    ensures format { IfOk result (λ _. metadata.now.format ≡ Some 1) }
-    ensures refused { IfErr result (λ e. (e ≡ Format) × (metadata.now.format ≡ Some 1 → ⊥)) }
-{
-    if metadata.format == Some(1) {
-        Ok(())
-    } else {
-        Err(RecordFault::Format)
-    }
+    let rows = without_links(alloc, packages, workspace);
+    let links = links_of(alloc, &rows, metadata)?;
+    Ok(linked(rows, links))
 }
 
 fn without_links(
@@ -70,33 +62,8 @@ fn without_links(
     }
 }
 
-fn with_links(
-    alloc: Global,
-    metadata: &Metadata,
-    rows: WorkspaceRecord,
-) -> Result<WorkspaceRecord, RecordFault>
-    requires { rows.links ≡ [] }
-    ensures packages { IfOk result (λ w. w.packages ≡ rows.packages) }
-    ensures workspace { IfOk result (λ w. w.workspace ≡ rows.workspace) }
-    ensures rest { IfOk result (λ w. (w.groups ≡ rows.groups)
-        × (w.default_filter ≡ rows.default_filter)) }
-    ensures lines { IfOk result (λ w. AreLinesOf (unlinked w) metadata.now (line_rows w.links)) }
-    ensures own { IfOk result (λ w. list_all (spec.owns_targets (unlinked w)) metadata.now.packages
-        ≡ true) }
-    ensures refused { IfErr result (RefusesLinks rows metadata.now) }
-{
-    let links = links_of(alloc, &rows, metadata)?;
-    Ok(linked(rows, links))
-}
-
 fn linked(rows: WorkspaceRecord, links: Vec<LinkRecord>) -> WorkspaceRecord
     ensures { result ≡ record rows { links = links.items } }
 {
-    WorkspaceRecord {
-        packages: rows.packages,
-        links,
-        workspace: rows.workspace,
-        groups: rows.groups,
-        default_filter: rows.default_filter,
-    }
+    WorkspaceRecord { links, ..rows }
 }

@@ -1,10 +1,10 @@
 //! The members that are asked about.
 
-ghost use Rattle.std.specs.Prelude.{◌≡◌, ◌&&◌, Contains, IfErr, IfNone, IfOk, IfSome, Some, bytes_eq, false, filter, find, map, option_copied, option_map, string_bytes, true};
+ghost use Rattle.std.specs.Prelude.{◌≡◌, ◌&&◌, Contains, IfErr, IfNone, IfOk, IfSome, Some, bytes_eq, false, filter, map, option_copied, option_map, string_bytes, true};
 ghost use Rattle.std.specs.List.{list_all, list_any};
 ghost use Rattle.workspace_record.specs.Records.{Text};
 ghost use Rattle.cargo_record.specs.Members as spec;
-ghost use Rattle.cargo_record.specs.Refused.{AsksFor, RefusesMembers};
+ghost use Rattle.cargo_record.specs.Refused.{RefusesMembers};
 ghost use Rattle.cargo_record.specs.declared.members.RequestedMembers.{RequestedMembers};
 
 use crate::fault::RecordFault;
@@ -34,14 +34,8 @@ pub(crate) fn workspace_of(
     ensures refused { IfErr result (RefusesMembers metadata.now wanted.entry) }
 {
     check_names(alloc, metadata, wanted)?;
-    let members = members_of(alloc, metadata, wanted, member_ids(metadata))?;
+    let members = members_of(alloc, metadata, wanted, &metadata.workspace.members)?;
     Ok(workspace_named(alloc, &metadata.workspace, members)?)
-}
-
-fn member_ids(metadata: &Metadata) -> &[String]
-    ensures { map string_bytes result.now ≡ metadata.entry.now.workspace.members }
-{
-    &metadata.workspace.members
 }
 
 fn workspace_named(
@@ -130,13 +124,8 @@ fn member_package<'a>(
 fn package_with<'a>(metadata: &'a Metadata, id: &str) -> Option<&'a DeclaringPackage>
     ensures { option_copied result ≡ spec.package_with metadata.entry.now id.now }
 {
-    package_among(&metadata.packages, id)
-}
-
-fn package_among<'a>(packages: &'a [DeclaringPackage], id: &str) -> Option<&'a DeclaringPackage>
-    ensures { option_copied result ≡ find (λ p. bytes_eq p.row.id id.now) packages.entry.now }
-{
-    packages
+    metadata
+        .packages
         .iter()
         .find(|package| package.row.id.as_str() == id)
 }
@@ -187,13 +176,7 @@ fn is_default(defaults: &Option<Vec<String>>, id: &str) -> bool
 fn is_among(ids: &[String], id: &str) -> bool
     ensures { result ≡ spec.is_among (map string_bytes ids.now) id.now }
 {
-    has_text(ids, id)
-}
-
-fn has_text(texts: &[String], text: &str) -> bool
-    ensures { result ≡ list_any (λ other. bytes_eq (string_bytes other) text.now) texts.now }
-{
-    texts.iter().any(|other| other.as_str() == text)
+    ids.iter().any(|other| other.as_str() == id)
 }
 
 /// The path of a folder below another one; a folder elsewhere is named as it is.
@@ -225,20 +208,9 @@ fn default_members_of(
         ≡ filter (spec.is_among (spec.ids members.now))
         (spec.named_defaults (option_map (λ w. map string_bytes w.items) defaults.now))) }
 {
-    match defaults {
-        Some(ids) => ids_among(alloc, ids, members),
-        None => Ok(Vec::new(alloc)),
-    }
-}
-
-fn ids_among(
-    alloc: Global,
-    ids: &[String],
-    members: &[MemberRecord],
-) -> Result<Vec<String>, AllocError>
-    ensures { IfOk result (λ v. map string_bytes v.items
-        ≡ filter (spec.is_among (spec.ids members.now)) (map string_bytes ids.now)) }
-{
+    let Some(ids) = defaults else {
+        return Ok(Vec::new(alloc));
+    };
     let mut found = Vec::new(alloc);
     for id in ids {
         if has_member(members, id.as_str()) {
@@ -250,12 +222,6 @@ fn ids_among(
 
 fn has_member(members: &[MemberRecord], id: &str) -> bool
     ensures { result ≡ spec.is_among (spec.ids members.now) id.now }
-{
-    has_id(members, id)
-}
-
-fn has_id(members: &[MemberRecord], id: &str) -> bool
-    ensures { result ≡ list_any (λ member. bytes_eq member.package_id id.now) members.now }
 {
     members.iter().any(|member| member.package.as_str() == id)
 }
@@ -269,19 +235,9 @@ fn check_names(
     ensures names { IfOk result (λ _. spec.are_names metadata.now wanted.entry ≡ true) }
     ensures refused { IfErr result (RefusesMembers metadata.now wanted.entry) }
 {
-    match wanted {
-        RequestedMembers::Named(names) => check_each(alloc, metadata, names),
-        _ => Ok(()),
-    }
-}
-
-fn check_each(alloc: Global, metadata: &Metadata, names: &[&str]) -> Result<(), RecordFault>
-    ensures names { IfOk result (λ _. list_all (λ name. spec.is_member_name metadata.now name.now)
-        names.now ≡ true) }
-    ensures refused { IfErr result (λ e. (asked : RequestedMembers)
-        → ((name : Text) → Contains (map (λ t. t.now) names.now) name → AsksFor asked name)
-        → RefusesMembers metadata.now asked e) }
-{
+    let RequestedMembers::Named(names) = wanted else {
+        return Ok(());
+    };
     match unknown_name(metadata, names) {
         Some(name) => Err(RecordFault::NoMember(String::from_str(alloc, name)?)),
         None => Ok(()),
@@ -307,14 +263,8 @@ fn unknown_name<'a>(metadata: &Metadata, names: &[&'a str]) -> Option<&'a str>
 fn is_member_name(metadata: &Metadata, name: &str) -> bool
     ensures { result ≡ spec.is_member_name metadata.now name.now }
 {
-    has_member_name(&metadata.packages, &metadata.workspace.members, name)
-}
-
-fn has_member_name(packages: &[DeclaringPackage], ids: &[String], name: &str) -> bool
-    ensures { result ≡ list_any (λ p. bytes_eq p.row.name name.now
-        && spec.is_among (map string_bytes ids.now) p.row.id) packages.now }
-{
-    packages.iter().any(|package| {
+    let ids = &metadata.workspace.members;
+    metadata.packages.iter().any(|package| {
         package.row.name.as_str() == name && is_among(ids, package.row.id.as_str())
     })
 }

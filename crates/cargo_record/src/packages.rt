@@ -26,21 +26,8 @@ fn kept_row(alloc: Global, row: &PackageRecord) -> Result<PackageRecord, AllocEr
     ensures { IfOk result (λ p. p ≡ spec.kept row.now) }
 {
     let targets = own_targets(alloc, &row.features, &row.targets)?;
-    Ok(with_targets(row.copy(alloc)?, targets))
-}
-
-fn with_targets(row: PackageRecord, targets: Vec<TargetRecord>) -> PackageRecord
-    ensures { result ≡ record row { targets = targets.items } }
-{
-    PackageRecord {
-        id: row.id,
-        name: row.name,
-        version: row.version,
-        features: row.features,
-        optional: row.optional,
-        targets,
-        info: row.info,
-    }
+    let row = row.copy(alloc)?;
+    Ok(PackageRecord { targets, ..row })
 }
 
 fn own_targets(
@@ -63,13 +50,10 @@ fn own_targets(
 pub(crate) fn requires_own(features: &[FeatureRecord], target: &TargetRecord) -> bool
     ensures { result ≡ spec.requires_own features.now target.now }
 {
-    are_features(features, &target.required_features)
-}
-
-fn are_features(features: &[FeatureRecord], names: &[String]) -> bool
-    ensures { result ≡ list_all (λ s. spec.is_feature features.now (string_bytes s)) names.now }
-{
-    names.iter().all(|name| is_feature(features, name.as_str()))
+    target
+        .required_features
+        .iter()
+        .all(|name| is_feature(features, name.as_str()))
 }
 
 /// The first of these features that a target requires which is none of the package's.

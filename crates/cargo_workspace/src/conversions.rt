@@ -11,7 +11,6 @@ ghost use Rattle.cargo_workspace.specs.Conversions.{
   MakesTable,
   MakesTableFor,
   ReadsIds,
-  ReadsListings,
   ReadsListsBy,
   ReadsSettings,
 };
@@ -189,22 +188,9 @@ fn listings_made<'a>(
         (MakesListings (rows_of (found_of asked.now)) (shown string_bytes result)) }
     ensures same { SameAnswers (answers files.old) (answers files.new) }
 {
-    let listings = listings_in(alloc, asked, files)?;
-    accepted(required(asked, "lists"), listings_file(alloc, &listings))
-}
-
-fn listings_in<'a>(
-    alloc: Global,
-    asked: &ArgMatches<'a>,
-    files: &mut dyn Sources,
-) -> Result<Listings, Failure<'a>>
-    ensures status { IfErr result (λ f. status_of f ≡ 1) }
-    ensures reads { Asks (answers files.old) (state files.old) (state files.new)
-        (ReadsListings (rows_of (found_of asked.now)) (shown (λ v. map listing v.items) result)) }
-    ensures same { SameAnswers (answers files.old) (answers files.new) }
-{
     let ids = ids_in(alloc, asked, files)?;
-    listings_by(alloc, asked, &ids, files)
+    let listings = listings_by(alloc, asked, &ids, files)?;
+    accepted(required(asked, "lists"), listings_file(alloc, &listings))
 }
 
 /// The ids of the record's test binaries.

@@ -1,9 +1,7 @@
 //! The lists of tests, in a folder or as nextest prints them.
 
-ghost use Rattle.std.specs.Prelude.{◌≡◌, [], IfErr, IfOk, String, map, option_map, string_bytes};
-ghost use Rattle.std.specs.Global.{Global};
+ghost use Rattle.std.specs.Prelude.{◌≡◌, [], IfErr, IfOk, map, option_map, string_bytes};
 ghost use Rattle.cargo_files.specs.Added.{listing};
-ghost use Rattle.cargo_files.specs.declared.refusal.Refusal.TheVariants.{UnreadList};
 ghost use Rattle.test_select_files.specs.Files.{SameAnswers};
 ghost use Rattle.cargo_workspace.specs.Failures.{status_of};
 ghost use Rattle.cargo_workspace.specs.Files.{Asks};
@@ -114,7 +112,7 @@ fn tests_in_folder(
     match files.read(alloc, path.as_str()) {
         Ok(Some(bytes)) => Ok(Some(tests_printed(alloc, id, &bytes)?)),
         Ok(None) => Ok(None),
-        Err(FileFault::CannotRead) => Err(unread_list(alloc, id)?),
+        Err(FileFault::CannotRead) => Err(Refusal::UnreadList(String::from_str(alloc, id)?)),
         Err(FileFault::Memory) => Err(Refusal::Memory),
     }
 }
@@ -127,11 +125,4 @@ fn list_path(alloc: Global, folder: &str, id: &str) -> Result<String, AllocError
     path.push_str("/")?;
     path.push_str(id)?;
     Ok(path)
-}
-
-fn unread_list(alloc: Global, id: &str) -> Result<Refusal, AllocError>
-    ensures names { IfOk result (λ why. (named : String Global)
-        × (why ≡ UnreadList named) × (string_bytes named ≡ id.now)) }
-{
-    Ok(Refusal::UnreadList(String::from_str(alloc, id)?))
 }

@@ -1,7 +1,0 @@
-use Rattle.cargo_metadata.specs.Resolved.{entry_of}
-use Rattle.cargo_metadata.proofs.Lists.{each_step}
-use Rattle.cargo_metadata.proofs.resolved.entries_of.Goals as goal
-
-pub loop-value-preserved : goal.loop-value-preserved
-loop-value-preserved c =
-    each_step entry_of c.args.values.now c.loop-value.value-index _ c.value-item.result _ c.loop-value.entries.items c.push.new.self.items c.loop-value-test.true c.value-item.is c.in_ok-entry_of.ensures c.in_ok-push.ensures.items c.loop-value.invariant
