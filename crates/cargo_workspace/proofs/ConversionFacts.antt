@@ -8,8 +8,7 @@ use Rattle.workspace_record.specs.Records.{Text}
 use Rattle.record_writing.specs.Files.{ReadAsListings}
 use Rattle.cargo_files.specs.declared.refusal.Refusal.{Refusal}
 use Rattle.cargo_files.specs.declared.refusal.Refusal.TheVariants as refusal
-use Rattle.test_select_files.specs.Words.{word_or_empty}
-use Rattle.cargo_workspace.specs.Asking.{is_given}
+use Rattle.test_select_files.specs.Words.{is_given, word_or_empty}
 use Rattle.cargo_workspace.specs.Conversions.{MakesListings, MakesTable, MakesTableFor, ReadsListings, ReadsListsBy, ReadsSettings}
 use Rattle.cargo_workspace.specs.Failures.{accepted, refused}
 use Rattle.cargo_workspace.specs.Files.{Answer, Asked, Asks}

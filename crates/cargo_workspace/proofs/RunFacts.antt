@@ -1,15 +1,9 @@
 -- How a run of the program ends.
 use mathlib.Core.Bool.{true≢false}
-use Rattle.std.proofs.Common.{◌≡◌, ◌∙◌, ◌++◌, ℕ, List, [], append-nil, ap, ap₂, inl, inr, refl, subst, sym, true, Result, Ok, Err}
+use Rattle.std.proofs.Common.{◌≡◌, ◌∙◌, ◌++◌, ℕ, List, [], ap, ap₂, inl, inr, refl, subst, sym, true, Result, Ok, Err}
 use Rattle.std.specs.Prelude.{Option, Some, None, IfErr, IsErrAnd, codes, is_some, option_map, unwrap_or}
-use Rattle.std.specs.Io.KnownBytes.{Appends, Keeps}
-use Rattle.std.proofs.KnownBytes.{Appends-kept}
 use Rattle.clap.specs.Faults.{is_simple_and_free}
-use Rattle.clap.specs.Kinds.{HasKind, Kinds}
-use Rattle.clap.specs.Values.{kind_of}
-use Rattle.clap.specs.Words.{App, HasMatchesOf, Row, fault_of, is_simple, subcommand_name_of, subcommand_of, subcommand_rows_of}
-use Rattle.clap.specs.declared.error.Error.{Error}
-use Rattle.clap.specs.declared.error.ErrorKind.TheVariants.{OutOfMemory}
+use Rattle.clap.specs.Words.{App, HasMatchesOf, Row, is_simple, subcommand_name_of, subcommand_of, subcommand_rows_of}
 use Rattle.clap.specs.declared.parser.ArgMatches.{ArgMatches}
 use Rattle.clap.proofs.OnLiterals.{clap_on_literals}
 use Rattle.list_facts.specs.Writers.{Writes}
@@ -23,12 +17,6 @@ use Rattle.cargo_workspace.specs.declared.failure.Failure.TheVariants.{CannotWri
 use Rattle.cargo_workspace.proofs.ReadingFacts.{asks_none, asks_such}
 
 -- ---- what is printed
-
--- a text that was written, and then flushed or not
-pub flushed_writes : {E : Type 0} (text : Text) (old mid new : Option Text) (result : Result (Unit {0}) E) → Appends old mid text → Keeps mid new → Writes old new result text
-flushed_writes text old mid new (Ok x) added kept = Appends-kept old mid new text added kept
-flushed_writes text old mid new (Err e) added kept =
-    ([], record { front = text; whole = sym (append-nil text); added = Appends-kept old mid new text added kept })
 
 module _ {R : List ℕ → Text → Answer → List ℕ → Type 0} {s t : List ℕ} (below : Option (Text × List Row)) where
   -- a text was made and printed
@@ -44,11 +32,6 @@ module _ {R : List ℕ → Text → Answer → List ℕ → Type 0} {s : List �
   -- memory ran out before
   pub memory_ends : (result : Result (Unit {0}) Failure) (old new : Option Text) → result ≡ Err Memory → new ≡ old → Asks R s s (EndsRun below result old new)
   memory_ends result old new is same = asks_none (inl (is, same, refl))
-
--- the failure for want of memory
-pub memory_is : (result : Result (Unit {0}) Failure) → IsErrAnd result (λ f. f ≡ Memory) → result ≡ Err Memory
-memory_is (Ok x) h = absurd h
-memory_is (Err f) h = ap (λ (g : Failure). Err g) h
 
 -- ---- the conversion that the words name
 
@@ -87,18 +70,13 @@ unfolding clap_on_literals
 maker_is_simple = refl
 
 -- and so are its faults
-maker_is_free : is_simple_and_free maker ≡ true
+pub maker_is_free : is_simple_and_free maker ≡ true
 unfolding clap_on_literals
 maker_is_free = refl
 
 -- what a command line that is taken asks for
 pub below_are : (a : App) (words : List Text) (m : ArgMatches) → a ≡ maker → HasMatchesOf a words m → subcommand_rows_of m ≡ subcommand_of maker words
 below_are a words m is h = (h (ap is_simple is ∙ maker_is_simple)).1 ∙ ap (λ (x : App). subcommand_of x words) is
-
--- a command line without a fault fails for want of memory alone
-pub only_memory : (a : App) (words : List Text) (e : Error) → a ≡ maker → (is_simple_and_free a ≡ true → HasKind (fault_of a words) e) → fault_of maker words ≡ [] → kind_of e ≡ OutOfMemory
-only_memory a words e is kinds none =
-    elim (subst (λ (k : Kinds). HasKind k e) (ap (λ (x : App). fault_of x words) is ∙ none) (kinds (ap is_simple_and_free is ∙ maker_is_free))) [ inl h ↦ h | inr h ↦ absurd h ]
 
 module _ {R : List ℕ → Text → Answer → List ℕ → Type 0} {s t : List ℕ} where
   -- the end of a run by the words that were parsed

@@ -1,20 +1,10 @@
 -- What the words of a command line ask for.
-use Rattle.std.specs.Prelude.{◌≡◌, Bool, true, false, List, [], Some, None, codes, map, unwrap_or}
-use Rattle.std.specs.Option.{option_map_or}
-use Rattle.std.specs.Str.{bytes_eq}
-use Rattle.clap.specs.Words.{Row, all_of, first_of}
-use Rattle.workspace_record.specs.Records.{Text}
+use Rattle.std.specs.Prelude.{◌≡◌, true, false, List, Some, None, codes, map}
+use Rattle.clap.specs.Words.{Row, all_of}
+use Rattle.test_select_files.specs.Words.{is_given, values_of}
 use Rattle.cargo_files.specs.declared.choosing.FeatureWords.{FeatureWords}
 use Rattle.cargo_record.specs.declared.members.RequestedMembers.{RequestedMembers}
 use Rattle.cargo_record.specs.declared.members.RequestedMembers.TheVariants.{Default, Workspace, Named}
-
--- the flag with this name is given
-abbrev pub is_given : Text → List Row → Bool
-is_given flag words = option_map_or (λ value. bytes_eq value (codes "true")) (first_of flag words) false
-
--- all values of the word, in the order of the command line
-abbrev pub values_of : Text → List Row → List Text
-values_of name words = unwrap_or (all_of name words) []
 
 -- the words ask about these members: those that are named; where none is, with `--workspace` all, and else the default members
 abbrev pub AsksAbout : List Row → RequestedMembers → Type 0

@@ -11,8 +11,8 @@ use Rattle.cargo_files.specs.Refused.{RefusesChoice, RefusesFile, RefusesMetadat
 use Rattle.cargo_files.specs.Settings.{Setting}
 use Rattle.cargo_files.specs.declared.choosing.FeatureWords.{FeatureWords}
 use Rattle.cargo_record.specs.declared.members.RequestedMembers.{RequestedMembers}
-use Rattle.test_select_files.specs.Words.{word_or_empty}
-use Rattle.cargo_workspace.specs.Asking.{AsksAbout, AsksForFeatures, is_given}
+use Rattle.test_select_files.specs.Words.{is_given, word_or_empty}
+use Rattle.cargo_workspace.specs.Asking.{AsksAbout, AsksForFeatures}
 use Rattle.cargo_workspace.specs.Files.{Asked}
 use Rattle.cargo_workspace.specs.Lists.{Listed, ReadsLists}
 use Rattle.cargo_workspace.specs.Reading.{InTurn, MakesOf}

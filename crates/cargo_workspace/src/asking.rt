@@ -1,27 +1,13 @@
 //! What the words of a command line ask for.
 
-ghost use Rattle.std.specs.Prelude.{◌≡◌, map};
 ghost use Rattle.clap.specs.Words.{found_of, rows_of};
-ghost use Rattle.cargo_workspace.specs.Asking.{AsksAbout, AsksForFeatures, is_given, values_of};
+ghost use Rattle.cargo_workspace.specs.Asking.{AsksAbout, AsksForFeatures};
 
 use cargo_files::FeatureWords;
 use cargo_record::RequestedMembers;
 use clap::ArgMatches;
-
-/// Whether the command line gives this flag.
-pub(crate) fn is_given(asked: &ArgMatches<'_>, flag: &str) -> bool
-    ensures given { result ≡ is_given flag.now (rows_of (found_of asked.now)) }
-{
-    asked.get_str(flag) == Some("true")
-}
-
-/// All values of a word, in the order of the command line.
-fn values_of<'m, 'a: 'm>(asked: &'m ArgMatches<'a>, name: &str) -> &'m [&'a str]
-    ensures values { map (λ t. t.now) result.now
-        ≡ values_of name.now (rows_of (found_of asked.now)) }
-{
-    asked.get_strs(name).unwrap_or_default()
-}
+pub(crate) use test_select_files::is_given;
+use test_select_files::values_of;
 
 /// The members that the command line asks about.
 pub(crate) fn requested_members<'m, 'a: 'm>(asked: &'m ArgMatches<'a>) -> RequestedMembers<'m>

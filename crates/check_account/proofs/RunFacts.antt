@@ -1,12 +1,8 @@
 -- What the words of a command line come to, where they have no fault.
-use Rattle.std.proofs.Common.{◌≡◌, ◌∙◌, ℕ, List, [], refl, ap, subst, true, inl, inr, Result, Ok, Err}
-use Rattle.std.specs.Prelude.{Option, IsErrAnd}
-use Rattle.clap.specs.Kinds.{HasKind, Kinds}
-use Rattle.clap.specs.Values.{kind_of}
-use Rattle.clap.specs.Words.{App, HasMatchesOf, Row, Text, fault_of, found_of, is_simple, matches_of, rows_of}
+use Rattle.std.proofs.Common.{◌≡◌, ◌∙◌, ℕ, List, [], refl, ap, subst, true, inl, inr, Result, Err}
+use Rattle.std.specs.Prelude.{Option}
+use Rattle.clap.specs.Words.{App, HasMatchesOf, Row, Text, found_of, is_simple, matches_of, rows_of}
 use Rattle.clap.specs.Faults.{is_simple_and_free}
-use Rattle.clap.specs.declared.error.Error.{Error}
-use Rattle.clap.specs.declared.error.ErrorKind.TheVariants.{OutOfMemory}
 use Rattle.clap.specs.declared.parser.ArgMatches.{ArgMatches}
 use Rattle.clap.proofs.OnLiterals.{clap_on_literals}
 use Rattle.test_select_files.specs.Files.{Answer}
@@ -22,18 +18,13 @@ unfolding clap_on_literals
 checker_is_simple = refl
 
 -- and so are its faults
-checker_is_free : is_simple_and_free checker ≡ true
+pub checker_is_free : is_simple_and_free checker ≡ true
 unfolding clap_on_literals
 checker_is_free = refl
 
 -- what a command line that is taken asks for
 pub rows_are : (a : App) (words : List Text) (m : ArgMatches) → a ≡ checker → HasMatchesOf a words m → rows_of (found_of m) ≡ matches_of checker words
 rows_are a words m is h = (h (ap is_simple is ∙ checker_is_simple)).0 ∙ ap (λ (x : App). matches_of x words) is
-
--- a command line without a fault fails for want of memory alone
-pub only_memory : (a : App) (words : List Text) (e : Error) → a ≡ checker → (is_simple_and_free a ≡ true → HasKind (fault_of a words) e) → fault_of checker words ≡ [] → kind_of e ≡ OutOfMemory
-only_memory a words e is kinds none =
-    elim (subst (λ (k : Kinds). HasKind k e) (ap (λ (x : App). fault_of x words) is ∙ none) (kinds (ap is_simple_and_free is ∙ checker_is_free))) [ inl h ↦ h | inr h ↦ absurd h ]
 
 module _ {R : List ℕ → Text → Answer → List ℕ → Type 0} {s : List ℕ} where
   -- where memory ran out no file was asked for
@@ -43,11 +34,6 @@ module _ {R : List ℕ → Text → Answer → List ℕ → Type 0} {s : List �
     answered = refl;
     holds = inr (record { failure = Memory; fails = inl (inl tt); stops = (is, same) });
   }
-
--- the failure for want of memory
-pub memory_is : (result : Result (Unit {0}) RunFailure) → IsErrAnd result (λ y. y ≡ Memory) → result ≡ Err Memory
-memory_is (Ok x) h = absurd h
-memory_is (Err y) h = ap (λ (f : RunFailure). Err f) h
 
 module _ {R : List ℕ → Text → Answer → List ℕ → Type 0} {s t : List ℕ} where
   -- the end of a check by the words that were parsed

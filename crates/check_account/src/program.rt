@@ -1,21 +1,19 @@
 //! The program, over any files and any two streams.
 
 ghost use Rattle.std.specs.Prelude.{◌≡◌, ◌≤◌, [], Err, IfErr, IfOk, map, Ok};
-ghost use Rattle.clap.specs.Words.{app_of, fault_of, kind_of, matches_of};
-ghost use Rattle.clap.specs.declared.error.ErrorKind.TheVariants.{OutOfMemory};
+ghost use Rattle.clap.specs.Words.{app_of, fault_of, matches_of};
 ghost use Rattle.test_select_files.specs.Failures.{failure_lines, is_denial, status_of};
 ghost use Rattle.test_select_files.specs.Reading.{Asks};
 ghost use Rattle.test_select_files.specs.Telling.{TellsUnless};
 ghost use Rattle.test_select_files.specs.Verdicts.{EndsCheck};
-ghost use Rattle.test_select_files.specs.declared.run_failure.RunFailure.TheVariants.{Memory};
 ghost use Rattle.check_account.specs.Checker.{checker};
 
 use crate::command_line::PROGRAM;
-use clap::{Command, Error};
+use clap::Command;
 use std::alloc::{AllocError, Global};
 use std::convert::AsStr;
 use std::io::Write;
-use test_select_files::{FileSource, RunFailure, print_verdict, tell};
+use test_select_files::{FileSource, RunFailure, print_verdict, show, tell};
 
 /// Runs the program on a command line, whose first word is the program's name, and answers the status
 /// that it ends with: 0 if the account is accepted, 1 if it or a file is refused, and 2 for a bad
@@ -78,20 +76,4 @@ fn command<'a>(alloc: Global) -> Result<Command<'a>, AllocError>
     ensures app { IfOk result (λ c. app_of c ≡ checker) }
 {
     PROGRAM.command(alloc)
-}
-
-/// Shows what was asked for in place of a check: the help, or the version. A command line that is refused
-/// is not shown here.
-fn show<'a, O: Write>(shown: Error, out: &mut O) -> Result<(), RunFailure<'a>>
-    ensures bad_words { IfErr result (λ f. status_of f ≡ 2
-        → O.contents out.new ≡ O.contents out.old) }
-    ensures memory { kind_of shown ≡ OutOfMemory → (result ≡ Err Memory)
-        × (O.contents out.new ≡ O.contents out.old) }
-{
-    if shown.use_stderr() {
-        return Err(RunFailure::from(shown));
-    }
-    write!(out, "{shown}")?;
-    out.flush()?;
-    Ok(())
 }

@@ -3,3 +3,4 @@ pub mod ReadingFacts
 pub mod VerdictFacts
 pub mod WordFacts
 pub mod TellingFacts
+pub mod RunFacts

@@ -1,18 +1,21 @@
 -- What a check prints, where the output is known.
-use Rattle.std.proofs.Common.{◌≡◌, ℕ, List, [], refl, ap, sym, subst, append-nil, Result, Ok, Err}
+use Rattle.std.proofs.Common.{◌≡◌, ◌≢◌, ℕ, List, [], refl, ap, sym, subst, append-nil, Result, Ok, Err}
 use Rattle.std.specs.Prelude.{Option, IsErrAnd}
 use Rattle.std.specs.Io.KnownBytes.{Appends, Keeps}
 use Rattle.std.proofs.KnownBytes.{Appends-kept}
+use Rattle.list_facts.specs.Writers.{AddsUpTo}
 use Rattle.workspace_record.specs.Records.{Text}
+use Rattle.feature_account.specs.declared.verdict.Verdict.{Verdict}
+use Rattle.feature_account.specs.declared.verdict.Verdict.TheVariants.{Accepted}
 use Rattle.clap.specs.Words.{Row}
 use Rattle.record_files.specs.Accounts.{AccountValue}
 use Rattle.test_select_files.specs.Files.{Answer}
 use Rattle.test_select_files.specs.Reading.{Asks, ReadsCheck}
-use Rattle.test_select_files.specs.Verdicts.{EndsCheck, PrintsVerdict, WritesLine}
+use Rattle.test_select_files.specs.Verdicts.{EndsCheck, IsVerdictOn, PrintsVerdict, WritesLine, verdict_line}
 use Rattle.test_select_files.specs.declared.inputs.FeatureQuestion.{FeatureQuestion}
 use Rattle.test_select_files.proofs.ReadingFacts.{ends_by, ends_on}
 use Rattle.test_select_files.specs.declared.run_failure.RunFailure.{RunFailure}
-use Rattle.test_select_files.specs.declared.run_failure.RunFailure.TheVariants.{CannotWrite}
+use Rattle.test_select_files.specs.declared.run_failure.RunFailure.TheVariants.{CannotWrite, Denied}
 
 -- a line that was written and not flushed
 pub flush_fails : (line text : Text) (old mid new : Option Text) (result : Result (Unit {0}) RunFailure) → IsErrAnd result (λ y. y ≡ CannotWrite) → Appends old mid text → text ≡ line → Keeps mid new → WritesLine line result old new
@@ -20,6 +23,22 @@ flush_fails line text old mid new (Ok x) is written same kept = absurd is
 flush_fails line text old mid new (Err y) is written same kept =
     subst (λ (f : RunFailure). WritesLine line (Err f) old new) (sym is)
     ([], record { front = line; whole = sym (append-nil line); added = subst (λ (l : Text). Appends old new l) same (Appends-kept old mid new text written kept) })
+
+module _ (q : FeatureQuestion) (account : AccountValue) (verdict : Verdict) (on : IsVerdictOn q account verdict) (text : Text) (said : text ≡ verdict_line verdict) (old new : Option Text) where
+  -- the output takes no more
+  pub verdict_begun : (result : Result (Unit {0}) RunFailure) → IsErrAnd result (λ y. y ≡ CannotWrite) → (rest : Text) × AddsUpTo old new text rest → PrintsVerdict q account result old new
+  verdict_begun (Ok x) is begun = absurd is
+  verdict_begun (Err y) is begun =
+      subst (λ (f : RunFailure). PrintsVerdict q account (Err f) old new) (sym is)
+      (verdict, on, subst (λ (l : Text). (rest : Text) × AddsUpTo old new l rest) said begun)
+
+  -- an account that is accepted
+  pub verdict_accepts : verdict ≡ Accepted → Appends old new text → PrintsVerdict q account (Ok tt) old new
+  verdict_accepts is written = subst (λ (v : Verdict). IsVerdictOn q account v × Appends old new (verdict_line v)) is (on, subst (λ (l : Text). Appends old new l) said written)
+
+  -- one that is refused
+  pub verdict_denies : verdict ≢ Accepted → Appends old new text → PrintsVerdict q account (Err Denied) old new
+  verdict_denies other written = (verdict, other, on, subst (λ (l : Text). Appends old new l) said written)
 
 module _ {R : List ℕ → Text → Answer → List ℕ → Type 0} {s t : List ℕ} (words : List Row) where
   -- a check of files that were read

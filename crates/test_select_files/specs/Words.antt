@@ -1,7 +1,9 @@
--- The words of a command line that name the files of a question.
-use Rattle.std.specs.Prelude.{ℕ, List, [], Option, codes, option_map, unwrap_or}
+-- The words of a command line, and those that name the files of a question.
+use Rattle.std.specs.Prelude.{ℕ, Bool, false, List, [], Option, codes, option_map, unwrap_or}
 use Rattle.std.specs.Borrow.{Bor}
-use Rattle.clap.specs.Words.{Row, first_of}
+use Rattle.std.specs.Option.{option_map_or}
+use Rattle.std.specs.Str.{bytes_eq}
+use Rattle.clap.specs.Words.{Row, all_of, first_of}
 use Rattle.workspace_record.specs.Records.{Text}
 use Rattle.test_select_files.specs.declared.options.QuestionFiles.{QuestionFiles}
 
@@ -22,6 +24,18 @@ names_of names = record { workspace = names.record.now; choice = name_in names.c
 -- the value of a word, or the empty text
 abbrev pub word_or_empty : Text → List Row → Text
 word_or_empty name words = unwrap_or (first_of name words) []
+
+-- the first value of the word is this text
+abbrev pub says : Text → Text → List Row → Bool
+says text name words = option_map_or (λ value. bytes_eq value text) (first_of name words) false
+
+-- the flag with this name is given
+abbrev pub is_given : Text → List Row → Bool
+is_given = says (codes "true")
+
+-- all values of the word, in the order of the command line
+abbrev pub values_of : Text → List Row → List Text
+values_of name words = unwrap_or (all_of name words) []
 
 -- the files that the words name
 abbrev pub files_named : List Row → FileNames

@@ -11,6 +11,7 @@ mod inputs;
 mod listed_files;
 mod main_parts;
 mod options;
+mod printing;
 mod run_failure;
 mod telling;
 mod verdicts;
@@ -23,8 +24,10 @@ pub use crate::inputs::{
 pub use crate::listed_files::{ListedFile, ListedFiles};
 pub use crate::main_parts::{exit_code, words};
 pub use crate::options::{
-    ACCOUNT, CHECK_HELP, CHOICE, QuestionFiles, RECORD, TABLE, account_file, named_files, required,
+    ACCOUNT, CHECK_HELP, CHOICE, QuestionFiles, RECORD, TABLE, account_file, is_given, named_files,
+    optional, required, values_of,
 };
+pub use crate::printing::{show, write_out};
 pub use crate::run_failure::RunFailure;
 pub use crate::telling::tell;
 pub use crate::verdicts::{print_verdict, verdict_line, verdict_on};

@@ -1,8 +1,15 @@
-//! The words of a command line that name the files of a question.
+//! The words of a command line, and those that name the files of a question.
 
-ghost use Rattle.std.specs.Prelude.{◌≡◌, codes};
-ghost use Rattle.clap.specs.Words.{found_of, rows_of};
-ghost use Rattle.test_select_files.specs.Words.{files_named, names_of, word_or_empty};
+ghost use Rattle.std.specs.Prelude.{◌≡◌, codes, map};
+ghost use Rattle.clap.specs.Words.{first_of, found_of, rows_of};
+ghost use Rattle.test_select_files.specs.Words.{
+  files_named,
+  is_given,
+  name_in,
+  names_of,
+  values_of,
+  word_or_empty,
+};
 
 use crate::command_line::{Shape, Word};
 use clap::ArgMatches;
@@ -21,8 +28,8 @@ pub fn named_files<'a>(asked: &ArgMatches<'a>) -> QuestionFiles<'a>
 {
     QuestionFiles {
         record: required(asked, "record"),
-        choice: asked.get_str("choice"),
-        table: asked.get_str("table"),
+        choice: optional(asked, "choice"),
+        table: optional(asked, "table"),
     }
 }
 
@@ -37,7 +44,29 @@ pub fn account_file<'a>(asked: &ArgMatches<'a>) -> &'a str
 pub fn required<'a>(asked: &ArgMatches<'a>, name: &str) -> &'a str
     ensures value { result.now ≡ word_or_empty name.now (rows_of (found_of asked.now)) }
 {
-    asked.get_str(name).unwrap_or("")
+    optional(asked, name).unwrap_or("")
+}
+
+/// The value of a word, if it is given.
+pub fn optional<'a>(asked: &ArgMatches<'a>, name: &str) -> Option<&'a str>
+    ensures value { name_in result ≡ first_of name.now (rows_of (found_of asked.now)) }
+{
+    asked.get_str(name)
+}
+
+/// All values of a word, in the order of the command line.
+pub fn values_of<'m, 'a: 'm>(asked: &'m ArgMatches<'a>, name: &str) -> &'m [&'a str]
+    ensures values { map (λ t. t.now) result.now
+        ≡ values_of name.now (rows_of (found_of asked.now)) }
+{
+    asked.get_strs(name).unwrap_or_default()
+}
+
+/// Whether the command line gives this flag.
+pub fn is_given(asked: &ArgMatches<'_>, flag: &str) -> bool
+    ensures given { result ≡ is_given flag.now (rows_of (found_of asked.now)) }
+{
+    asked.get_str(flag) == Some("true")
 }
 
 /// The option that names the record.

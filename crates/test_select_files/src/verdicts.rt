@@ -10,16 +10,15 @@ ghost use Rattle.test_select_files.specs.Verdicts.{
   IsVerdictOn,
   PrintsVerdict,
   verdict_line,
-  WritesLine,
 };
 
 use crate::file_source::FileSource;
 use crate::inputs::{FeatureQuestion, account_in, feature_question};
 use crate::options::{account_file, named_files};
+use crate::printing::write_out;
 use crate::run_failure::RunFailure;
 use clap::ArgMatches;
 use feature_account::{Verdict, check_account, check_explanation};
-use list_facts::write_bytes;
 use record_files::AccountFile;
 use std::alloc::{AllocError, Global};
 use std::io::Write;
@@ -69,7 +68,8 @@ fn print_verdict_on<'a, O: Write>(
         (O.contents out.new) }
 {
     let verdict = verdict_on(alloc, question, account)?;
-    write_verdict(alloc, verdict, out)?;
+    let line = verdict_line(alloc, verdict)?;
+    write_out(out, line.as_bytes())?;
     match verdict {
         Verdict::Accepted => Ok(()),
         _ => Err(RunFailure::Denied),
@@ -97,20 +97,4 @@ pub fn verdict_line(alloc: Global, verdict: Verdict) -> Result<String, AllocErro
     ensures text { IfOk result (λ text. string_bytes text ≡ verdict_line verdict) }
 {
     format!(in alloc; "{verdict}\n")
-}
-
-// The output is flushed here, since a run ends early after a refusal.
-fn write_verdict<'a, O: Write>(
-    alloc: Global,
-    verdict: Verdict,
-    out: &mut O,
-) -> Result<(), RunFailure<'a>>
-    ensures status { IfErr result (λ f. status_of f ≡ 1) }
-    ensures writes { WritesLine (verdict_line verdict) result (O.contents out.old)
-        (O.contents out.new) }
-{
-    let line = verdict_line(alloc, verdict)?;
-    write_bytes(out, line.as_bytes())?;
-    out.flush()?;
-    Ok(())
 }

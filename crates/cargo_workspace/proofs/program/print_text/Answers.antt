@@ -1,6 +1,6 @@
 use Rattle.std.proofs.Common.{◌++◌, codes, rules}
 use Rattle.std.specs.Io.KnownBytes.{Appends}
-use Rattle.cargo_workspace.proofs.RunFacts.{flushed_writes}
+use Rattle.test_select_files.proofs.RunFacts.{flushed_writes}
 use Rattle.cargo_workspace.proofs.program.print_text.Goals as goal
 
 pub returns-in_err-flush-clause-writes : goal.returns-in_err-flush-clause-writes
