@@ -1,35 +1,14 @@
 -- The words of a command line, as the program gets them.
-use Rattle.std.proofs.Common.{◌≡◌, ◌∙◌, ◌↔◌, ℕ, List, [], refl, sym, ap, subst, map, Option, Some, None, option_map, unwrap_or, Bor}
-use Rattle.std.specs.Option.{UnwrapsOrElse, option_eq, option_map_or}
+use Rattle.std.proofs.Common.{◌≡◌, ◌∙◌, ◌↔◌, ℕ, List, [], refl, sym, ap, subst, Option, Some, None, option_map, Bor}
+use Rattle.std.specs.Option.{option_map_or}
 use Rattle.std.specs.Prelude.{Bool, true, false, codes, is_some}
-use Rattle.std.specs.Str.{bytes_eq}
-use Rattle.clap.proofs.WalkLemmas.{first_value-rows, raw_values-rows}
-use Rattle.clap.specs.Words.{first_value, found_of, matched_of, raw_values, rows_of}
+use Rattle.clap.proofs.WalkLemmas.{first_value-rows}
+use Rattle.clap.specs.Words.{first_value, found_of, rows_of}
 use Rattle.clap.specs.declared.parser.matches.ArgMatches.{ArgMatches}
 use Rattle.workspace_record.specs.Records.{Text}
 use Rattle.test_select_tests.specs.Partitions.{AsksForPart}
 use Rattle.clap.specs.Words.{Row, first_of, subcommand_rows_of}
-use Rattle.test_select.specs.Asking.{AsksNoPart, IsPartAsked, MeansPart, says, values_of, words_below}
-
--- the text that is lent is this one, or there is none
-same_text : (same : Bor Text → Bor Text → Bool) (o : Option (Bor Text)) (s : Bor Text) (text : Text) → ((x : Bor Text) → same x s ≡ bytes_eq x.now text) → option_eq same o (Some s) ≡ option_map_or (λ value. bytes_eq value text) (option_map (λ s. s.now) o) false
-same_text same None s text is = refl
-same_text same (Some x) s text is = is x
-
--- that of a word
-pub text_said : (asked : ArgMatches) (name text : Text) (same : Bor Text → Bor Text → Bool) (o : Option (Bor Text)) (s : Bor Text) (r : Bool) → ((x : Bor Text) → same x s ≡ bytes_eq x.now text) → option_map (λ s. s.now) o ≡ first_value (found_of asked) name → r ≡ option_eq same o (Some s) → r ≡ says text name (rows_of (found_of asked))
-text_said asked name text same o s r is first found =
-    found ∙ same_text same o s text is ∙ ap (λ w. option_map_or (λ value. bytes_eq value text) w false) (first ∙ first_value-rows (found_of asked) name)
-
--- the values that are lent, or none
-lent_or_none : (o : Option (Bor (List (Bor Text)))) (is_empty : Bor (List (Bor Text)) → Type 0) (r : Bor (List (Bor Text))) → ((d : Bor (List (Bor Text))) → is_empty d → d.now ≡ []) → UnwrapsOrElse o is_empty r → map (λ t. t.now) r.now ≡ unwrap_or (option_map (λ s. map (λ v. v.now) s.now) o) []
-lent_or_none None is_empty r none h = ap (map (λ (t : Bor Text). t.now)) (none r h)
-lent_or_none (Some s) is_empty r none h = ap (λ (x : Bor (List (Bor Text))). map (λ (t : Bor Text). t.now) x.now) h
-
--- those of a word
-pub values_given : (asked : ArgMatches) (name : Text) (o : Option (Bor (List (Bor Text)))) (is_empty : Bor (List (Bor Text)) → Type 0) (r : Bor (List (Bor Text))) → ((d : Bor (List (Bor Text))) → is_empty d → d.now ≡ []) → option_map (λ s. map (λ v. v.now) s.now) o ≡ option_map raw_values (matched_of (found_of asked) name) → UnwrapsOrElse o is_empty r → map (λ t. t.now) r.now ≡ values_of name (rows_of (found_of asked))
-values_given asked name o is_empty r none is h =
-    lent_or_none o is_empty r none h ∙ ap (λ (x : Option (List Text)). unwrap_or x []) (is ∙ raw_values-rows (found_of asked) name)
+use Rattle.test_select.specs.Asking.{AsksNoPart, IsPartAsked, MeansPart, words_below}
 
 -- what is read of the text is what it asks for
 means_part : (text : Text) (part : Option (ℕ × ℕ)) → ((m n : ℕ) → AsksForPart text m n ↔ (part ≡ Some (m, n))) → MeansPart text part

@@ -35,7 +35,7 @@ use Rattle.test_select_changes.specs.declared.changed.ChangedError.TheVariants a
 use Rattle.test_select_checks.specs.Contexts.{IsDeclaredGraph, IsNeeded}
 use Rattle.test_select_files.specs.Files.{Answer, SameAnswers}
 use Rattle.test_select_files.specs.Reading.{Asks, ReadsBytes, ReadsRecord}
-use Rattle.test_select_files.specs.Words.{name_in, word_or_empty}
+use Rattle.test_select_files.specs.Words.{name_in, values_of, word_or_empty}
 use Rattle.test_select_files.specs.declared.run_failure.RunFailure.{RunFailure}
 use Rattle.test_select_files.specs.declared.run_failure.RunFailure.TheVariants as run
 use Rattle.test_select_files.proofs.ReadingFacts.{asks_such, asks_then}
@@ -52,7 +52,6 @@ use Rattle.nextest_filter_matchers.specs.GlobReading.{read_glob}
 use Rattle.nextest_filter_matchers.specs.Matchers.{is_glob_read, tokens_of}
 use Rattle.nextest_filter_matchers.specs.declared.generic_glob.GenericGlob.{GenericGlob}
 use Rattle.nextest_filter_matchers.specs.declared.glob_error.GlobError.{GlobError}
-use Rattle.test_select.specs.Asking.{values_of}
 use Rattle.test_select.specs.Changes.{AreAccepted, IsNotBelow, ReadAsGlobs, changed_paths, ComeTo, FindsChanges, GathersPaths, IsNoGlob, PrintsChanged, ReadsChanges, ReadsGlobs, ReadsPaths, RefusesChanges, filter_line}
 use Rattle.test_select.specs.declared.changes.ChangedInputs.{ChangedInputs}
 use Rattle.test_select.specs.declared.failure.Failure.{Failure}

@@ -1,15 +1,14 @@
 -- What a command that prints comes to, by what it read, answered and wrote.
 use mathlib.Core.Bool.{false≢true, true≢false}
-use Rattle.std.proofs.Common.{◌≡◌, ◌∙◌, ℕ, List, [], Bool, true, false, String, flat_map, map, string_bytes, refl, ap, ap₂, sym, subst, append-nil, Result, Ok, Err}
+use Rattle.std.proofs.Common.{◌≡◌, ◌∙◌, ℕ, List, Bool, true, false, String, flat_map, map, string_bytes, refl, ap, ap₂, sym, subst, Result, Ok, Err}
 use Rattle.std.specs.Prelude.{Option, IsErrAnd, codes}
 use Rattle.std.specs.Result.{is_ok}
-use Rattle.std.specs.Io.KnownBytes.{Appends, Keeps}
-use Rattle.std.proofs.KnownBytes.{Appends-kept}
+use Rattle.std.specs.Io.KnownBytes.{Appends}
 use Rattle.std.proofs.lemmas.List.Folds.{flat_map-map}
 use Rattle.std.specs.Global.{Global}
 use Rattle.clap.specs.Words.{Row}
 use Rattle.list_facts.specs.Texts.{texts}
-use Rattle.list_facts.specs.Writers.{AddsUpTo, Writes}
+use Rattle.list_facts.specs.Writers.{AddsUpTo}
 use Rattle.workspace_record.specs.Features.{FeatureValue}
 use Rattle.workspace_record.specs.Records.{Text, Workspace}
 use Rattle.record_files.specs.Choices.{label_of}
@@ -94,12 +93,6 @@ module _ {A : Type 0} (Gives : Result A SelectError → Type 0) (IsText : A → 
     shown_prints means (Err (NotText name)) shown same h = absurd h
     shown_prints means (Err (BadGlob text error)) shown same h = absurd h
     shown_prints means (Err (NotBelow path)) shown same h = absurd h
-
--- a line that was written, and then flushed or not
-pub flushed_writes : {E : Type 0} (line : Text) (old mid new : Option Text) (result : Result (Unit {0}) E) → Appends old mid line → Keeps mid new → Writes old new result line
-flushed_writes line old mid new (Ok x) added kept = Appends-kept old mid new line added kept
-flushed_writes line old mid new (Err e) added kept =
-    ([], record { front = line; whole = sym (append-nil line); added = Appends-kept old mid new line added kept })
 
 -- ---- texts of what was answered, by the list that was lent to the writer
 

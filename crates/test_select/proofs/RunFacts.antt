@@ -20,13 +20,13 @@ use Rattle.test_select_files.specs.Apps.{Lent, one_among}
 use Rattle.test_select_files.specs.Files.{Answer}
 use Rattle.test_select_files.specs.Reading.{Asked, Asks, ReadsQuestion}
 use Rattle.test_select_files.specs.Verdicts.{EndsCheck, PrintsVerdict}
-use Rattle.test_select_files.specs.Words.{files_named}
+use Rattle.test_select_files.specs.Words.{files_named, is_given}
 use Rattle.test_select_files.specs.declared.inputs.FeatureQuestion.{FeatureQuestion}
 use Rattle.test_select_files.specs.declared.run_failure.RunFailure.{RunFailure}
 use Rattle.test_select_files.specs.declared.run_failure.RunFailure.TheVariants as run
 use Rattle.test_select_files.proofs.ReadingFacts.{asks_such}
 use Rattle.test_select.specs.AccountCommands.{PrintsAccount, PrintsExplanation, feature_named}
-use Rattle.test_select.specs.Asking.{AsksNoPart, RefusesNoPart, is_given}
+use Rattle.test_select.specs.Asking.{AsksNoPart, RefusesNoPart}
 use Rattle.test_select.specs.Changes.{PrintsChanged, ReadsChanges}
 use Rattle.test_select.specs.Failures.{status_of}
 use Rattle.test_select.specs.FeatureCommands.{PrintsFeatures, PrintsOrder, PrintsRules}
@@ -219,10 +219,12 @@ module _ {R : List ℕ → Text → Answer → List ℕ → Type 0} {s : List �
       (subst (λ (o : Option Text). Asks R s s (EndsAs below (Err (Run run.Memory)) old o)) (sym same)
       (record { asked = []; answered = refl; holds = run_memory old below }))
 
--- the failure for want of memory
-pub memory_is : (result : Result (Unit {0}) Failure) → IsErrAnd result (λ f. f ≡ Run run.Memory) → result ≡ Err (Run run.Memory)
-memory_is (Ok x) h = absurd h
-memory_is (Err f) h = ap (λ (g : Failure). Err g) h
+-- where what is shown in place of a run fails for want of memory, so does the run
+pub shown_memory : (failure : RunFailure) (result : Result (Unit {0}) Failure) (shown : Result (Unit {0}) RunFailure) → IsErrAnd result (λ f. f ≡ Run failure) → shown ≡ Err failure → shown ≡ Err run.Memory → result ≡ Err (Run run.Memory)
+shown_memory failure (Ok x) shown is failed ran_out = absurd is
+shown_memory failure (Err f) shown is failed ran_out =
+    let same : failure ≡ run.Memory = cc in
+    ap (λ (g : Failure). Err g) is ∙ ap (λ (y : RunFailure). Err (Run y)) same
 
 -- ---- words that ask for no part
 

@@ -8,7 +8,6 @@ use Rattle.workspace_record.specs.Records.{Text}
 use Rattle.test_select_checks.specs.declared.select_error.SelectError.{SelectError}
 use Rattle.test_select_files.specs.Files.{Answer}
 use Rattle.test_select_files.specs.Reading.{Asked, Asks}
-use Rattle.test_select_files.specs.Verdicts.{WritesLine}
 use Rattle.test_select_files.specs.Words.{word_or_empty}
 use Rattle.test_select_files.specs.declared.inputs.FeatureQuestion.{FeatureQuestion}
 use Rattle.test_select_files.specs.declared.run_failure.RunFailure.{RunFailure}
@@ -61,19 +60,6 @@ module _ {A : Type 0} (Gives : Result A SelectError → Type 0) (IsText : A → 
   form_prints Shows means shown (Err (NotText name)) h = absurd h
   form_prints Shows means shown (Err (BadGlob text error)) h = absurd h
   form_prints Shows means shown (Err (NotBelow path)) h = absurd h
-
-  -- the line of the answer is not written
-  pub line_fails : (line : Text) (is_text : IsText answer line) (failure : RunFailure) (result : Result (Unit {0}) Failure) → IsErrAnd result (λ f. f ≡ Run failure) → WritesLine line (Err failure) old new → Prints Gives IsText is_no result old new
-  line_fails line is_text failure (Ok x) is h = absurd is
-  line_fails line is_text failure (Err f) is h = subst (λ (g : Failure). Prints Gives IsText is_no (Err g) old new) (sym is) (by failure h)
-    where
-      by : (failure : RunFailure) → WritesLine line (Err failure) old new → Prints Gives IsText is_no (Err (Run failure)) old new
-      by run.CannotWrite h = beginning_prints Gives IsText is_no answer given line is_text old new (Err (Run run.CannotWrite)) refl h
-      by run.Memory h = h
-      by run.Denied h = absurd h
-      by (run.CommandLine error) h = absurd h
-      by (run.CannotRead name) h = absurd h
-      by (run.BadFile name error) h = absurd h
 
 -- ---- the text of a selection
 

@@ -14,9 +14,8 @@ use Rattle.test_select_checks.specs.declared.select_error.SelectError.{SelectErr
 use Rattle.test_select_features.specs.Explaining.{Explains}
 use Rattle.test_select_features.specs.Switching.{Accounts}
 use Rattle.test_select_files.specs.Reading.{Asked, ReadsQuestion}
-use Rattle.test_select_files.specs.Words.{files_named, word_or_empty}
+use Rattle.test_select_files.specs.Words.{files_named, is_given, word_or_empty}
 use Rattle.test_select_files.specs.declared.inputs.FeatureQuestion.{FeatureQuestion}
-use Rattle.test_select.specs.Asking.{is_given}
 use Rattle.test_select.specs.Printing.{EndsReading, Prints, never}
 use Rattle.test_select.specs.declared.failure.Failure.{Failure}
 

@@ -1,10 +1,10 @@
 -- What the words of a command line ask for.
-use Rattle.std.specs.Prelude.{◌≡◌, ℕ, Bool, true, false, List, [], Option, Some, None, Result, Ok, Err, codes, unwrap_or}
+use Rattle.std.specs.Prelude.{◌≡◌, ℕ, Bool, true, false, List, [], Option, Some, None, Result, Ok, Err, codes}
 use Rattle.std.specs.Option.{option_map_or}
-use Rattle.std.specs.Str.{bytes_eq}
-use Rattle.clap.specs.Words.{Row, all_of, first_of, subcommand_rows_of}
+use Rattle.clap.specs.Words.{Row, first_of, subcommand_rows_of}
 use Rattle.clap.specs.declared.parser.matches.ArgMatches.{ArgMatches}
 use Rattle.workspace_record.specs.Records.{Text}
+use Rattle.test_select_files.specs.Words.{is_given, values_of}
 use Rattle.test_select_tests.specs.Partitions.{AsksForPart}
 use Rattle.test_select_tests.specs.declared.asked_binaries.AskedBinaries.{AskedBinaries}
 use Rattle.test_select_tests.specs.declared.asked_binaries.AskedBinaries.TheVariants.{Available, LetThrough}
@@ -12,18 +12,6 @@ use Rattle.test_select_tests.specs.declared.scope.LinkScope.{LinkScope}
 use Rattle.test_select_tests.specs.declared.scope.LinkScope.TheVariants.{Declared, SwitchedOn}
 use Rattle.test_select.specs.declared.failure.Failure.{Failure}
 use Rattle.test_select.specs.declared.failure.Failure.TheVariants.{BadPartition, BadGlob, NotBelow, NotText, Refused, Run}
-
--- the first value of the word is this text
-abbrev pub says : Text → Text → List Row → Bool
-says text name words = option_map_or (λ value. bytes_eq value text) (first_of name words) false
-
--- the flag with this name is given
-abbrev pub is_given : Text → List Row → Bool
-is_given = says (codes "true")
-
--- all values of the word, in the order of the command line
-abbrev pub values_of : Text → List Row → List Text
-values_of name words = unwrap_or (all_of name words) []
 
 -- the links that are followed: with `--declared` all links
 abbrev pub scope_by : Bool → LinkScope

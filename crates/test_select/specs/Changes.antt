@@ -26,10 +26,9 @@ use Rattle.test_select_checks.specs.Errors.{select_error_of}
 use Rattle.test_select_checks.specs.declared.record_error.RecordError.{RecordError}
 use Rattle.test_select_checks.specs.declared.select_error.SelectError.{SelectError}
 use Rattle.test_select_files.specs.Reading.{Asked, ReadsBytes, ReadsRecord}
-use Rattle.test_select_files.specs.Words.{word_or_empty}
+use Rattle.test_select_files.specs.Words.{values_of, word_or_empty}
 use Rattle.test_select_files.specs.declared.run_failure.RunFailure.{RunFailure}
 use Rattle.test_select_files.specs.declared.run_failure.RunFailure.TheVariants as run
-use Rattle.test_select.specs.Asking.{values_of}
 use Rattle.test_select.specs.Printing.{EndsReading}
 use Rattle.test_select.specs.declared.changes.ChangedInputs.{ChangedInputs}
 use Rattle.test_select.specs.declared.failure.Failure.{Failure}

@@ -7,11 +7,10 @@ use Rattle.workspace_record.specs.Records.{Text}
 use Rattle.feature_account.specs.declared.verdict.Verdict.TheVariants.{Accepted}
 use Rattle.test_select_files.specs.Reading.{Asked}
 use Rattle.test_select_files.specs.Verdicts.{EndsCheck, verdict_line}
-use Rattle.test_select_files.specs.Words.{files_named, word_or_empty}
+use Rattle.test_select_files.specs.Words.{files_named, is_given, word_or_empty}
 use Rattle.test_select_files.specs.declared.run_failure.RunFailure.{RunFailure}
 use Rattle.test_select_files.specs.declared.run_failure.RunFailure.TheVariants.{CommandLine, CannotRead, BadFile, Denied, CannotWrite, Memory}
 use Rattle.test_select.specs.AccountCommands.{EndsAccount}
-use Rattle.test_select.specs.Asking.{is_given}
 use Rattle.test_select.specs.Selections.{EndsTests}
 
 -- the words give each value alike, but for the flag `plain`

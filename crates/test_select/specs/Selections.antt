@@ -10,7 +10,7 @@ use Rattle.record_writing.specs.Maps.{listings_line}
 use Rattle.nextest_binaries.specs.Listers.{Shown, unasked}
 use Rattle.test_select_checks.specs.declared.select_error.SelectError.{SelectError}
 use Rattle.test_select_files.specs.Reading.{Asked, ReadsAs, ReadsBoth, ReadsQuestion}
-use Rattle.test_select_files.specs.Words.{files_named, word_or_empty}
+use Rattle.test_select_files.specs.Words.{files_named, says, word_or_empty}
 use Rattle.test_select_files.specs.declared.inputs.FeatureQuestion.{FeatureQuestion}
 use Rattle.test_select_files.specs.declared.run_failure.RunFailure.{RunFailure}
 use Rattle.test_select_tests.specs.Grouping.{IsByBinary}
@@ -19,7 +19,7 @@ use Rattle.test_select_tests.specs.Reasons.{says_yes}
 use Rattle.test_select_tests.specs.ReasonTexts.{reason_text}
 use Rattle.test_select_tests.specs.Selections.{Selected, report}
 use Rattle.test_select_tests.specs.declared.reason.Reason.{Reason}
-use Rattle.test_select.specs.Asking.{AsksForTestsOf, asks_in, filters_in, says, scope_in}
+use Rattle.test_select.specs.Asking.{AsksForTestsOf, asks_in, filters_in, scope_in}
 use Rattle.test_select.specs.Orders.{order_line}
 use Rattle.test_select.specs.Printing.{EndsReading, Prints, never}
 use Rattle.test_select.specs.Runs.{AnswersQuestion, ExplainsQuestion, ListsBinaries}

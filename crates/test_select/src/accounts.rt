@@ -5,17 +5,16 @@ ghost use Rattle.clap.specs.Words.{found_of, rows_of};
 ghost use Rattle.feature_account_making.specs.ReadBackLaws.{AreSizes};
 ghost use Rattle.test_select_files.specs.Files.{SameAnswers};
 ghost use Rattle.test_select_files.specs.Reading.{Asks};
-ghost use Rattle.test_select.specs.AccountCommands.{EndsAccount, PrintsAccount};
+ghost use Rattle.test_select.specs.AccountCommands.{EndsAccount};
 ghost use Rattle.test_select.specs.Failures.{status_of};
 
-use crate::command_line::is_readable;
 use crate::failure::Failure;
 use crate::readable::print_entries;
 use clap::ArgMatches;
 use std::alloc::Global;
 use std::io::Write;
 use test_select_features::{account_shared, write_account};
-use test_select_files::{FeatureQuestion, FileSource, feature_question, named_files};
+use test_select_files::{FileSource, feature_question, is_given, named_files};
 
 /// Prints the account of what is on.
 pub(crate) fn print_account<'a, O: Write>(
@@ -31,25 +30,12 @@ pub(crate) fn print_account<'a, O: Write>(
     ensures same { SameAnswers (answers files.old) (answers files.new) }
 {
     let question = feature_question(alloc, named_files(asked), files)?;
-    print_account_of(alloc, &question, is_readable(asked), out)
-}
-
-fn print_account_of<'a, O: Write>(
-    alloc: Global,
-    question: &FeatureQuestion,
-    readable: bool,
-    out: &mut O,
-) -> Result<(), Failure<'a>>
-    ensures status { IfErr result (λ f. status_of f ≡ 1) }
-    ensures prints { PrintsAccount readable question.now result (O.contents out.old)
-        (O.contents out.new) }
-{
     let (record, choice, table) = (&question.record, &question.choice, &question.table);
     let account = account_shared(alloc, record, choice, table)?;
     let numbers = account.rules.as_slice();
     are_sizes(numbers);
-    if readable {
-        return print_entries(alloc, question, numbers, out);
+    if is_given(asked, "readable") {
+        return print_entries(alloc, &question, numbers, out);
     }
     write_account(alloc, numbers, out)?;
     Ok(())

@@ -7,16 +7,16 @@ ghost use Rattle.test_select_files.specs.Reading.{Asks};
 ghost use Rattle.test_select.specs.Asking.{asks_in, filters_in, scope_in};
 ghost use Rattle.test_select.specs.Failures.{status_of};
 ghost use Rattle.test_select.specs.Runs.{ListsBinaries};
-ghost use Rattle.test_select.specs.Selections.{EndsBinaries, PrintsBinaries};
+ghost use Rattle.test_select.specs.Selections.{EndsBinaries};
 
-use crate::command_line::{asked_binaries, filters_in, link_scope};
+use crate::command_line::{asked_binaries, link_scope};
 use crate::failure::Failure;
 use crate::order::write_order;
 use clap::ArgMatches;
 use std::alloc::Global;
 use std::io::Write;
 use test_select_checks::SelectError;
-use test_select_files::{FeatureQuestion, FileSource, feature_question, named_files};
+use test_select_files::{FeatureQuestion, FileSource, feature_question, named_files, values_of};
 use test_select_tests::binaries_to_ask_shared;
 
 /// Prints a line for the id of each binary that `tests` would ask for its tests.
@@ -33,20 +33,7 @@ pub(crate) fn print_binaries<'a, O: Write>(
     ensures same { SameAnswers (answers files.old) (answers files.new) }
 {
     let question = feature_question(alloc, named_files(asked), files)?;
-    print_binaries_of(alloc, asked, &question, out)
-}
-
-fn print_binaries_of<'a, O: Write>(
-    alloc: Global,
-    asked: &ArgMatches<'a>,
-    question: &FeatureQuestion,
-    out: &mut O,
-) -> Result<(), Failure<'a>>
-    ensures status { IfErr result (λ f. status_of f ≡ 1) }
-    ensures prints { PrintsBinaries (rows_of (found_of asked.now)) question.now result
-        (O.contents out.old) (O.contents out.new) }
-{
-    let ids = binaries_in(alloc, asked, question)?;
+    let ids = binaries_in(alloc, asked, &question)?;
     write_order(&ids, out)?;
     Ok(())
 }
@@ -62,5 +49,6 @@ fn binaries_in(
 {
     let (record, choice, table) = (&question.record, &question.choice, &question.table);
     let (scope, asks) = (link_scope(asked), asked_binaries(asked));
-    binaries_to_ask_shared(alloc, record, choice, table, scope, filters_in(asked), asks)
+    let texts = values_of(asked, "filter");
+    binaries_to_ask_shared(alloc, record, choice, table, scope, texts, asks)
 }

@@ -16,14 +16,12 @@ ghost use Rattle.test_select.specs.Changes.{
   EndsChanged,
   FindsChanges,
   GathersPaths,
-  PrintsChanged,
   ReadsChanges,
   ReadsGlobs,
   ReadsPaths,
 };
 ghost use Rattle.test_select.specs.Failures.{status_of};
 
-use crate::command_line::{ignored_words, path_words, paths_file};
 use crate::failure::Failure;
 use clap::ArgMatches;
 use list_facts::write_bytes;
@@ -33,7 +31,9 @@ use std::io::Write;
 use std::str;
 use test_select_changes::{Changed, ChangedError, changed_filter, changed_packages};
 use test_select_checks::{CheckedRecord, SelectError};
-use test_select_files::{FileSource, RunFailure, bytes_in, record_in, required};
+use test_select_files::{
+    FileSource, RunFailure, bytes_in, optional, record_in, required, values_of,
+};
 use workspace_record::WorkspaceRecord;
 
 /// What the command works on: the record, and the bytes of the file of paths.
@@ -66,7 +66,11 @@ pub(crate) fn print_changed<'a, O: Write>(
     ensures same { SameAnswers (answers files.old) (answers files.new) }
 {
     let inputs = changed_inputs(alloc, asked, files)?;
-    print_changed_of(alloc, asked, &inputs, out)
+    let changed = changed_in(alloc, asked, &inputs)?;
+    let filter = changed_filter(alloc, changed)?;
+    let line = filter_line(alloc, &filter)?;
+    write_bytes(out, line.as_bytes())?;
+    Ok(())
 }
 
 /// Reads and decodes the record, and then reads the file of paths, if one is named.
@@ -81,7 +85,7 @@ fn changed_inputs<'a>(
     ensures same { SameAnswers (answers files.old) (answers files.new) }
 {
     let workspace = record_in(alloc, required(asked, "record"), files)?;
-    let listed = listed_paths(alloc, paths_file(asked), files)?;
+    let listed = listed_paths(alloc, optional(asked, "paths"), files)?;
     Ok(ChangedInputs { workspace, listed })
 }
 
@@ -100,23 +104,6 @@ fn listed_paths<'a>(
         Some(name) => bytes_in(alloc, name, files),
         None => Ok(Vec::new(alloc)),
     }
-}
-
-fn print_changed_of<'a, O: Write>(
-    alloc: Global,
-    asked: &ArgMatches<'a>,
-    inputs: &ChangedInputs,
-    out: &mut O,
-) -> Result<(), Failure<'a>>
-    ensures status { IfErr result (λ f. status_of f ≡ 1) }
-    ensures prints { PrintsChanged (rows_of (found_of asked.now)) inputs.now result
-        (O.contents out.old) (O.contents out.new) }
-{
-    let changed = changed_in(alloc, asked, inputs)?;
-    let filter = changed_filter(alloc, changed)?;
-    let line = filter_line(alloc, &filter)?;
-    write_bytes(out, line.as_bytes())?;
-    Ok(())
 }
 
 /// The filter as it is printed, with its line feed.
@@ -142,7 +129,7 @@ fn changed_in<'a>(
         Ok(checked) => checked,
         Err(refused) => return Err(Failure::Refused(SelectError::from(refused))),
     };
-    let globs = globs_of(alloc, ignored_words(asked))?;
+    let globs = globs_of(alloc, values_of(asked, "ignore"))?;
     match changed_among(alloc, &checked, &globs, &paths) {
         Ok(changed) => Ok(changed),
         Err(ChangedError::Memory) => Err(Failure::Run(RunFailure::Memory)),
@@ -163,9 +150,9 @@ fn all_paths<'l, 'a: 'l>(
     ensures paths { GathersPaths (rows_of (found_of asked.entry.now)) listed.entry.now result }
 {
     let Ok(lines) = str::from_utf8(listed) else {
-        return Err(Failure::NotText(paths_file(asked).unwrap_or("")));
+        return Err(Failure::NotText(optional(asked, "paths").unwrap_or("")));
     };
-    let mut paths = Vec::from_slice(alloc, path_words(asked))?;
+    let mut paths = Vec::from_slice(alloc, values_of(asked, "path"))?;
     for line in lines.split('\n') {
         paths.push(line)?;
     }

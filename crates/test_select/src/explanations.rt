@@ -2,23 +2,23 @@
 
 ghost use Rattle.std.specs.Prelude.{◌≡◌, IfErr, IfOk};
 ghost use Rattle.clap.specs.Words.{found_of, rows_of};
-ghost use Rattle.list_facts.specs.Writers.{Writes};
 ghost use Rattle.record_files.specs.Choices.{label_of};
 ghost use Rattle.test_select_files.specs.Files.{SameAnswers};
 ghost use Rattle.test_select_files.specs.Reading.{Asks};
-ghost use Rattle.test_select.specs.AccountCommands.{EndsExplanation, PrintsExplanation, not_on};
+ghost use Rattle.test_select.specs.AccountCommands.{EndsExplanation, PrintsExplanation};
 ghost use Rattle.test_select.specs.Failures.{status_of};
 
-use crate::command_line::{feature_word, is_readable, package_word};
 use crate::failure::Failure;
 use crate::readable::print_entries;
 use clap::ArgMatches;
-use list_facts::write_bytes;
 use record_files::label_of;
 use std::alloc::{AllocError, Global};
-use std::io::{self, Write};
+use std::io::Write;
 use test_select_features::{explain_shared, write_explanation};
-use test_select_files::{FeatureQuestion, FileSource, RunFailure, feature_question, named_files};
+use test_select_files::{
+    FeatureQuestion, FileSource, RunFailure, feature_question, is_given, named_files, required,
+    write_out,
+};
 use workspace_record::Feature;
 
 /// Prints the explanation of the feature that the command line names, or that it is not on.
@@ -35,8 +35,12 @@ pub(crate) fn print_explanation<'a, O: Write>(
     ensures same { SameAnswers (answers files.old) (answers files.new) }
 {
     let question = feature_question(alloc, named_files(asked), files)?;
-    let feature = feature_named(alloc, package_word(asked), feature_word(asked))?;
-    print_explanation_of(alloc, &question, &feature, is_readable(asked), out)
+    let feature = feature_named(
+        alloc,
+        required(asked, "package"),
+        required(asked, "feature"),
+    )?;
+    print_explanation_of(alloc, &question, &feature, is_given(asked, "readable"), out)
 }
 
 fn print_explanation_of<'a, O: Write>(
@@ -58,7 +62,7 @@ fn print_explanation_of<'a, O: Write>(
             Ok(())
         }
         None => {
-            write_not_on(out)?;
+            write_out(out, b"not on\n")?;
             Err(Failure::Run(RunFailure::Denied))
         }
     }
@@ -74,12 +78,4 @@ fn feature_named(alloc: Global, package_id: &str, text: &str) -> Result<Feature,
     let package = String::from_str(alloc, package_id)?;
     let label = label_of(alloc, text)?;
     Ok(Feature { package, label })
-}
-
-// The output is flushed here, since a run ends early after a no.
-fn write_not_on<O: Write>(out: &mut O) -> io::Result<()>
-    ensures { Writes (O.contents out.old) (O.contents out.new) result not_on }
-{
-    write_bytes(out, b"not on\n")?;
-    out.flush()
 }

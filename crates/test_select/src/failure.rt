@@ -2,8 +2,6 @@
 
 ghost use Rattle.std.specs.Prelude.{◌≡◌};
 ghost use Rattle.std.specs.Fmt.{WritesOnOk};
-ghost use Rattle.clap.specs.Words.{kind_of};
-ghost use Rattle.clap.specs.declared.error.ErrorKind.TheVariants.{OutOfMemory};
 ghost use Rattle.test_select_files.specs.declared.run_failure.RunFailure.TheVariants.{CannotWrite, Memory};
 ghost use Rattle.test_select.specs.Failures.{bad_partition_lines, is_denial, status_of, unwritten};
 ghost use Rattle.test_select.specs.declared.failure.Failure.TheVariants.{Refused, Run};
@@ -91,14 +89,6 @@ impl<'a> From<RunFailure<'a>> for Failure<'a> {
 
     fn from(failure: RunFailure<'a>) -> Self {
         Failure::Run(failure)
-    }
-}
-
-impl From<clap::Error> for Failure<'_> {
-    ghost from_gives = { λ e f. kind_of e ≡ OutOfMemory → f ≡ Run Memory };
-
-    fn from(error: clap::Error) -> Self {
-        Failure::Run(RunFailure::from(error))
     }
 }
 

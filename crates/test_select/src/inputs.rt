@@ -7,7 +7,6 @@ ghost use Rattle.test_select_files.specs.Files.{SameAnswers};
 ghost use Rattle.test_select_files.specs.Reading.{Asks};
 ghost use Rattle.test_select.specs.Selections.{ReadsListings, ReadsTests};
 
-use crate::command_line::listings_file;
 use clap::ArgMatches;
 use nextest_binaries::Listing;
 use record_files::read_listings;
@@ -15,6 +14,7 @@ use std::alloc::Global;
 use std::collections::BTreeMap;
 use test_select_files::{
     FeatureQuestion, FileSource, RunFailure, accepted, bytes_in, feature_question, named_files,
+    required,
 };
 
 /// The files of a selection: what it is asked, and the listings by the ids of their binaries.
@@ -33,7 +33,7 @@ pub(crate) fn tests_inputs<'a>(
     ensures same { SameAnswers (answers files.old) (answers files.new) }
 {
     let question = feature_question(alloc, named_files(asked), files)?;
-    let listings = listings_in(alloc, listings_file(asked), files)?;
+    let listings = listings_in(alloc, required(asked, "listings"), files)?;
     Ok((question, listings))
 }
 

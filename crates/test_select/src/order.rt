@@ -6,7 +6,7 @@ ghost use Rattle.list_facts.specs.Writers.{Writes};
 ghost use Rattle.test_select_files.specs.Files.{SameAnswers};
 ghost use Rattle.test_select_files.specs.Reading.{Asks};
 ghost use Rattle.test_select.specs.Failures.{status_of};
-ghost use Rattle.test_select.specs.FeatureCommands.{EndsOrder, PrintsOrder};
+ghost use Rattle.test_select.specs.FeatureCommands.{EndsOrder};
 ghost use Rattle.test_select.specs.Orders.{order_line};
 
 use crate::failure::Failure;
@@ -15,7 +15,7 @@ use list_facts::write_pieces;
 use std::alloc::Global;
 use std::io::{self, Write};
 use test_select_features::package_order_shared;
-use test_select_files::{FeatureQuestion, FileSource, feature_question, named_files};
+use test_select_files::{FileSource, feature_question, named_files};
 
 /// Writes a line for each id. After a fault of the writer what was written is a beginning of this.
 pub fn write_order<W: Write>(ids: &[String], writer: &mut W) -> io::Result<()>
@@ -48,17 +48,6 @@ pub(crate) fn print_order<'a, O: Write>(
     ensures same { SameAnswers (answers files.old) (answers files.new) }
 {
     let question = feature_question(alloc, named_files(asked), files)?;
-    print_order_of(alloc, &question, out)
-}
-
-fn print_order_of<'a, O: Write>(
-    alloc: Global,
-    question: &FeatureQuestion,
-    out: &mut O,
-) -> Result<(), Failure<'a>>
-    ensures status { IfErr result (λ f. status_of f ≡ 1) }
-    ensures prints { PrintsOrder question.now result (O.contents out.old) (O.contents out.new) }
-{
     let (record, choice, table) = (&question.record, &question.choice, &question.table);
     let ids = package_order_shared(alloc, record, choice, table)?;
     write_order(&ids, out)?;

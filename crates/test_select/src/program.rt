@@ -1,10 +1,8 @@
 //! The program, over any files and any two streams.
 
-ghost use Rattle.std.specs.Prelude.{◌≡◌, ◌≤◌, Err, IfErr, map};
-ghost use Rattle.clap.specs.Words.{found_of, kind_of, rows_of, subcommand_rows_of};
-ghost use Rattle.clap.specs.declared.error.ErrorKind.TheVariants.{OutOfMemory};
+ghost use Rattle.std.specs.Prelude.{◌≡◌, ◌≤◌, IfErr, map};
+ghost use Rattle.clap.specs.Words.{found_of, rows_of, subcommand_rows_of};
 ghost use Rattle.test_select_files.specs.Reading.{Asks};
-ghost use Rattle.test_select_files.specs.declared.run_failure.RunFailure.TheVariants.{Memory};
 ghost use Rattle.test_select.specs.Failures.{status_of};
 ghost use Rattle.test_select.specs.Running.{
   EndsAs,
@@ -14,7 +12,6 @@ ghost use Rattle.test_select.specs.Running.{
   EndsVerdict,
   Means,
 };
-ghost use Rattle.test_select.specs.declared.failure.Failure.TheVariants.{Run};
 
 use crate::accounts::print_account;
 use crate::binaries::print_binaries;
@@ -27,11 +24,11 @@ use crate::readable::{print_features, print_rules};
 use crate::reasons::print_why;
 use crate::selections::print_tests;
 use crate::tasks::{Task, command, task_named};
-use clap::{ArgMatches, Error};
+use clap::ArgMatches;
 use std::alloc::Global;
 use std::convert::AsStr;
 use std::io::Write;
-use test_select_files::{FileSource, print_verdict, tell};
+use test_select_files::{FileSource, print_verdict, show, tell};
 
 // What was read is let go of here too: to leave it to the system would save a thirtieth of a run, and be
 // another function than the one that is promised and tested. A refused flush is `cannot write`, as is each
@@ -113,24 +110,8 @@ fn try_run<'a, S: AsStr, O: Write>(
             refuse_bad_partition(&matches)?;
             carry_out(alloc, &matches, files, out)
         }
-        Err(shown) => show(shown, out),
+        Err(shown) => Ok(show(shown, out)?),
     }
-}
-
-/// Shows what was asked for in place of a task: the help, or the version. A command line that is refused
-/// is not shown here.
-fn show<'a, O: Write>(shown: Error, out: &mut O) -> Result<(), Failure<'a>>
-    ensures bad_words { IfErr result (λ f. status_of f ≡ 2
-        → O.contents out.new ≡ O.contents out.old) }
-    ensures memory { kind_of shown ≡ OutOfMemory → (result ≡ Err (Run Memory))
-        × (O.contents out.new ≡ O.contents out.old) }
-{
-    if shown.use_stderr() {
-        return Err(Failure::from(shown));
-    }
-    write!(out, "{shown}")?;
-    out.flush()?;
-    Ok(())
 }
 
 /// Does what the command line asks for, and has all of it written out.

@@ -6,12 +6,7 @@ ghost use Rattle.test_select_files.specs.Files.{SameAnswers};
 ghost use Rattle.test_select_files.specs.Reading.{Asks};
 ghost use Rattle.test_select.specs.AccountCommands.{PrintsText, lines_of};
 ghost use Rattle.test_select.specs.Failures.{status_of};
-ghost use Rattle.test_select.specs.FeatureCommands.{
-  EndsFeatures,
-  EndsRules,
-  PrintsFeatures,
-  PrintsRules,
-};
+ghost use Rattle.test_select.specs.FeatureCommands.{EndsFeatures, EndsRules};
 ghost use Rattle.test_select.specs.Runs.{ListsRules};
 
 use crate::failure::Failure;
@@ -39,17 +34,6 @@ pub(crate) fn print_features<'a, O: Write>(
     ensures same { SameAnswers (answers files.old) (answers files.new) }
 {
     let question = feature_question(alloc, named_files(asked), files)?;
-    print_features_of(alloc, &question, out)
-}
-
-fn print_features_of<'a, O: Write>(
-    alloc: Global,
-    question: &FeatureQuestion,
-    out: &mut O,
-) -> Result<(), Failure<'a>>
-    ensures status { IfErr result (λ f. status_of f ≡ 1) }
-    ensures prints { PrintsFeatures question.now result (O.contents out.old) (O.contents out.new) }
-{
     let (record, choice, table) = (&question.record, &question.choice, &question.table);
     let on = features_on_shared(alloc, record, choice, table)?;
     write_features(alloc, on.as_slice(), out)?;
@@ -70,18 +54,7 @@ pub(crate) fn print_rules<'a, O: Write>(
     ensures same { SameAnswers (answers files.old) (answers files.new) }
 {
     let question = feature_question(alloc, named_files(asked), files)?;
-    print_rules_of(alloc, &question, out)
-}
-
-fn print_rules_of<'a, O: Write>(
-    alloc: Global,
-    question: &FeatureQuestion,
-    out: &mut O,
-) -> Result<(), Failure<'a>>
-    ensures status { IfErr result (λ f. status_of f ≡ 1) }
-    ensures prints { PrintsRules question.now result (O.contents out.old) (O.contents out.new) }
-{
-    let rules = rules_of(alloc, question)?;
+    let rules = rules_of(alloc, &question)?;
     write_rules(alloc, &rules, out)?;
     Ok(())
 }

@@ -2,28 +2,27 @@
 
 ghost use Rattle.std.specs.Prelude.{◌≡◌, IfErr, IfOk, string_bytes};
 ghost use Rattle.clap.specs.Words.{found_of, rows_of};
-ghost use Rattle.test_select_files.specs.Failures as reading;
 ghost use Rattle.test_select_files.specs.Files.{SameAnswers};
 ghost use Rattle.test_select_files.specs.Reading.{Asks};
-ghost use Rattle.test_select_files.specs.Verdicts.{WritesLine};
 ghost use Rattle.test_select.specs.Failures.{status_of};
-ghost use Rattle.test_select.specs.Selections.{EndsWhy, PrintsWhy, reason_line, SaysWhy};
+ghost use Rattle.test_select.specs.Selections.{EndsWhy, reason_line, SaysWhy};
 
-use crate::command_line::{binary_word, filters_in, link_scope, test_word};
+use crate::command_line::link_scope;
 use crate::failure::Failure;
 use crate::inputs::tests_inputs;
 use clap::ArgMatches;
-use list_facts::write_bytes;
 use nextest_binaries::{FileLister, Listing};
 use std::alloc::{AllocError, Global};
 use std::collections::BTreeMap;
 use std::io::Write;
 use test_select_checks::SelectError;
-use test_select_files::{FeatureQuestion, FileSource, RunFailure};
+use test_select_files::{
+    FeatureQuestion, FileSource, RunFailure, optional, required, values_of, write_out,
+};
 use test_select_tests::{Reason, why_shared};
 
 /// Prints why the test that the command line names is chosen or not; where it names none, why the
-/// binary is asked or not.
+/// binary is asked or not. A reason that is a no is denied.
 pub(crate) fn print_why<'a, O: Write>(
     alloc: Global,
     asked: &ArgMatches<'a>,
@@ -37,23 +36,9 @@ pub(crate) fn print_why<'a, O: Write>(
     ensures same { SameAnswers (answers files.old) (answers files.new) }
 {
     let (question, listings) = tests_inputs(alloc, asked, files)?;
-    print_why_of(alloc, asked, &question, listings, out)
-}
-
-/// The same of the files that were read. A reason that is a no is denied.
-fn print_why_of<'a, O: Write>(
-    alloc: Global,
-    asked: &ArgMatches<'a>,
-    question: &FeatureQuestion,
-    listings: BTreeMap<String, Listing>,
-    out: &mut O,
-) -> Result<(), Failure<'a>>
-    ensures status { IfErr result (λ f. status_of f ≡ 1) }
-    ensures prints { PrintsWhy (rows_of (found_of asked.now)) question.now listings result
-        (O.contents out.old) (O.contents out.new) }
-{
-    let reason = reason_in(alloc, asked, question, listings)?;
-    write_reason(alloc, &reason, out)?;
+    let reason = reason_in(alloc, asked, &question, listings)?;
+    let line = reason_line(alloc, &reason)?;
+    write_out(out, line.as_bytes())?;
     if reason.says_yes() {
         Ok(())
     } else {
@@ -73,8 +58,8 @@ fn reason_in<'q, 'a: 'q>(
 {
     let mut lister = FileLister::new(alloc, listings)?;
     let (record, choice, table) = (&question.record, &question.choice, &question.table);
-    let (scope, texts) = (link_scope(asked), filters_in(asked));
-    let (id, test) = (binary_word(asked), test_word(asked));
+    let (scope, texts) = (link_scope(asked), values_of(asked, "filter"));
+    let (id, test) = (required(asked, "binary"), optional(asked, "test"));
     why_shared(
         alloc,
         record,
@@ -93,20 +78,4 @@ fn reason_line(alloc: Global, reason: &Reason<'_>) -> Result<String, AllocError>
     ensures text { IfOk result (λ text. string_bytes text ≡ reason_line reason.now) }
 {
     format!(in alloc; "{reason}\n")
-}
-
-// The output is flushed here, since a run ends early after a no.
-fn write_reason<'a, O: Write>(
-    alloc: Global,
-    reason: &Reason<'_>,
-    out: &mut O,
-) -> Result<(), RunFailure<'a>>
-    ensures status { IfErr result (λ f. reading.status_of f ≡ 1) }
-    ensures writes { WritesLine (reason_line reason.now) result (O.contents out.old)
-        (O.contents out.new) }
-{
-    let line = reason_line(alloc, reason)?;
-    write_bytes(out, line.as_bytes())?;
-    out.flush()?;
-    Ok(())
 }

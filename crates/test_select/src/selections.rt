@@ -9,12 +9,11 @@ ghost use Rattle.test_select.specs.Failures.{status_of};
 ghost use Rattle.test_select.specs.Selections.{
   EndsTests,
   PrintsShown,
-  PrintsTests,
   Selects,
   tests_of,
 };
 
-use crate::command_line::{asked_binaries, filters_in, is_json, link_scope, partition_in};
+use crate::command_line::{asked_binaries, is_json, link_scope, partition_in};
 use crate::failure::Failure;
 use crate::inputs::tests_inputs;
 use clap::ArgMatches;
@@ -25,7 +24,7 @@ use std::alloc::{AllocError, Global};
 use std::collections::BTreeMap;
 use std::io::Write;
 use test_select_checks::SelectError;
-use test_select_files::{FeatureQuestion, FileSource};
+use test_select_files::{FeatureQuestion, FileSource, values_of};
 use test_select_tests::{Selection, by_binary, select_shared, write_report};
 
 /// Prints the tests that run, or those of the part that is asked for, as lines or as JSON.
@@ -42,21 +41,7 @@ pub(crate) fn print_tests<'a, O: Write>(
     ensures same { SameAnswers (answers files.old) (answers files.new) }
 {
     let (question, listings) = tests_inputs(alloc, asked, files)?;
-    print_tests_of(alloc, asked, &question, listings, out)
-}
-
-fn print_tests_of<'a, O: Write>(
-    alloc: Global,
-    asked: &ArgMatches<'a>,
-    question: &FeatureQuestion,
-    listings: BTreeMap<String, Listing>,
-    out: &mut O,
-) -> Result<(), Failure<'a>>
-    ensures status { IfErr result (λ f. status_of f ≡ 1) }
-    ensures prints { PrintsTests (rows_of (found_of asked.now)) question.now listings result
-        (O.contents out.old) (O.contents out.new) }
-{
-    let selection = selection_in(alloc, asked, question, listings)?;
+    let selection = selection_in(alloc, asked, &question, listings)?;
     let chosen = part_in(alloc, asked, selection)?;
     write_selection(alloc, chosen, is_json(asked), out)
 }
@@ -72,7 +57,7 @@ fn selection_in(
 {
     let (record, choice, table) = (&question.record, &question.choice, &question.table);
     let (scope, asks) = (link_scope(asked), asked_binaries(asked));
-    let texts = filters_in(asked);
+    let texts = values_of(asked, "filter");
     let mut lister = FileLister::new(alloc, listings)?;
     select_shared(
         alloc,

@@ -1,8 +1,7 @@
 -- What a check prints, where the output is known.
-use Rattle.std.proofs.Common.{◌≡◌, ◌≢◌, ℕ, List, [], refl, ap, sym, subst, append-nil, Result, Ok, Err}
+use Rattle.std.proofs.Common.{◌≡◌, ◌≢◌, ℕ, List, refl, ap, sym, subst, Result, Ok, Err}
 use Rattle.std.specs.Prelude.{Option, IsErrAnd}
-use Rattle.std.specs.Io.KnownBytes.{Appends, Keeps}
-use Rattle.std.proofs.KnownBytes.{Appends-kept}
+use Rattle.std.specs.Io.KnownBytes.{Appends}
 use Rattle.list_facts.specs.Writers.{AddsUpTo}
 use Rattle.workspace_record.specs.Records.{Text}
 use Rattle.feature_account.specs.declared.verdict.Verdict.{Verdict}
@@ -11,18 +10,11 @@ use Rattle.clap.specs.Words.{Row}
 use Rattle.record_files.specs.Accounts.{AccountValue}
 use Rattle.test_select_files.specs.Files.{Answer}
 use Rattle.test_select_files.specs.Reading.{Asks, ReadsCheck}
-use Rattle.test_select_files.specs.Verdicts.{EndsCheck, IsVerdictOn, PrintsVerdict, WritesLine, verdict_line}
+use Rattle.test_select_files.specs.Verdicts.{EndsCheck, IsVerdictOn, PrintsVerdict, verdict_line}
 use Rattle.test_select_files.specs.declared.inputs.FeatureQuestion.{FeatureQuestion}
 use Rattle.test_select_files.proofs.ReadingFacts.{ends_by, ends_on}
 use Rattle.test_select_files.specs.declared.run_failure.RunFailure.{RunFailure}
 use Rattle.test_select_files.specs.declared.run_failure.RunFailure.TheVariants.{CannotWrite, Denied}
-
--- a line that was written and not flushed
-pub flush_fails : (line text : Text) (old mid new : Option Text) (result : Result (Unit {0}) RunFailure) → IsErrAnd result (λ y. y ≡ CannotWrite) → Appends old mid text → text ≡ line → Keeps mid new → WritesLine line result old new
-flush_fails line text old mid new (Ok x) is written same kept = absurd is
-flush_fails line text old mid new (Err y) is written same kept =
-    subst (λ (f : RunFailure). WritesLine line (Err f) old new) (sym is)
-    ([], record { front = line; whole = sym (append-nil line); added = subst (λ (l : Text). Appends old new l) same (Appends-kept old mid new text written kept) })
 
 module _ (q : FeatureQuestion) (account : AccountValue) (verdict : Verdict) (on : IsVerdictOn q account verdict) (text : Text) (said : text ≡ verdict_line verdict) (old new : Option Text) where
   -- the output takes no more

@@ -31,16 +31,6 @@ IsVerdictOn q account = IsVerdictFor (rule_list q.record.value q.choice q.table)
 abbrev pub verdict_line : Verdict → Text
 verdict_line verdict = verdict_text verdict ++ codes "\n"
 
--- a line is printed; or the output takes no more, and some beginning of it is; or memory ran out before
-abbrev pub WritesLine : Text → Result (Unit {0}) RunFailure → Option Text → Option Text → Type 0
-WritesLine line (Ok x) old new = Appends old new line
-WritesLine line (Err CannotWrite) old new = (rest : Text) × AddsUpTo old new line rest
-WritesLine line (Err Memory) old new = new ≡ old
-WritesLine line (Err Denied) old new = ⊥
-WritesLine line (Err (CommandLine error)) old new = ⊥
-WritesLine line (Err (CannotRead name)) old new = ⊥
-WritesLine line (Err (BadFile name error)) old new = ⊥
-
 -- How a check ends: its verdict's line is printed, and an account that is refused is denied; or the output takes no more, and some beginning of the line is printed; or memory ran out before anything was.
 abbrev pub PrintsVerdict : FeatureQuestion → AccountValue → Result (Unit {0}) RunFailure → Option Text → Option Text → Type 0
 PrintsVerdict q account (Ok x) old new = IsVerdictOn q account Accepted × Appends old new (verdict_line Accepted)

@@ -11,5 +11,5 @@ returns-clause-paths c =
     let found = c.in-Ok.ensures.cases in
     let pieces = YieldsList-from_str_split 10 c.in-Ok.lines.now (lit< tt) c.split-line-items.ensures.text c.split-line-items.ensures.has_more c.split-line-items.ensures.pattern in
     let ended = YieldsList-end (YieldsList-at c.into_iter-line-iterator.ensures.into_iter_gives pieces) c.loop-line.yielded _ c.loop-line.yielded_by _ _ c.in-None.is c.next.ensures.steps in
-    let words = ap (map (λ (t : Bor Text). t.now)) c.in_ok-paths.ensures.items ∙ c.path_words.ensures.values in
+    let words = ap (map (λ (t : Bor Text). t.now)) c.in_ok-paths.ensures.items ∙ c.values_of.ensures.values in
     (found.1, c.loop-line.invariant ∙ ap₂ (λ (l r : List Text). l ++ r) words (ended.0 ∙ ap lines_of found.0))

@@ -8,8 +8,8 @@ returns-in_err-workspace-clause-reads g c =
 
 pub returns-in_err-listed-clause-reads : goal.returns-in_err-listed-clause-reads
 returns-in_err-listed-clause-reads g c =
-    paths_fail (rows_of (found_of c.args.asked.now)) _ c.required.ensures.value _ c.paths_file.ensures.named c.in_ok-workspace.workspace c.in_err-listed.field-0.0 _ c.from_residual-in_err-listed.ensures.1 c.in_ok-workspace.ensures.same c.in_ok-workspace.ensures.reads c.in_err-listed.ensures.reads
+    paths_fail (rows_of (found_of c.args.asked.now)) _ c.required.ensures.value _ c.optional.ensures.value c.in_ok-workspace.workspace c.in_err-listed.field-0.0 _ c.from_residual-in_err-listed.ensures.1 c.in_ok-workspace.ensures.same c.in_ok-workspace.ensures.reads c.in_err-listed.ensures.reads
 
 pub returns-clause-reads : goal.returns-clause-reads
 returns-clause-reads g c =
-    changes_read (rows_of (found_of c.args.asked.now)) _ c.required.ensures.value _ c.paths_file.ensures.named c.in_ok-workspace.workspace c.in_ok-listed.listed c.in_ok-workspace.ensures.same c.in_ok-workspace.ensures.reads c.in_ok-listed.ensures.reads
+    changes_read (rows_of (found_of c.args.asked.now)) _ c.required.ensures.value _ c.optional.ensures.value c.in_ok-workspace.workspace c.in_ok-listed.listed c.in_ok-workspace.ensures.same c.in_ok-workspace.ensures.reads c.in_ok-listed.ensures.reads

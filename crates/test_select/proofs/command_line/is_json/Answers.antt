@@ -1,5 +1,5 @@
 use Rattle.std.proofs.Common.{codes, refl}
-use Rattle.test_select.proofs.AskingFacts.{text_said}
+use Rattle.test_select_files.proofs.WordFacts.{text_said}
 use Rattle.test_select.proofs.command_line.is_json.Goals as goal
 
 pub returns : goal.returns

@@ -32,10 +32,10 @@ returns-in_ok-write_explanation-in-Some-2-clause-prints g c =
     (subst (λ (o : Option (Vec ℕ Global)). Explains q.record.value q.choice q.table c.args.feature.now (Ok o)) named c.in_ok-entries.ensures.answer)
     _ (explanation_as_numbers q entries.items c.args.feature.now _ c.args.readable c.deref-in-Some-2.ensures.value c.if-readable.false) _ _ refl c.in_ok-write_explanation-in-Some-2.ensures.writes
 
-pub returns-in_err-write_not_on-in-None-clause-prints : goal.returns-in_err-write_not_on-in-None-clause-prints
-returns-in_err-write_not_on-in-None-clause-prints g c =
+pub returns-in_err-write_out-in-None-clause-prints : goal.returns-in_err-write_out-in-None-clause-prints
+returns-in_err-write_out-in-None-clause-prints g c =
     let q = c.args.question.now in
     let none : c.in_ok-entries.field-0 ≡ None = search rules in
     beginning_prints (Explains q.record.value q.choice q.table c.args.feature.now) (λ answer text. text ≡ explained_text q c.args.readable c.args.feature.now answer) is_not_on None
     (subst (λ (o : Option (Vec ℕ Global)). Explains q.record.value q.choice q.table c.args.feature.now (Ok o)) none c.in_ok-entries.ensures.answer)
-    not_on refl _ _ _ c.from_residual-in_err-write_not_on-in-None.ensures.1 c.in_err-write_not_on-in-None.ensures
+    not_on refl _ _ _ c.from_residual-in_err-write_out-in-None.ensures.1 c.in_err-write_out-in-None.ensures.writes

@@ -11,8 +11,8 @@ returns-in_err-question-clause-reads g c =
 
 pub returns-in_err-listings-clause-reads : goal.returns-in_err-listings-clause-reads
 returns-in_err-listings-clause-reads g c =
-    fails_with_file (λ (m : Listings). map listing m.entries) listings_file (codes "listings") (rows_of (found_of c.args.asked.now)) _ c.named_files.ensures.named _ c.listings_file.ensures.named c.in_ok-question.question c.in_err-listings.field-0.0 _ c.from_residual-in_err-listings.ensures.1 c.in_ok-question.ensures.same c.in_ok-question.ensures.reads c.in_err-listings.ensures.reads
+    fails_with_file (λ (m : Listings). map listing m.entries) listings_file (codes "listings") (rows_of (found_of c.args.asked.now)) _ c.named_files.ensures.named _ c.required.ensures.value c.in_ok-question.question c.in_err-listings.field-0.0 _ c.from_residual-in_err-listings.ensures.1 c.in_ok-question.ensures.same c.in_ok-question.ensures.reads c.in_err-listings.ensures.reads
 
 pub returns-clause-reads : goal.returns-clause-reads
 returns-clause-reads g c =
-    read_with_file (λ (m : Listings). map listing m.entries) listings_file (codes "listings") (rows_of (found_of c.args.asked.now)) _ c.named_files.ensures.named _ c.listings_file.ensures.named c.in_ok-question.question c.in_ok-listings.listings c.in_ok-question.ensures.same c.in_ok-question.ensures.reads c.in_ok-listings.ensures.reads
+    read_with_file (λ (m : Listings). map listing m.entries) listings_file (codes "listings") (rows_of (found_of c.args.asked.now)) _ c.named_files.ensures.named _ c.required.ensures.value c.in_ok-question.question c.in_ok-listings.listings c.in_ok-question.ensures.same c.in_ok-question.ensures.reads c.in_ok-listings.ensures.reads

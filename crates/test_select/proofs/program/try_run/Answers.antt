@@ -1,11 +1,12 @@
 use Rattle.std.proofs.Common.{refl}
 use Rattle.clap.specs.Words.{subcommand_rows_of}
 use Rattle.test_select_files.proofs.ReadingFacts.{asks_such}
-use Rattle.test_select.proofs.RunFacts.{as_ends, means_any, means_fault, means_matches, memory_ends, memory_is, refused_ends}
+use Rattle.test_select_files.proofs.RunFacts.{fails_as}
+use Rattle.test_select.proofs.RunFacts.{as_ends, means_any, means_fault, means_matches, memory_ends, refused_ends, shown_memory}
 use Rattle.test_select.proofs.program.try_run.Goals as goal
 
 pub returns-in_err-command-clause-ends : goal.returns-in_err-command-clause-ends
-returns-in_err-command-clause-ends g c = means_any _ _ (memory_ends _ _ _ (memory_is _ c.from_residual.ensures.1) refl)
+returns-in_err-command-clause-ends g c = means_any _ _ (memory_ends _ _ _ (fails_as _ _ c.from_residual.ensures.1) refl)
 
 pub returns-in_err-refuse_bad_partition-in-Ok-clause-ends : goal.returns-in_err-refuse_bad_partition-in-Ok-clause-ends
 returns-in_err-refuse_bad_partition-in-Ok-clause-ends g c =
@@ -17,8 +18,14 @@ returns-in_ok-refuse_bad_partition-in-Ok-clause-ends g c =
     means_matches _ _ _ c.in-Ok.matches c.in_ok-command.ensures.app c.in-Ok.ensures.matches
     (asks_such c.carry_out.ensures.ends (λ a h. as_ends (subcommand_rows_of c.in-Ok.matches) c.carry_out.result (g.O.Write.contents c.args.out.now) (g.O.Write.contents c.carry_out.new.out) a c.carry_out.ensures.status h))
 
-pub returns-in-Err-clause-ends : goal.returns-in-Err-clause-ends
-returns-in-Err-clause-ends g c =
+pub returns-in_err-show-in-Err-clause-ends : goal.returns-in_err-show-in-Err-clause-ends
+returns-in_err-show-in-Err-clause-ends g c =
     means_fault _ _ _ c.in-Err.shown c.in_ok-command.ensures.app c.in-Err.ensures.kinds (λ ran_out below.
-    let ended = c.show.ensures.memory ran_out in
-    memory_ends _ _ _ ended.0 ended.1 below)
+    let ended = c.in_err-show-in-Err.ensures.memory ran_out in
+    memory_ends _ _ _ (shown_memory c.in_err-show-in-Err.field-0.0 _ _ c.from_residual-in_err-show-in-Err.ensures.1 refl ended.0) ended.1 below)
+
+pub returns-in_ok-show-in-Err-clause-ends : goal.returns-in_ok-show-in-Err-clause-ends
+returns-in_ok-show-in-Err-clause-ends g c =
+    means_fault _ _ _ c.in-Err.shown c.in_ok-command.ensures.app c.in-Err.ensures.kinds (λ ran_out below.
+    let ended = c.in_ok-show-in-Err.ensures.memory ran_out in
+    absurd (cc ended.0))

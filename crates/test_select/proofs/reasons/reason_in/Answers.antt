@@ -15,5 +15,5 @@ pub returns : goal.returns
 returns c =
     let coerced = carried_sameᵐ Members Dict own.entry-1-1 _ own.same-1-1 Shown (λ j y. j.1.shown y.now) _ in
     record {
-      says = explained_by (rows_of (found_of c.args.asked.now)) c.args.question.now c.args.listings c.why_shared.result _ _ _ _ _ _ c.link_scope-scope.ensures.scope c.filters_in-texts.ensures.values c.binary_word-id.ensures.named c.test_word-test.ensures.named (coerced ∙ c.in_ok-lister.ensures.unasked) c.why_shared.ensures.explains;
+      says = explained_by (rows_of (found_of c.args.asked.now)) c.args.question.now c.args.listings c.why_shared.result _ _ _ _ _ _ c.link_scope-scope.ensures.scope c.values_of-texts.ensures.values c.required-id.ensures.value c.optional-test.ensures.value (coerced ∙ c.in_ok-lister.ensures.unasked) c.why_shared.ensures.explains;
     }

@@ -1,6 +1,0 @@
-use Rattle.std.proofs.Common.{codes, rules}
-use Rattle.test_select.proofs.AskingFacts.{values_given}
-use Rattle.test_select.proofs.command_line.filters_in.Goals as goal
-
-pub returns : goal.returns
-returns c = record { values = values_given c.args.asked.now (codes "filter") c.get_strs.result _ _ (λ d e. search rules) c.get_strs.ensures c.unwrap_or_default.ensures }

@@ -1,6 +1,0 @@
-use Rattle.std.proofs.Common.{codes, rules}
-use Rattle.test_select.proofs.AskingFacts.{values_given}
-use Rattle.test_select.proofs.command_line.path_words.Goals as goal
-
-pub returns : goal.returns
-returns c = record { values = values_given c.args.asked.now (codes "path") c.get_strs.result _ _ (λ d e. search rules) c.get_strs.ensures c.unwrap_or_default.ensures }
