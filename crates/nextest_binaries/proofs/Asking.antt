@@ -37,7 +37,7 @@ asked_all s t ids answers h = record {
 
 -- the id at place i
 module _ (ids : List (List ℕ)) (i : ℕ) (id : List ℕ) (within : i < length ids) (at : get_or ids i [] ≡ id) where
-  one_more_id : take (i + 1) ids ≡ take i ids ++ id ∷ []
+  pub one_more_id : take (i + 1) ids ≡ take i ids ++ id ∷ []
   one_more_id = take_more ids i [] within ∙ ap (λ x. take i ids ++ x ∷ []) at
 
   pub asked_more : (s t u : Shown) → Asked s (take i ids) t → Asked t (id ∷ []) u → Asked s (take (i + 1) ids) u

@@ -1,3 +1,4 @@
 pub mod Asking
 pub mod LineFeeds
 pub mod Repeats
+pub mod Taking

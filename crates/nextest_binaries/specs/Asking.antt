@@ -1,8 +1,9 @@
 -- What it is to ask for several listings, one after another.
-use Rattle.std.specs.Prelude.{◌≡◌, ℕ, ◌+◌, ◌<◌, ◌≤◌, List, length, take, map, All, slice_index_or, [], Some, Result, Ok, Err, Vec, String}
+use Rattle.std.specs.Prelude.{◌≡◌, ◌≢◌, ℕ, ◌+◌, ◌<◌, ◌≤◌, List, length, take, map, All, slice_index_or, [], Some, None, Result, Ok, Err, Vec, String}
+use Rattle.std.specs.BTreeMap.{BTreeMap}
 use Rattle.std.specs.Global.{Global}
 use Rattle.list_facts.specs.Texts.{texts}
-use Rattle.nextest_binaries.specs.Listers.{Shown, Asked, Failed, largest}
+use Rattle.nextest_binaries.specs.Listers.{Shown, Asked, Failed, largest, listing_in, unasked}
 use Rattle.nextest_binaries.specs.Listings.{IsWellFormed, HasFault}
 use Rattle.nextest_binaries.specs.declared.fault.ListingFault.{ListingFault}
 use Rattle.nextest_binaries.specs.declared.fault.AskError.{AskError}
@@ -51,3 +52,13 @@ ListsEach old ids (Ok listings) new = Answered old ids (map (λ listing. texts l
 ListsEach old ids (Err (Lister i)) new = FailedAt old ids i new
 ListsEach old ids (Err (BadListing i fault)) new = FaultyAt old ids i fault new
 ListsEach old ids (Err Memory) new = AskedSome old ids new
+
+-- no id before place i is the one there
+abbrev pub IsFirstAt : List (List ℕ) → ℕ → Type 0
+IsFirstAt ids i = (j : ℕ) → j < i → slice_index_or ids j [] ≢ slice_index_or ids i []
+
+-- the listings of these ids are taken out of a map: what asking a lister over it comes to, which fails for an id alone that has no listing, or whose was taken before
+pub record TakesEach (listings : BTreeMap (String Global) (Vec (String Global) Global)) (ids : List (List ℕ)) (result : Result (Vec (Vec (String Global) Global) Global) AskError) : Type 0 where
+  pub after : Shown
+  pub lists : ListsEach (unasked listings) ids result after
+  pub missing : (i : ℕ) → result ≡ Err (Lister i) → IsFirstAt ids i → listing_in listings (slice_index_or ids i []) ≡ None

@@ -20,7 +20,7 @@ mod queries;
 mod rust_binary_id;
 mod test_name;
 
-pub use crate::ask::ask_each;
+pub use crate::ask::{ask_each, take_each};
 pub use crate::binary_ids::binary_id;
 pub use crate::binary_info::BinaryInfo;
 pub use crate::binary_kind::RustTestBinaryKind;
