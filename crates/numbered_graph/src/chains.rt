@@ -1,6 +1,6 @@
 //! The links of each node, one after the other.
 
-ghost use Rattle.std.specs.Prelude.{◌<◌, IfOk};
+ghost use Rattle.std.specs.Prelude.{IfOk};
 ghost use Rattle.numbered_graph.specs.Links.{AreWithin};
 ghost use Rattle.numbered_graph.specs.Chains.{AreChains};
 

@@ -66,19 +66,12 @@ fn keys_of(alloc: Global, ranks: &[usize], direction: Direction) -> Result<Vec<u
     let top = highest(ranks);
     let mut keys = Vec::new(alloc);
     for rank in ranks {
-        keys.push(key_of(direction, top, *rank))?;
+        keys.push(match direction {
+            Direction::Forward => *rank,
+            Direction::Reverse => top - *rank,
+        })?;
     }
     Ok(keys)
-}
-
-fn key_of(direction: Direction, top: usize, rank: usize) -> usize
-    requires { rank ≤ top }
-    ensures { result ≡ key_of direction top rank }
-{
-    match direction {
-        Direction::Forward => rank,
-        Direction::Reverse => top - rank,
-    }
 }
 
 // A flag for each key: whether a link joins two nodes of it.

@@ -102,7 +102,10 @@ impl Graph {
         ensures none { IfNone result (IsNextLink direction self.now.links node 0
             (length self.now.links)) }
     {
-        let number = self.first_of(direction, node);
+        let number = match direction {
+            Direction::Forward => self.leaving.first[node],
+            Direction::Reverse => self.entering.first[node],
+        };
         if number < self.links.len() {
             Some(number)
         } else {
@@ -124,16 +127,6 @@ impl Graph {
             Some(next)
         } else {
             None
-        }
-    }
-
-    pub(crate) fn first_of(&self, direction: Direction, node: usize) -> usize
-        requires { node < self.now.nodes }
-        ensures { IsNextLink direction self.now.links node 0 result }
-    {
-        match direction {
-            Direction::Forward => self.leaving.first[node],
-            Direction::Reverse => self.entering.first[node],
         }
     }
 

@@ -66,7 +66,11 @@ pub(crate) fn in_order(
 {
     let mut places = places_of(alloc, ranks, firm_ranks)?;
     places.sort_unstable();
-    nodes_of(alloc, &places)
+    let mut nodes = Vec::new(alloc);
+    for place in &places {
+        nodes.push(place.node)?;
+    }
+    Ok(nodes)
 }
 
 fn places_of(alloc: Global, ranks: &[usize], firm_ranks: &[usize]) -> Result<Vec<Place>, AllocError>
@@ -84,14 +88,4 @@ fn places_of(alloc: Global, ranks: &[usize], firm_ranks: &[usize]) -> Result<Vec
         })?;
     }
     Ok(places)
-}
-
-fn nodes_of(alloc: Global, places: &[Place]) -> Result<Vec<usize>, AllocError>
-    ensures { IfOk result (λ v. v.items ≡ map (λ p. p.node) places.now) }
-{
-    let mut nodes = Vec::new(alloc);
-    for place in places {
-        nodes.push(place.node)?;
-    }
-    Ok(nodes)
 }

@@ -117,7 +117,14 @@ impl NodeSet {
         ensures each { IfOk result (λ v. (x : ℕ) → Contains v.items x ↔ IsTrue (has self.now x)) }
         ensures within { IfOk result (λ v. All (λ x. x < length self.now) v.items) }
     {
-        set_nodes(alloc, &self.flags)
+        let flags: &[bool] = &self.flags;
+        let mut nodes = Vec::new(alloc);
+        for node in 0..flags.len() {
+            if flags[node] {
+                nodes.push(node)?;
+            }
+        }
+        Ok(nodes)
     }
 
     /// The nodes that are in one of the two sets.
@@ -174,22 +181,6 @@ impl NodeSet {
     }
 }
 
-fn set_nodes(alloc: Global, flags: &[bool]) -> Result<Vec<usize>, AllocError>
-    ensures members { IfOk result (λ v. v.items
-        ≡ filter (has flags.now) (numbers_below (length flags.now))) }
-    ensures ascending { IfOk result (λ v. AllPairs (λ x y. x < y) v.items) }
-    ensures each { IfOk result (λ v. (x : ℕ) → Contains v.items x ↔ IsTrue (has flags.now x)) }
-    ensures within { IfOk result (λ v. All (λ x. x < length flags.now) v.items) }
-{
-    let mut nodes = Vec::new(alloc);
-    for node in 0..flags.len() {
-        if flags[node] {
-            nodes.push(node)?;
-        }
-    }
-    Ok(nodes)
-}
-
 fn join_flags(
     alloc: Global,
     operation: Operation,
@@ -203,18 +194,12 @@ fn join_flags(
 {
     let mut flags = Vec::new(alloc);
     for k in 0..a.len() {
-        flags.push(join(operation, a[k], b[k]))?;
+        flags.push(match operation {
+            Operation::Union => a[k] || b[k],
+            Operation::Intersection => a[k] && b[k],
+            Operation::Difference => a[k] && !b[k],
+            Operation::SymmetricDifference => a[k] != b[k],
+        })?;
     }
     Ok(flags)
-}
-
-fn join(operation: Operation, a: bool, b: bool) -> bool
-    ensures { result ≡ joined operation a b }
-{
-    match operation {
-        Operation::Union => a || b,
-        Operation::Intersection => a && b,
-        Operation::Difference => a && !b,
-        Operation::SymmetricDifference => a != b,
-    }
 }

@@ -1,8 +1,8 @@
 //! Cycles of a graph, with the number of each node's cycle.
 
-ghost use Rattle.std.specs.Prelude.{◌≡◌, ◌↔◌, ◌<◌, ℕ, List, IfOk, IsTrue, length, map, slice_index_or, if◌then◌else◌};
+ghost use Rattle.std.specs.Prelude.{◌≡◌, ◌↔◌, ◌<◌, List, IfOk, IsTrue, length, map};
 ghost use Rattle.numbered_graph.specs.CycleNumbers.{AreCyclic, AreNumbers};
-ghost use Rattle.numbered_graph.specs.Cycles.{AreCycles, has_node};
+ghost use Rattle.numbered_graph.specs.Cycles.{AreCycles};
 ghost use Rattle.numbered_graph.specs.declared.direction.Direction.{Direction};
 ghost use Rattle.numbered_graph.specs.declared.link.Link.{Link};
 
@@ -42,7 +42,11 @@ impl NumberedCycles {
         let mut number = cycles.len();
         while number > 0 {
             number -= 1;
-            number_cycle(&mut numbers, &cycles[number], number);
+            for node in &cycles[number] {
+                if *node < numbers.len() {
+                    numbers[*node] = number;
+                }
+            }
         }
         Ok(NumberedCycles { cycles, numbers })
     }
@@ -63,18 +67,5 @@ impl NumberedCycles {
         ensures { map (λ x. x.items) result.now ≡ self.now.cycles }
     {
         &self.cycles
-    }
-}
-
-fn number_cycle(numbers: &mut Vec<usize>, cycle: &[usize], number: usize)
-    ensures sized { length numbers.new.items ≡ length numbers.old.items }
-    ensures each { (v : ℕ) → v < length numbers.old.items
-        → slice_index_or numbers.new.items v 0
-        ≡ (if has_node v cycle.now then number else slice_index_or numbers.old.items v 0) }
-{
-    for node in cycle {
-        if *node < numbers.len() {
-            numbers[*node] = number;
-        }
     }
 }

@@ -1,6 +1,6 @@
 //! Links inside a set of nodes, and the nodes at which they begin.
 
-ghost use Rattle.std.specs.Prelude.{◌≡◌, ℕ, ◌<◌, ◌&&◌, not, ◌↔◌, true, length, slice_index, filter, All, AllPairs, Contains, IsTrue, IfOk};
+ghost use Rattle.std.specs.Prelude.{◌≡◌, ℕ, ◌<◌, ◌&&◌, not, ◌↔◌, length, slice_index, filter, All, AllPairs, Contains, IsTrue, IfOk};
 ghost use Rattle.numbered_graph.specs.Listings.{numbers_below};
 ghost use Rattle.numbered_graph.specs.Roots.{is_inside, IsRoot, AreEntered};
 ghost use Rattle.numbered_graph.specs.Sets.{has};

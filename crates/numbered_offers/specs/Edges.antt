@@ -91,7 +91,3 @@ required_half e = record { edge = e; kind = Required }
 
 abbrev pub optional_half : ℕ → Offer
 optional_half e = record { edge = e; kind = Optional }
-
--- of a weak edge with these halves
-abbrev pub halves_sort : Bool → Bool → EdgeSort
-halves_sort required optional = Weak 0 required optional

@@ -1,10 +1,8 @@
 //! Edges between numbered nodes: some are crossed always, some where an offer is accepted.
 
 ghost use Rattle.std.specs.Prelude.{◌≡◌, ◌↔◌, IsTrue};
-ghost use Rattle.numbered_offers.specs.Edges.{AreEdgesWithin, link_of, dep_link_of, dep_of, is_free, has_offer};
+ghost use Rattle.numbered_offers.specs.Edges.{AreEdgesWithin, dep_of, is_free, has_offer};
 ghost use Rattle.numbered_offers.specs.declared.offer.OfferKind.TheVariants.{Optional};
-
-use numbered_graph::Link;
 
 /// An edge from one node to another, or to the same.
 #[derive(Clone, Copy, Debug, PartialEq, Eq)]
@@ -34,16 +32,6 @@ pub enum EdgeSort {
 }
 
 impl Edge {
-    // The link between its ends.
-    pub(crate) fn link(self) -> Link
-        ensures { result ≡ link_of self }
-    {
-        Link {
-            from: self.from,
-            to: self.to,
-        }
-    }
-
     // The node for which its optional half waits.
     pub(crate) fn dep(self) -> usize
         ensures { result ≡ dep_of self.sort }
@@ -51,16 +39,6 @@ impl Edge {
         match self.sort {
             EdgeSort::Unconditional | EdgeSort::Conditional => 0,
             EdgeSort::Weak { dep, .. } => dep,
-        }
-    }
-
-    // The link from that node to its end.
-    pub(crate) fn dep_link(self) -> Link
-        ensures { result ≡ dep_link_of self }
-    {
-        Link {
-            from: self.dep(),
-            to: self.to,
         }
     }
 

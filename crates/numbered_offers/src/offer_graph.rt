@@ -1,6 +1,6 @@
 //! Graphs of offers: nodes, and edges that are offered.
 
-ghost use Rattle.std.specs.Prelude.{◌≡◌, ◌<◌, ◌++◌, ◌∷◌, [], length, All, IfOk, OnOk, if◌then◌else◌};
+ghost use Rattle.std.specs.Prelude.{◌≡◌, ◌<◌, ◌++◌, length, All, IfOk};
 ghost use Rattle.numbered_offers.specs.Edges.{AreEdgesWithin, edge_links};
 ghost use Rattle.numbered_offers.specs.Graphs.{all_links, dep_links, halves_of};
 
@@ -34,8 +34,7 @@ impl OfferGraph {
         ensures made { IfOk result (λ g. g ≡ record { nodes = nodes; edges = edges.items }) }
     {
         let halves = halves_in(alloc, &edges)?;
-        let mut links = links_of(alloc, &edges)?;
-        add_dep_links(&mut links, &edges, &halves)?;
+        let links = links_of(alloc, &edges, &halves)?;
         let graph = Graph::new(alloc, nodes, links)?;
         Ok(OfferGraph {
             edges,
@@ -79,37 +78,32 @@ fn halves_in(alloc: Global, edges: &[Edge]) -> Result<Vec<usize>, AllocError>
 {
     let mut halves = Vec::new(alloc);
     for (number, edge) in edges.iter().enumerate() {
-        push_if(&mut halves, number, edge.has_optional_half())?;
+        if edge.has_optional_half() {
+            halves.push(number)?;
+        }
     }
     Ok(halves)
 }
 
-fn push_if(numbers: &mut Vec<usize>, number: usize, flag: bool) -> Result<(), AllocError>
-    ensures { OnOk result (numbers.new.items
-        ≡ (if flag then numbers.old.items ++ number ∷ [] else numbers.old.items)) }
-{
-    if flag {
-        numbers.push(number)?;
-    }
-    Ok(())
-}
-
-fn links_of(alloc: Global, edges: &[Edge]) -> Result<Vec<Link>, AllocError>
-    ensures { IfOk result (λ links. links.items ≡ edge_links edges.now) }
+// The links of the edges, and after them one for each optional half, from the node for which it waits.
+fn links_of(alloc: Global, edges: &[Edge], halves: &[usize]) -> Result<Vec<Link>, AllocError>
+    requires { All (λ e. e < length edges.now) halves.now }
+    ensures { IfOk result (λ links. links.items ≡ edge_links edges.now ++ dep_links edges.now
+        halves.now) }
 {
     let mut links = Vec::new(alloc);
     for edge in edges {
-        links.push(edge.link())?;
+        links.push(Link {
+            from: edge.from,
+            to: edge.to,
+        })?;
+    }
+    for number in halves {
+        let edge = edges[*number];
+        links.push(Link {
+            from: edge.dep(),
+            to: edge.to,
+        })?;
     }
     Ok(links)
-}
-
-fn add_dep_links(links: &mut Vec<Link>, edges: &[Edge], halves: &[usize]) -> Result<(), AllocError>
-    requires { All (λ e. e < length edges.now) halves.now }
-    ensures { OnOk result (links.new.items ≡ links.old.items ++ dep_links edges.now halves.now) }
-{
-    for number in halves {
-        links.push(edges[*number].dep_link())?;
-    }
-    Ok(())
 }

@@ -1,17 +1,16 @@
 //! The walk over the links of a graph of offers, the counts of premises, and what was asked.
 
-ghost use Rattle.std.specs.Prelude.{◌≡◌, suc, ◌+◌, ◌<◌, ◌≤◌, ◌++◌, ◌||◌, [], true, All, length, Some, None, IfSome, IfNone, IfOk, vec_len, vec_capacity};
+ghost use Rattle.std.specs.Prelude.{◌≡◌, suc, ◌+◌, ◌<◌, ◌≤◌, ◌++◌, ◌||◌, [], All, length, Some, IfSome, IfNone, IfOk, vec_len, vec_capacity};
 ghost use Rattle.numbered_graph.specs.Walks.{IsShowing, opened_of};
 ghost use Rattle.numbered_offers.specs.declared.offer.Offer.{Offer};
-ghost use Rattle.numbered_offers.specs.declared.offer.OfferKind.TheVariants.{Optional};
-ghost use Rattle.numbered_offers.specs.Counts.{AreOpen, count_at, lowered, optional_premises, whole_after, half_after, optional_after, is_due_at};
+ghost use Rattle.numbered_offers.specs.Counts.{AreOpen, count_at, lowered, whole_after, optional_after, is_due_at};
 ghost use Rattle.numbered_offers.specs.Dues.{asks, asked_of, accepted_of};
-ghost use Rattle.numbered_offers.specs.Edges.{waits};
 ghost use Rattle.numbered_offers.specs.Graphs.{all_links};
 ghost use Rattle.numbered_offers.specs.Keeping.{half_at, is_free_link, run_of};
 ghost use Rattle.numbered_offers.specs.States.{Rests, Meets, WaitsFor, IsSameWalk};
 
-use crate::due::{Due, due_of_edge, due_of_half, is_taken};
+use crate::due::{Due, due_of_edge};
+use crate::offer::{Offer, OfferKind};
 use crate::offer_graph::OfferGraph;
 use numbered_graph::{Direction, Looks, Walk};
 use std::alloc::{AllocError, Global};
@@ -40,16 +39,6 @@ pub struct State<'g> {
     pub asked: Vec<Asked>,
 }
 
-// How many premises an optional half has: forward it waits for its dependency's node too.
-fn premises_of_optional(direction: Direction) -> u8
-    ensures { result ≡ optional_premises direction }
-{
-    match direction {
-        Direction::Forward => 2,
-        Direction::Reverse => 1,
-    }
-}
-
 // Before the first link.
 pub(crate) fn started<'g>(
     alloc: Global,
@@ -67,7 +56,12 @@ pub(crate) fn started<'g>(
 {
     let edges = graph.edges().len();
     let whole_open = vec![in alloc; 1; edges]?;
-    let optional_open = vec![in alloc; premises_of_optional(direction); edges]?;
+    // Forward an optional half waits for its dependency's node too.
+    let premises = match direction {
+        Direction::Forward => 2,
+        Direction::Reverse => 1,
+    };
+    let optional_open = vec![in alloc; premises; edges]?;
     let asked = Vec::with_capacity(alloc, graph.graph().links().len())?;
     let walk = Walk::new(alloc, graph.graph(), starts, direction)?;
     Ok(State {
@@ -101,24 +95,6 @@ fn lower(counts: &mut Vec<u8>, number: usize)
     counts[number] -= 1;
 }
 
-// Lowers the count of the half that waits at a link.
-fn meet_half(graph: &OfferGraph, direction: Direction, optional: &mut Vec<u8>, number: usize)
-    requires behind { length graph.now.edges ≤ number }
-    requires number { number < length (all_links graph.now.edges) }
-    requires sized { length optional.old.items ≡ length graph.now.edges }
-    requires open { waits direction Optional ≡ true
-        → 0 < count_at optional.old.items (half_at graph.now.edges number) }
-    ensures { optional.new.items ≡ half_after direction graph.now.edges number optional.old.items }
-{
-    match direction {
-        Direction::Forward => {
-            let half = half_of(graph, number);
-            lower(optional, half);
-        }
-        Direction::Reverse => {}
-    }
-}
-
 // Lowers the counts that wait at a link.
 fn meet(
     graph: &OfferGraph,
@@ -138,8 +114,9 @@ fn meet(
     if number < graph.edges().len() {
         lower(whole, number);
         lower(optional, number);
-    } else {
-        meet_half(graph, direction, optional, number);
+    } else if let Direction::Forward = direction {
+        let half = half_of(graph, number);
+        lower(optional, half);
     }
 }
 
@@ -167,7 +144,13 @@ fn due_at(
         )
     } else {
         let half = half_of(graph, number);
-        due_of_half(half, direction, optional[half] == 0)
+        match (direction, optional[half] == 0) {
+            (Direction::Forward, true) => Some(Due::One(Offer {
+                edge: half,
+                kind: OfferKind::Optional,
+            })),
+            (Direction::Forward, false) | (Direction::Reverse, _) => None,
+        }
     }
 }
 
@@ -198,6 +181,7 @@ fn meet_link(state: &mut State<'_>, number: usize) -> Option<Due>
 }
 
 // Whether the walk follows the link: that of an edge that is crossed always, or of an accepted offer.
+// The second answer is for a second half.
 fn is_accepted(
     graph: &OfferGraph,
     number: usize,
@@ -208,7 +192,12 @@ fn is_accepted(
     ensures { result ≡ (is_free_link graph.now.edges number || accepted_of due first second) }
 {
     let edges = graph.edges();
-    (number < edges.len() && edges[number].is_free()) || is_taken(due, first, second)
+    let taken = match due {
+        None => false,
+        Some(Due::One(_)) => first,
+        Some(Due::Halves(_)) => first || second,
+    };
+    (number < edges.len() && edges[number].is_free()) || taken
 }
 
 // Puts what was asked at the end of a list that has room for it.
