@@ -1,15 +1,39 @@
 -- Texts seen one after another, until one was seen before.
-use Rattle.std.proofs.Common.{◌≡◌, ℕ, ◌+◌, ◌<◌, Bool, true, false, List, [], ◌∷◌, ◌++◌, length, get_or, take, map, refl, sym, ◌∙◌, ap, subst, ◌⊎◌, ⊎_elim, arith, Contains, cond, length-take, get_or-take, not, String, Global, string_bytes, Bor}
+use Rattle.std.proofs.Common.{◌≡◌, ◌≢◌, ℕ, ◌+◌, ◌<◌, Bool, true, false, List, [], ◌∷◌, ◌++◌, length, get_or, take, map, refl, sym, ◌∙◌, ap, subst, ◌⊎◌, ⊎_elim, arith, Contains, cond, length-take, get_or-take, not, String, Global, string_bytes, Bor}
 use Rattle.std.specs.List.{list_any}
+use Rattle.std.specs.List.Sorted.{IsStrictlySortedBy}
 use Rattle.std.specs.Str.{bytes_eq}
+use Rattle.std.specs.declared.cmp.Ordering.TheVariants.{Less}
 use Rattle.std.proofs.lemmas.List.{get_or_append_left, get_or_push, get_or_default, length_push, length-map, take-map, get_or-map, map-append}
 use Rattle.std.proofs.lemmas.Slice.Eq.{bytes_eq-Decides}
+use Rattle.std.proofs.lemmas.Map.Keys.{Less-from_sorted, sorted_from_all_adjacent}
 use Rattle.indexmap.specs.IndexSet.{insert_key}
+use Rattle.list_facts.specs.Ascending.{text_cmp}
 use Rattle.list_facts.specs.Texts.{texts}
+use Rattle.list_facts.proofs.Ascending.{text_total}
 use Rattle.list_facts.proofs.Lists.{map-take_more}
 use Rattle.list_facts.proofs.Membership.{Contains-map, Contains-map_cases}
 use Rattle.list_facts.proofs.Quantifiers.{list_any_cases, list_any-from_Contains}
 use Rattle.nextest_binaries.specs.Listings.{HasRepeat}
+
+-- where each name is below the next, the names ascend
+pub ascending_names : (names : List (String Global)) → ((k : ℕ) (d : String Global) → k + 1 < length names → text_cmp (string_bytes (get_or names k d)) (string_bytes (get_or names (k + 1) d)) ≡ Less) → IsStrictlySortedBy text_cmp (texts names)
+ascending_names [] h = sorted_from_all_adjacent text_total [] [] (λ k lt. absurd (omega (arith, lt)))
+ascending_names (n ∷ ns) h =
+    sorted_from_all_adjacent text_total (texts (n ∷ ns)) [] (λ k lt.
+    let within : k + 1 < length (n ∷ ns) = subst (λ m. k + 1 < m) (length-map (n ∷ ns) string_bytes) lt in
+    rw (get_or-map string_bytes (n ∷ ns) k n [] (omega (arith, within)), get_or-map string_bytes (n ∷ ns) (k + 1) n [] within) (h k n within))
+
+-- texts that ascend stand apart
+pub ascending_apart : (xs : List (List ℕ)) (i j : ℕ) → IsStrictlySortedBy text_cmp xs → i < j → j < length xs → get_or xs i [] ≢ get_or xs j []
+ascending_apart xs i j ascending before within same =
+    let x = get_or xs j [] in
+    let less : text_cmp x x ≡ Less = subst (λ y. text_cmp y x ≡ Less) same (Less-from_sorted text_cmp xs i j [] ascending before within) in
+    let turned = text_total.antisymm x x in
+    cc
+
+pub no_repeat_ascending : (xs : List (List ℕ)) → IsStrictlySortedBy text_cmp xs → ¬ (HasRepeat xs)
+no_repeat_ascending xs ascending h = ascending_apart xs h.0 h.1 ascending h.2 h.3 h.4
 
 pub no_repeat_none : ¬ (HasRepeat [])
 no_repeat_none h = let lt = h.3 in absurd (omega arith)

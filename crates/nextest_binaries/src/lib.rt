@@ -28,6 +28,7 @@ pub use crate::build_platform::BuildPlatform;
 pub use crate::fault::{AskError, ListFault, ListingFault};
 pub use crate::file_lister::FileLister;
 pub use crate::lister::{Listing, TestLister};
+pub use crate::listing::names_ascend;
 pub use crate::queries::{BinaryQuery, TestQuery};
 pub use crate::rust_binary_id::RustBinaryId;
 pub use crate::test_name::TestCaseName;

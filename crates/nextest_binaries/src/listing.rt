@@ -1,7 +1,9 @@
 //! Whether a listing is well-formed.
 
-ghost use Rattle.std.specs.Prelude.{◌≡◌, [], IsTrue, IfOk, ◌↔◌, nat_eq, string_bytes};
+ghost use Rattle.std.specs.Prelude.{◌≡◌, [], IsTrue, IfOk, true, ◌↔◌, nat_eq, string_bytes};
 ghost use Rattle.std.specs.List.{list_any};
+ghost use Rattle.std.specs.List.Sorted.{IsStrictlySortedBy};
+ghost use Rattle.list_facts.specs.Ascending.{text_cmp};
 ghost use Rattle.list_facts.specs.Texts.{texts};
 ghost use Rattle.nextest_binaries.specs.Listings.{HasLineFeed, HasRepeat, FindsFault};
 
@@ -31,6 +33,9 @@ fn has_line_feed(names: &[String]) -> bool
 fn has_repeat(alloc: Global, names: &[String]) -> Result<bool, AllocError>
     ensures { IfOk result (λ found. IsTrue found ↔ HasRepeat (texts names.now)) }
 {
+    if names_ascend(names) {
+        return Ok(false);
+    }
     let mut seen: IndexSet<&str> = IndexSet::with_capacity(alloc, names.len())?;
     let found = finds_repeat(&mut seen, names);
     drop(seen);
@@ -48,4 +53,17 @@ fn finds_repeat<'a>(seen: &mut IndexSet<&'a str>, names: &'a [String]) -> Result
         }
     }
     Ok(false)
+}
+
+/// Whether each name is below the next, byte by byte, as test harnesses list them. No such name stands
+/// twice.
+pub fn names_ascend(names: &[String]) -> bool
+    ensures ascending { result ≡ true → IsStrictlySortedBy text_cmp (texts names.now) }
+{
+    for place in 1..names.len() {
+        if names[place - 1] >= names[place] {
+            return false;
+        }
+    }
+    true
 }
