@@ -7,12 +7,11 @@ ghost use Rattle.record_files.specs.Values.{each, optional, required};
 ghost use Rattle.record_files.specs.Accounts.{rule_of, rules_of, goal_of, account_of, account_file};
 
 use crate::account_file::AccountFile;
-use crate::choice::extra_of;
 use crate::error::ReadError;
 use crate::file::value_of;
 use crate::key::Key;
 use crate::number::number_of;
-use crate::object::{as_array, given, object_of};
+use crate::object::{FromValue, as_array, given, object_of};
 use json::{Scratch, Value};
 use std::alloc::Global;
 use workspace_record::Feature;
@@ -43,7 +42,7 @@ fn goal_at(alloc: Global, value: &Value<'_>) -> Result<Option<Feature>, ReadErro
 {
     match given(value, Key::Goal) {
         None => Ok(None),
-        Some(value) => Ok(Some(extra_of(alloc, object_of(value, Key::Goal)?)?)),
+        Some(value) => Ok(Some(Feature::from_value(alloc, object_of(value, Key::Goal)?)?)),
     }
 }
 

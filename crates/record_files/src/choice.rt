@@ -1,16 +1,16 @@
 ghost use Rattle.std.specs.Prelude.{◌≡◌, IfOk};
-ghost use Rattle.record_files.specs.Trees.{seen, seen_items};
+ghost use Rattle.record_files.specs.Trees.{seen};
 ghost use Rattle.workspace_record.specs.LabelView.{label_view};
 ghost use Rattle.record_files.specs.declared.key.Key.TheVariants as key;
 ghost use Rattle.record_files.specs.Files.{ReadsFile};
 ghost use Rattle.record_files.specs.Outcomes.{Gives};
-ghost use Rattle.record_files.specs.Values.{each, otherwise};
-ghost use Rattle.record_files.specs.Choices.{standard_named, standard_of, label_of, extra_of, choice_of, choice_file};
+ghost use Rattle.record_files.specs.Values.{otherwise};
+ghost use Rattle.record_files.specs.Choices.{standard_named, standard_of, label_of, choice_of, choice_file};
 
 use crate::error::ReadError;
 use crate::file::value_of;
 use crate::key::Key;
-use crate::object::{given, object_of, objects_or_none, text_at};
+use crate::object::{FromValue, each_of, given, object_of, objects_or_none, text_at};
 use json::{Scratch, Value};
 use std::alloc::{AllocError, Global};
 use workspace_record::{Feature, FeatureChoice, Label, Standard};
@@ -36,7 +36,7 @@ fn choice_of(alloc: Global, value: &Value<'_>) -> Result<FeatureChoice, ReadErro
     let standard = standard_at(value)?;
     let none = Vec::new(alloc);
     let extra_values = objects_or_none(value, Key::Extras, &none)?;
-    let extras = extras_of(alloc, extra_values)?;
+    let extras = each_of::<Feature>(alloc, extra_values)?;
     Ok(FeatureChoice { standard, extras })
 }
 
@@ -62,25 +62,19 @@ fn standard_named(name: &str) -> Option<Standard>
     }
 }
 
-fn extras_of(alloc: Global, values: &[Value<'_>]) -> Result<Vec<Feature>, ReadError>
-    ensures { Gives (λ v. v.items) result (each extra_of (seen_items values.now)) }
-{
-    let mut extras = Vec::with_capacity(alloc, values.len())?;
-    for value in values {
-        extras.push(extra_of(alloc, value)?)?;
-    }
-    Ok(extras)
-}
+impl FromValue for Feature {
+    ghost use Rattle.record_files.specs.Choices.{extra_of};
 
-/// A feature of a package: the package's id, and the feature's text.
-#[tactic(auto, unfolding(crate::specs::Choices::extra_of))]
-pub(crate) fn extra_of(alloc: Global, value: &Value<'_>) -> Result<Feature, ReadError>
-    ensures { Gives (λ f. f) result (extra_of (seen value.now)) }
-{
-    let package = text_at(alloc, value, Key::Package)?;
-    let feature = text_at(alloc, value, Key::Feature)?;
-    let label = label_of(alloc, feature.as_str())?;
-    Ok(Feature { package, label })
+    ghost read = { extra_of };
+
+    /// A feature of a package: the package's id, and the feature's text.
+    #[tactic(auto, unfolding(crate::specs::Choices::extra_of))]
+    fn from_value(alloc: Global, value: &Value<'_>) -> Result<Feature, ReadError> {
+        let package = text_at(alloc, value, Key::Package)?;
+        let feature = text_at(alloc, value, Key::Feature)?;
+        let label = label_of(alloc, feature.as_str())?;
+        Ok(Feature { package, label })
+    }
 }
 
 // Public, so that a word of the command line is read as a choice is.

@@ -1,13 +1,15 @@
 ghost use Rattle.std.specs.Prelude.{◌≡◌};
-ghost use Rattle.record_files.specs.Trees.{seen, seen_items};
+ghost use Rattle.record_files.specs.Trees.{seen};
 ghost use Rattle.record_files.specs.declared.key.Key.TheVariants as key;
 ghost use Rattle.record_files.specs.Outcomes.{Gives};
-ghost use Rattle.record_files.specs.Values.{each, otherwise};
-ghost use Rattle.record_files.specs.Links.{line_kind, line_kind_of, line_of, link_of};
+ghost use Rattle.record_files.specs.Values.{otherwise};
+ghost use Rattle.record_files.specs.Links.{line_kind, line_kind_of};
 
 use crate::error::ReadError;
 use crate::key::Key;
-use crate::object::{flag_or, given, objects_at, optional_text_at, text_at, text_or, texts_at};
+use crate::object::{
+    FromValue, each_of, flag_or, given, objects_at, optional_text_at, text_at, text_or, texts_at,
+};
 use json::Value;
 use std::alloc::Global;
 use workspace_record::{LineKind, LineRecord, LinkRecord};
@@ -15,64 +17,52 @@ use workspace_record::{LineKind, LineRecord, LinkRecord};
 /// The requirement of a link that gives none.
 const ANY_VERSION: &str = "*";
 
-pub(crate) fn links_of(alloc: Global, values: &[Value<'_>]) -> Result<Vec<LinkRecord>, ReadError>
-    ensures { Gives (λ v. v.items) result (each link_of (seen_items values.now)) }
-{
-    let mut links = Vec::with_capacity(alloc, values.len())?;
-    for value in values {
-        links.push(link_of(alloc, value)?)?;
+impl FromValue for LinkRecord {
+    ghost use Rattle.record_files.specs.Links.{link_of};
+
+    ghost read = { link_of };
+
+    #[tactic(auto, unfolding(crate::specs::Links::link_of))]
+    fn from_value(alloc: Global, value: &Value<'_>) -> Result<LinkRecord, ReadError> {
+        let from = text_at(alloc, value, Key::From)?;
+        let to = text_at(alloc, value, Key::To)?;
+        let name = text_at(alloc, value, Key::Name)?;
+        let requirement = text_or(alloc, value, Key::Requirement, ANY_VERSION)?;
+        let registry = optional_text_at(alloc, value, Key::Registry)?;
+        let path = optional_text_at(alloc, value, Key::Path)?;
+        let lines = each_of::<LineRecord>(alloc, objects_at(value, Key::Lines)?)?;
+        Ok(LinkRecord {
+            from,
+            to,
+            name,
+            requirement,
+            lines,
+            registry,
+            path,
+        })
     }
-    Ok(links)
 }
 
-#[tactic(auto, unfolding(crate::specs::Links::link_of))]
-fn link_of(alloc: Global, value: &Value<'_>) -> Result<LinkRecord, ReadError>
-    ensures { Gives (λ l. l) result (link_of (seen value.now)) }
-{
-    let from = text_at(alloc, value, Key::From)?;
-    let to = text_at(alloc, value, Key::To)?;
-    let name = text_at(alloc, value, Key::Name)?;
-    let requirement = text_or(alloc, value, Key::Requirement, ANY_VERSION)?;
-    let registry = optional_text_at(alloc, value, Key::Registry)?;
-    let path = optional_text_at(alloc, value, Key::Path)?;
-    let lines = lines_of(alloc, objects_at(value, Key::Lines)?)?;
-    Ok(LinkRecord {
-        from,
-        to,
-        name,
-        requirement,
-        lines,
-        registry,
-        path,
-    })
-}
+impl FromValue for LineRecord {
+    ghost use Rattle.record_files.specs.Links.{line_of};
 
-fn lines_of(alloc: Global, values: &[Value<'_>]) -> Result<Vec<LineRecord>, ReadError>
-    ensures { Gives (λ v. v.items) result (each line_of (seen_items values.now)) }
-{
-    let mut lines = Vec::with_capacity(alloc, values.len())?;
-    for value in values {
-        lines.push(line_of(alloc, value)?)?;
+    ghost read = { line_of };
+
+    #[tactic(auto, unfolding(crate::specs::Links::line_of))]
+    fn from_value(alloc: Global, value: &Value<'_>) -> Result<LineRecord, ReadError> {
+        let kind = line_kind_at(value)?;
+        let optional = flag_or(value, Key::Optional, false)?;
+        let default_features = flag_or(value, Key::DefaultFeatures, true)?;
+        let features = texts_at(alloc, value, Key::Features)?;
+        let spec = optional_text_at(alloc, value, Key::Spec)?;
+        Ok(LineRecord {
+            kind,
+            optional,
+            default_features,
+            features,
+            spec,
+        })
     }
-    Ok(lines)
-}
-
-#[tactic(auto, unfolding(crate::specs::Links::line_of))]
-fn line_of(alloc: Global, value: &Value<'_>) -> Result<LineRecord, ReadError>
-    ensures { Gives (λ l. l) result (line_of (seen value.now)) }
-{
-    let kind = line_kind_at(value)?;
-    let optional = flag_or(value, Key::Optional, false)?;
-    let default_features = flag_or(value, Key::DefaultFeatures, true)?;
-    let features = texts_at(alloc, value, Key::Features)?;
-    let spec = optional_text_at(alloc, value, Key::Spec)?;
-    Ok(LineRecord {
-        kind,
-        optional,
-        default_features,
-        features,
-        spec,
-    })
 }
 
 fn line_kind_at(value: &Value<'_>) -> Result<LineKind, ReadError>

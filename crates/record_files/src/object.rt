@@ -1,11 +1,13 @@
 //! Values as texts, flags and lists, and the values at the keys of an object.
 
-ghost use Rattle.std.specs.Prelude.{◌≡◌, [], IfOk, map, is_some, option_map, string_bytes};
+ghost use Rattle.std.specs.Prelude.{◌≡◌, [], IfOk, Result, map, is_some, option_map, string_bytes};
 ghost use Rattle.std.specs.List.{list_all};
+ghost use Rattle.serde_json.specs.Data.{Data};
 ghost use Rattle.serde_json.specs.Find.{get, as_array, as_object};
+ghost use Rattle.record_files.specs.Faults.{Fault};
 ghost use Rattle.record_files.specs.Outcomes.{Gives};
 ghost use Rattle.record_files.specs.Trees.{seen, seen_items};
-ghost use Rattle.record_files.specs.Values.{given, text_of, each_text, as_texts, text_at, optional_text_at, text_or, texts_of, texts_at, optional_texts_at, flag_of, flag_or, object_of, object_at, objects_of, objects_at, objects_or_none};
+ghost use Rattle.record_files.specs.Values.{given, text_of, each, each_text, as_texts, text_at, optional_text_at, text_or, texts_of, texts_at, optional_texts_at, flag_of, flag_or, object_of, object_at, objects_of, objects_at, objects_or_none};
 
 use crate::error::ReadError;
 use crate::key::Key;
@@ -220,4 +222,27 @@ pub(crate) fn objects_or_none<'v, 'a>(
         None => Ok(none),
         Some(value) => objects_of(value, key),
     }
+}
+
+/// What is read of each value of a list.
+pub(crate) trait FromValue: Drop {
+    ghost read: { Data → Result Self Fault };
+
+    /// What is read of the value.
+    fn from_value(alloc: Global, value: &Value<'_>) -> Result<Self, ReadError>
+        ensures { Gives (λ x. x) result (read (seen value.now)) };
+}
+
+/// What is read of the values, in their order.
+pub(crate) fn each_of<T: FromValue>(
+    alloc: Global,
+    values: &[Value<'_>],
+) -> Result<Vec<T>, ReadError>
+    ensures { Gives (λ v. v.items) result (each T.read (seen_items values.now)) }
+{
+    let mut read = Vec::with_capacity(alloc, values.len())?;
+    for value in values {
+        read.push(T::from_value(alloc, value)?)?;
+    }
+    Ok(read)
 }

@@ -7,13 +7,11 @@ ghost use Rattle.record_files.specs.Records.{record_of, record_file};
 use crate::error::ReadError;
 use crate::file::value_of;
 use crate::key::Key;
-use crate::link::links_of;
-use crate::object::{object_at, object_of, objects_at, objects_or_none, optional_text_at};
-use crate::package::packages_of;
-use crate::workspace::{groups_of, workspace_of};
+use crate::object::{each_of, object_at, object_of, objects_at, objects_or_none, optional_text_at};
+use crate::workspace::workspace_of;
 use json::{Scratch, Value};
 use std::alloc::Global;
-use workspace_record::WorkspaceRecord;
+use workspace_record::{GroupRecord, LinkRecord, PackageRecord, WorkspaceRecord};
 
 /// Reads the record of a workspace: `packages`, `links`, `workspace`, `groups` and
 /// `default_filter`.
@@ -41,10 +39,10 @@ fn record_of(alloc: Global, value: &Value<'_>) -> Result<WorkspaceRecord, ReadEr
     let workspace_value = object_at(value, Key::Workspace)?;
     let group_values = objects_or_none(&*value, Key::Groups, &none)?;
     let default_filter = optional_text_at(alloc, value, Key::DefaultFilter)?;
-    let packages = packages_of(alloc, package_values)?;
-    let links = links_of(alloc, link_values)?;
+    let packages = each_of::<PackageRecord>(alloc, package_values)?;
+    let links = each_of::<LinkRecord>(alloc, link_values)?;
     let workspace = workspace_of(alloc, workspace_value)?;
-    let groups = groups_of(alloc, group_values)?;
+    let groups = each_of::<GroupRecord>(alloc, group_values)?;
     Ok(WorkspaceRecord {
         packages,
         links,

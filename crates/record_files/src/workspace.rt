@@ -1,13 +1,12 @@
 ghost use Rattle.std.specs.Prelude.{◌≡◌};
-ghost use Rattle.record_files.specs.Trees.{seen, seen_items};
+ghost use Rattle.record_files.specs.Trees.{seen};
 ghost use Rattle.record_files.specs.Outcomes.{Gives};
-ghost use Rattle.record_files.specs.Values.{each};
-ghost use Rattle.record_files.specs.Workspaces.{member_of, workspace_of, group_of};
+ghost use Rattle.record_files.specs.Workspaces.{workspace_of};
 
 use crate::error::ReadError;
 use crate::key::Key;
 use crate::metadata::metadata_at;
-use crate::object::{objects_at, optional_text_at, text_at, text_or, texts_at};
+use crate::object::{FromValue, each_of, objects_at, optional_text_at, text_at, text_or, texts_at};
 use json::Value;
 use std::alloc::Global;
 use workspace_record::{GroupRecord, MemberRecord, WorkspaceInfo};
@@ -24,7 +23,7 @@ pub(crate) fn workspace_of(alloc: Global, value: &Value<'_>) -> Result<Workspace
     let build_directory = optional_text_at(alloc, value, Key::BuildDirectory)?;
     let default_members = texts_at(alloc, value, Key::DefaultMembers)?;
     let metadata = metadata_at(alloc, value)?;
-    let members = members_of(alloc, objects_at(value, Key::Members)?)?;
+    let members = each_of::<MemberRecord>(alloc, objects_at(value, Key::Members)?)?;
     Ok(WorkspaceInfo {
         root,
         target_directory,
@@ -35,40 +34,28 @@ pub(crate) fn workspace_of(alloc: Global, value: &Value<'_>) -> Result<Workspace
     })
 }
 
-fn members_of(alloc: Global, values: &[Value<'_>]) -> Result<Vec<MemberRecord>, ReadError>
-    ensures { Gives (λ v. v.items) result (each member_of (seen_items values.now)) }
-{
-    let mut members = Vec::with_capacity(alloc, values.len())?;
-    for value in values {
-        members.push(member_of(alloc, value)?)?;
+impl FromValue for MemberRecord {
+    ghost use Rattle.record_files.specs.Workspaces.{member_of};
+
+    ghost read = { member_of };
+
+    #[tactic(auto, unfolding(crate::specs::Workspaces::member_of))]
+    fn from_value(alloc: Global, value: &Value<'_>) -> Result<MemberRecord, ReadError> {
+        let package = text_at(alloc, value, Key::Package)?;
+        let path = text_at(alloc, value, Key::Path)?;
+        Ok(MemberRecord { package, path })
     }
-    Ok(members)
 }
 
-#[tactic(auto, unfolding(crate::specs::Workspaces::member_of))]
-fn member_of(alloc: Global, value: &Value<'_>) -> Result<MemberRecord, ReadError>
-    ensures { Gives (λ m. m) result (member_of (seen value.now)) }
-{
-    let package = text_at(alloc, value, Key::Package)?;
-    let path = text_at(alloc, value, Key::Path)?;
-    Ok(MemberRecord { package, path })
-}
+impl FromValue for GroupRecord {
+    ghost use Rattle.record_files.specs.Workspaces.{group_of};
 
-pub(crate) fn groups_of(alloc: Global, values: &[Value<'_>]) -> Result<Vec<GroupRecord>, ReadError>
-    ensures { Gives (λ v. v.items) result (each group_of (seen_items values.now)) }
-{
-    let mut groups = Vec::with_capacity(alloc, values.len())?;
-    for value in values {
-        groups.push(group_of(alloc, value)?)?;
+    ghost read = { group_of };
+
+    #[tactic(auto, unfolding(crate::specs::Workspaces::group_of))]
+    fn from_value(alloc: Global, value: &Value<'_>) -> Result<GroupRecord, ReadError> {
+        let name = text_at(alloc, value, Key::Name)?;
+        let filter = text_at(alloc, value, Key::Filter)?;
+        Ok(GroupRecord { name, filter })
     }
-    Ok(groups)
-}
-
-#[tactic(auto, unfolding(crate::specs::Workspaces::group_of))]
-fn group_of(alloc: Global, value: &Value<'_>) -> Result<GroupRecord, ReadError>
-    ensures { Gives (λ g. g) result (group_of (seen value.now)) }
-{
-    let name = text_at(alloc, value, Key::Name)?;
-    let filter = text_at(alloc, value, Key::Filter)?;
-    Ok(GroupRecord { name, filter })
 }
