@@ -1,5 +1,5 @@
 use Rattle.guppy_package_rules.proofs.PlaceFacts.{repeats_at, goes_on}
-use Rattle.guppy_package_rules.proofs.distinct.first_seen.Goals as goal
+use Rattle.guppy_package_rules.proofs.distinct.first_repeat.Goals as goal
 
 pub returns-then-not-branch : goal.returns-then-not-branch
 returns-then-not-branch g c =
