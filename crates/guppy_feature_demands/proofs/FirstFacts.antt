@@ -47,12 +47,6 @@ module _ {T : Type 0} {eq : T → T → Bool} (laws : IsEquivalence eq) where
   insert_seen f old x false e =
       map-append f old (x ∷ []) ∙ ap (λ c. cond c (map f old) (map f old ++ f x ∷ [])) (sym (list_any-map (eq (f x)) f old ∙ e))
 
-  -- one element more, seen by f
-  pub first_more : {X : Type 0} (f : X → T) (xs : List X) (i : ℕ) (d : X) → i < length xs → (old new : List X) → map f old ≡ first_of_each eq (map f (take i xs)) → new ≡ insert_key (λ x y. eq (f x) (f y)) old (get_or xs i d) → map f new ≡ first_of_each eq (map f (take (i + 1) xs))
-  first_more {X = X} f xs i d lt old new before inserted =
-      let x = get_or xs i d in
-      ap (map f) inserted ∙ insert_seen f old x (list_any (λ y. eq (f x) (f y)) old) refl ∙ ap (λ ks. insert_key eq ks (f x)) before ∙ sym (first_of_each-push (map f (take i xs)) (f x)) ∙ ap (first_of_each eq) (sym (map-take_more f xs i d lt))
-
   -- one element more, kept by what shows it
   pub inserted_seen : {X : Type 0} (f : X → T) (old new : List X) (x : X) → new ≡ insert_key (λ a b. eq (f a) (f b)) old x → map f new ≡ insert_key eq (map f old) (f x)
   inserted_seen f old new x inserted = ap (map f) inserted ∙ insert_seen f old x (list_any (λ y. eq (f x) (f y)) old) refl

@@ -2,7 +2,7 @@
 pub use Rattle.workspace_record.specs.Features.{base_of, named_of, dep_of}
 use Rattle.std.specs.Prelude.{ℕ, Bool, not, List, [], ◌∷◌, ◌++◌, map, filter}
 use Rattle.std.specs.List.{flat_map, list_any, position_or_len}
-use Rattle.workspace_record.specs.Records.{Text, Package}
+use Rattle.workspace_record.specs.Records.{Package}
 use Rattle.workspace_record.specs.Features.{FeatureValue, feature_eq}
 
 -- a package's features: itself, those that it names, and its optional dependencies

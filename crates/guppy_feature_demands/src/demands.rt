@@ -2,13 +2,13 @@
 
 ghost use Rattle.std.specs.Prelude.{◌≡◌, ◌∷◌, ◌++◌, [], IfOk, OnOk, map, string_bytes};
 ghost use Rattle.std.specs.List.{flat_map};
-ghost use Rattle.guppy_feature_demands.specs.Demands.{base_demands, default_of, dependency_demands, leads_by, line_demands, line_start, link_demands, slash_demands, DependenciesSection, leads};
+ghost use Rattle.guppy_feature_demands.specs.Demands.{base_demands, dependency_demands, leads_by, line_demands, link_demands, slash_demands, DependenciesSection};
 ghost use Rattle.guppy_feature_demands.specs.DemandViews.{demand_view, form_view};
 ghost use Rattle.guppy_feature_demands.specs.EntriesAt.{at_demands};
 ghost use Rattle.guppy_feature_demands.specs.EntryAtView.{entry_at_view};
 ghost use Rattle.guppy_feature_demands.specs.HashedViews.{hashed_view};
 ghost use Rattle.guppy_feature_demands.specs.Nodes.{named_of};
-ghost use Rattle.guppy_feature_demands.specs.Numbered.{links_named, numbered};
+ghost use Rattle.guppy_feature_demands.specs.Numbered.{links_named};
 ghost use Rattle.guppy_feature_demands.specs.NumberedViews.{ends_view, line_view, link_view};
 
 use crate::demand::{Demand, EdgeKind};
@@ -33,7 +33,12 @@ pub(crate) fn base_demands<'g>(
     let mut demands: Vec<Demand<'g>> = Vec::with_capacity(alloc, nodes.len())?;
     let names = nodes.names();
     for name in names {
-        demands.push(base_demand(*name))?;
+        demands.push(Demand {
+            from: *name,
+            to: FeatureKey::base(name.id),
+            form: EdgeKind::FeatureToBase,
+            line: None,
+        })?;
     }
     Ok(demands)
 }
@@ -70,17 +75,6 @@ pub(crate) fn link_demands<'g>(
     Ok(demands)
 }
 
-fn base_demand<'g>(name: FeatureKey<'g>) -> Demand<'g>
-    ensures { demand_view result ∷ [] ≡ base_demands (hashed_view name.entry ∷ []) }
-{
-    Demand {
-        from: name,
-        to: FeatureKey::base(name.id),
-        form: EdgeKind::FeatureToBase,
-        line: None,
-    }
-}
-
 fn push_entry<'g>(
     at: EntryAt<'g>,
     nodes: &NodeTable<'g>,
@@ -96,11 +90,11 @@ fn push_entry<'g>(
     match at.entry {
         Entry::OwnFeature(name) => {
             let to = FeatureKey::named(id, name);
-            push_lead(from, to, EdgeKind::NamedFeature, demands)
+            push_demand(from, to, EdgeKind::NamedFeature, None, demands)
         }
         Entry::Dependency(name) => {
             let to = FeatureKey::dep(id, name);
-            push_lead(from, to, EdgeKind::NamedFeatureDepColon, demands)
+            push_demand(from, to, EdgeKind::NamedFeatureDepColon, None, demands)
         }
         Entry::Strong(name, feature) => {
             let form = EdgeKind::StrongSlash(name);
@@ -114,17 +108,21 @@ fn push_entry<'g>(
     }
 }
 
-fn push_lead<'g>(
+fn push_demand<'g>(
     from: FeatureKey<'g>,
     to: FeatureKey<'g>,
     form: EdgeKind<'g>,
+    line: Option<(usize, usize)>,
     demands: &mut Vec<Demand<'g>>,
 ) -> Result<(), AllocError>
     ensures { OnOk result (map demand_view demands.new.items
-        ≡ map demand_view demands.old.items
-        ++ leads (form_view form.entry) (hashed_view from.entry) (hashed_view to.entry) ∷ []) }
+        ≡ map demand_view demands.old.items ++ record {
+          from = hashed_view from.entry;
+          to = hashed_view to.entry;
+          form = form_view form.entry;
+          line = line;
+        } ∷ []) }
 {
-    let line = None;
     demands.push(Demand {
         from,
         to,
@@ -146,10 +144,10 @@ fn push_dependency<'g>(
         name.entry.now) }
 {
     let dep = FeatureKey::dep(from.id, name);
-    push_lead(from, dep, EdgeKind::NamedFeatureDepColon, demands)?;
+    push_demand(from, dep, EdgeKind::NamedFeatureDepColon, None, demands)?;
     if nodes.has(dep) {
         let to = FeatureKey::named(from.id, name);
-        push_lead(from, to, EdgeKind::NamedFeature, demands)?;
+        push_demand(from, to, EdgeKind::NamedFeature, None, demands)?;
     }
     Ok(())
 }
@@ -205,47 +203,10 @@ fn push_slash_link<'g>(
 {
     let row = link.row;
     let to = FeatureKey::named(HashedId::of(row.to.as_str()), feature);
-    push_slash_lines(from, to, form, link.number, &row.lines, demands)
-}
-
-fn push_slash_lines<'g>(
-    from: FeatureKey<'g>,
-    to: FeatureKey<'g>,
-    form: EdgeKind<'g>,
-    link: usize,
-    lines: &[LineRow],
-    demands: &mut Vec<Demand<'g>>,
-) -> Result<(), AllocError>
-    ensures { OnOk result (map demand_view demands.new.items
-        ≡ map demand_view demands.old.items
-        ++ map (λ line. leads_by (form_view form.entry) (hashed_view from.entry)
-        (hashed_view to.entry) (link, line.0)) (numbered lines.now)) }
-{
+    let lines: &[LineRow] = &row.lines;
     for (number, _) in lines.iter().enumerate() {
-        push_by_line(from, to, form, (link, number), demands)?;
+        push_demand(from, to, form, Some((link.number, number)), demands)?;
     }
-    Ok(())
-}
-
-fn push_by_line<'g>(
-    from: FeatureKey<'g>,
-    to: FeatureKey<'g>,
-    form: EdgeKind<'g>,
-    place: (usize, usize),
-    demands: &mut Vec<Demand<'g>>,
-) -> Result<(), AllocError>
-    ensures { OnOk result (map demand_view demands.new.items
-        ≡ map demand_view demands.old.items
-        ++ leads_by (form_view form.entry) (hashed_view from.entry) (hashed_view to.entry) place
-        ∷ []) }
-{
-    let line = Some(place);
-    demands.push(Demand {
-        from,
-        to,
-        form,
-        line,
-    })?;
     Ok(())
 }
 
@@ -254,19 +215,7 @@ fn push_link<'g>(link: LinkEnds<'g>, demands: &mut Vec<Demand<'g>>) -> Result<()
         ≡ map demand_view demands.old.items ++ link_demands (ends_view link.entry)) }
 {
     let row = link.at.row;
-    push_lines(link, &row.lines, demands)
-}
-
-fn push_lines<'g>(
-    link: LinkEnds<'g>,
-    lines: &'g [LineRow],
-    demands: &mut Vec<Demand<'g>>,
-) -> Result<(), AllocError>
-    ensures { OnOk result (map demand_view demands.new.items
-        ≡ map demand_view demands.old.items
-        ++ flat_map (λ line. line_demands link.entry.at.row.now
-        ((link.entry.at.number, line.0), line.1)) (numbered lines.entry.now)) }
-{
+    let lines: &[LineRow] = &row.lines;
     for (number, row) in lines.iter().enumerate() {
         let place = (link.at.number, number);
         push_line(link, LineAt { place, row }, demands)?;
@@ -283,47 +232,19 @@ fn push_line<'g>(
         ≡ map demand_view demands.old.items
         ++ line_demands link.entry.at.row.now (line_view at.entry)) }
 {
-    let from = line_start(link, at);
-    push_by_line(
-        from,
-        FeatureKey::base(link.to),
-        EdgeKind::DependenciesSection,
-        at.place,
-        demands,
-    )?;
-    push_default(from, link.to, at, demands)?;
-    let line = at.row;
-    push_listed(from, link.to, &line.features, at.place, demands)
-}
-
-fn line_start<'g>(link: LinkEnds<'g>, at: LineAt<'g>) -> FeatureKey<'g>
-    ensures { hashed_view result ≡ line_start link.entry.at.row.now at.entry.row.now }
-{
     let (row, line) = (link.at.row, at.row);
-    if line.optional {
+    let from = if line.optional {
         FeatureKey::dep(link.from, row.name.as_str())
     } else {
         FeatureKey::base(link.from)
-    }
-}
-
-fn push_default<'g>(
-    from: FeatureKey<'g>,
-    id: HashedId<'g>,
-    at: LineAt<'g>,
-    demands: &mut Vec<Demand<'g>>,
-) -> Result<(), AllocError>
-    ensures { OnOk result (map demand_view demands.new.items
-        ≡ map demand_view demands.old.items
-        ++ map (λ g. leads_by DependenciesSection (hashed_view from.entry) g at.entry.place)
-        (default_of id.entry.text.now at.entry.row.now)) }
-{
-    let line = at.row;
+    };
+    let (form, place) = (EdgeKind::DependenciesSection, Some(at.place));
+    push_demand(from, FeatureKey::base(link.to), form, place, demands)?;
     if line.default_features {
-        let to = FeatureKey::named(id, "default");
-        push_by_line(from, to, EdgeKind::DependenciesSection, at.place, demands)?;
+        let to = FeatureKey::named(link.to, "default");
+        push_demand(from, to, form, place, demands)?;
     }
-    Ok(())
+    push_listed(from, link.to, &line.features, at.place, demands)
 }
 
 fn push_listed<'g>(
@@ -340,7 +261,13 @@ fn push_listed<'g>(
 {
     for name in names {
         let to = FeatureKey::named(id, name.as_str());
-        push_by_line(from, to, EdgeKind::DependenciesSection, place, demands)?;
+        push_demand(
+            from,
+            to,
+            EdgeKind::DependenciesSection,
+            Some(place),
+            demands,
+        )?;
     }
     Ok(())
 }

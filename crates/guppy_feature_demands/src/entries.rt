@@ -1,8 +1,7 @@
 //! The entries of the packages' features, each with where it stands.
 
-ghost use Rattle.std.specs.Prelude.{◌≡◌, ◌++◌, IfOk, OnOk, map, string_bytes};
+ghost use Rattle.std.specs.Prelude.{◌≡◌, ◌++◌, IfOk, OnOk, map};
 ghost use Rattle.std.specs.List.{flat_map};
-ghost use Rattle.workspace_record.specs.Entries.{entry_value};
 ghost use Rattle.guppy_feature_demands.specs.EntriesAt.{feature_entries, package_entries};
 ghost use Rattle.guppy_feature_demands.specs.EntryAtView.{entry_at_view};
 ghost use Rattle.guppy_feature_demands.specs.NamedRows.{named_view};
@@ -77,23 +76,8 @@ fn push_feature<'g>(
         ++ feature_entries id.entry.text.now (named_view feature.entry)) }
 {
     let row = feature.row;
-    push_entries(id, row.name.as_str(), &row.enables, entries)
-}
-
-fn push_entries<'g>(
-    id: HashedId<'g>,
-    feature: &'g str,
-    texts: &'g [String],
-    entries: &mut Vec<EntryAt<'g>>,
-) -> Result<(), AllocError>
-    ensures { OnOk result (map entry_at_view entries.new.items
-        ≡ map entry_at_view entries.old.items
-        ++ map (λ text. record {
-          package_id = id.entry.text.now;
-          feature = feature.entry.now;
-          entry = entry_value text;
-        }) (map string_bytes texts.entry.now)) }
-{
+    let feature = row.name.as_str();
+    let texts: &[String] = &row.enables;
     for text in texts {
         let entry = entry_of(text.as_str());
         entries.push(EntryAt { id, feature, entry })?;

@@ -12,10 +12,14 @@ pub(crate) struct HashedId<'g> {
 
 impl<'g> HashedId<'g> {
     /// An id and its hash.
+    #[tactic(auto, unfolding(crate::specs::IdHashes::text_hash))]
     pub(crate) fn of(text: &'g str) -> HashedId<'g>
         ensures { result.text.now ≡ text.entry.now }
     {
-        let hash = hash_of(text);
+        let mut hash: u64 = 0;
+        for byte in text.as_bytes() {
+            hash = hash.wrapping_mul(FACTOR).wrapping_add(*byte as u64);
+        }
         HashedId { text, hash }
     }
 
@@ -39,14 +43,3 @@ impl<'g> HashedId<'g> {
 }
 
 const FACTOR: u64 = 1_099_511_628_211;
-
-#[tactic(auto, unfolding(crate::specs::IdHashes::text_hash))]
-fn hash_of(text: &str) -> u64
-    ensures { result ≡ text_hash text.now }
-{
-    let mut hash: u64 = 0;
-    for byte in text.as_bytes() {
-        hash = hash.wrapping_mul(FACTOR).wrapping_add(*byte as u64);
-    }
-    hash
-}

@@ -1,6 +1,6 @@
 //! What the rows demand between nodes, part by part, so that no list is held of all that they demand.
 
-ghost use Rattle.std.specs.Prelude.{◌≡◌, ◌++◌, IfOk, OnOk, map};
+ghost use Rattle.std.specs.Prelude.{◌≡◌, ◌++◌, IfOk, map};
 ghost use Rattle.std.specs.List.{flat_map};
 ghost use Rattle.guppy_feature_demands.specs.Demands.{base_demands, kept_demands, link_demands};
 ghost use Rattle.guppy_feature_demands.specs.DemandViews.{numbered_view};
@@ -29,50 +29,12 @@ pub(crate) fn kept_demands<'g>(
         ++ flat_map link_demands links.now))) }
 {
     let mut kept: Vec<NumberedDemand<'g>> = Vec::new(alloc);
-    keep_bases(alloc, nodes, &mut kept)?;
-    keep_entries(alloc, entries, nodes, links, &mut kept)?;
-    keep_links(alloc, nodes, links, &mut kept)?;
+    keep_demands(nodes, &base_demands(alloc, nodes)?, &mut kept)?;
+    keep_demands(
+        nodes,
+        &entry_demands(alloc, entries, nodes, links)?,
+        &mut kept,
+    )?;
+    keep_demands(nodes, &link_demands(alloc, links)?, &mut kept)?;
     Ok(kept)
-}
-
-fn keep_bases<'g>(
-    alloc: Global,
-    nodes: &NodeTable<'g>,
-    kept: &mut Vec<NumberedDemand<'g>>,
-) -> Result<(), AllocError>
-    ensures { OnOk result (map numbered_view kept.new.items
-        ≡ map numbered_view kept.old.items ++ kept_demands nodes.now (base_demands nodes.now)) }
-{
-    let demands = base_demands(alloc, nodes)?;
-    keep_demands(nodes, &demands, kept)
-}
-
-fn keep_entries<'g>(
-    alloc: Global,
-    entries: &[EntryAt<'g>],
-    nodes: &NodeTable<'g>,
-    links: &LinkTable<'g>,
-    kept: &mut Vec<NumberedDemand<'g>>,
-) -> Result<(), AllocError>
-    ensures { OnOk result (map numbered_view kept.new.items
-        ≡ map numbered_view kept.old.items
-        ++ kept_demands nodes.now
-        (flat_map (at_demands nodes.now links.now) (map entry_at_view entries.now))) }
-{
-    let demands = entry_demands(alloc, entries, nodes, links)?;
-    keep_demands(nodes, &demands, kept)
-}
-
-fn keep_links<'g>(
-    alloc: Global,
-    nodes: &NodeTable<'g>,
-    links: &LinkTable<'g>,
-    kept: &mut Vec<NumberedDemand<'g>>,
-) -> Result<(), AllocError>
-    ensures { OnOk result (map numbered_view kept.new.items
-        ≡ map numbered_view kept.old.items
-        ++ kept_demands nodes.now (flat_map link_demands links.now)) }
-{
-    let demands = link_demands(alloc, links)?;
-    keep_demands(nodes, &demands, kept)
 }

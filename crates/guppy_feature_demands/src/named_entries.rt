@@ -1,7 +1,6 @@
 //! The features of a package of which each name's first counts.
 
-ghost use Rattle.std.specs.Prelude.{◌≡◌, IfOk, OnOk, map};
-ghost use Rattle.indexmap.specs.IndexSet.{insert_key};
+ghost use Rattle.std.specs.Prelude.{◌≡◌, IfOk, map};
 ghost use Rattle.guppy_feature_demands.specs.Demands.{same_name};
 ghost use Rattle.guppy_feature_demands.specs.NamedRows.{named_view};
 ghost use Rattle.guppy_feature_demands.specs.Nodes.{first_of_each};
@@ -62,15 +61,7 @@ pub(crate) fn named_entries<'g>(
 {
     let mut set: IndexSet<NamedRow<'g>> = IndexSet::with_capacity(alloc, features.len())?;
     for row in features {
-        insert_row(&mut set, row)?;
+        set.insert(NamedRow { row })?;
     }
     Ok(set)
-}
-
-fn insert_row<'g>(set: &mut IndexSet<NamedRow<'g>>, row: &'g FeatureRow) -> Result<(), AllocError>
-    ensures { OnOk result (map named_view set.new.keys
-        ≡ insert_key same_name (map named_view set.old.keys) row.entry.now) }
-{
-    set.insert(NamedRow { row })?;
-    Ok(())
 }

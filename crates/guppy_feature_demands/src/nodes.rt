@@ -1,20 +1,19 @@
 //! The nodes of a feature graph, each found by its feature.
 
-ghost use Rattle.std.specs.Prelude.{◌≡◌, ◌∷◌, ◌++◌, [], IfOk, OnOk, length, map, string_bytes, if◌then◌else◌};
-ghost use Rattle.std.specs.List.{flat_map, list_any};
-ghost use Rattle.indexmap.specs.IndexSet.{insert_key};
+ghost use Rattle.std.specs.Prelude.{◌≡◌, ◌++◌, [], IfOk, OnOk, length, map};
+ghost use Rattle.std.specs.List.{flat_map};
 ghost use Rattle.workspace_record.specs.Features.{feature_eq};
 ghost use Rattle.guppy_feature_demands.specs.IdViews.{id_view};
 ghost use Rattle.guppy_feature_demands.specs.HashedViews.{hashed_view};
 ghost use Rattle.guppy_feature_demands.specs.NameViews.{name_view};
-ghost use Rattle.guppy_feature_demands.specs.Nodes.{base_of, named_of, dep_of, features_of, first_of_each, nodes_of, is_node, number_of};
+ghost use Rattle.guppy_feature_demands.specs.Nodes.{features_of, first_of_each, nodes_of, is_node, number_of};
 
 use crate::feature_id::FeatureId;
 use crate::feature_key::FeatureKey;
 use crate::feature_name::FeatureName;
 use crate::hashed_id::HashedId;
 use crate::package_at::PackageAt;
-use guppy_package_parts::{FeatureRow, PackageId};
+use guppy_package_parts::FeatureRow;
 use indexmap::IndexSet;
 use std::alloc::{AllocError, Global};
 use std::marker::Model;
@@ -128,36 +127,13 @@ fn push_features<'g>(at: PackageAt<'g>, features: &mut Vec<FeatureId<'g>>) -> Re
 {
     let row = at.row;
     features.push(FeatureId::base(at.id))?;
-    push_named(at.id, &row.features, features)?;
-    push_dependencies(at.id, &row.optional, features)
-}
-
-fn push_named<'g>(
-    id: &'g PackageId,
-    named: &'g [FeatureRow],
-    features: &mut Vec<FeatureId<'g>>,
-) -> Result<(), AllocError>
-    ensures { OnOk result (map id_view features.new.items
-        ≡ map id_view features.old.items
-        ++ map (λ f. named_of id.entry.now f.name) named.entry.now) }
-{
+    let named: &[FeatureRow] = &row.features;
     for feature in named {
-        features.push(FeatureId::named(id, feature.name.as_str()))?;
+        features.push(FeatureId::named(at.id, feature.name.as_str()))?;
     }
-    Ok(())
-}
-
-fn push_dependencies<'g>(
-    id: &'g PackageId,
-    names: &'g [String],
-    features: &mut Vec<FeatureId<'g>>,
-) -> Result<(), AllocError>
-    ensures { OnOk result (map id_view features.new.items
-        ≡ map id_view features.old.items
-        ++ map (dep_of id.entry.now) (map string_bytes names.entry.now)) }
-{
-    for name in names {
-        features.push(FeatureId::optional_dependency(id, name.as_str()))?;
+    let optional: &[String] = &row.optional;
+    for name in optional {
+        features.push(FeatureId::optional_dependency(at.id, name.as_str()))?;
     }
     Ok(())
 }
@@ -192,25 +168,9 @@ fn push_firsts<'g>(
     for feature in features {
         let name = FeatureKey::of(last, *feature);
         last = name.id;
-        push_first(name, *feature, names, ids)?;
-    }
-    Ok(())
-}
-
-fn push_first<'g>(
-    name: FeatureKey<'g>,
-    id: FeatureId<'g>,
-    names: &mut IndexSet<FeatureKey<'g>>,
-    ids: &mut Vec<FeatureId<'g>>,
-) -> Result<(), AllocError>
-    ensures names { OnOk result (map hashed_view names.new.keys
-        ≡ insert_key feature_eq (map hashed_view names.old.keys) (hashed_view name.entry)) }
-    ensures ids { OnOk result (map id_view ids.new.items
-        ≡ (if list_any (feature_eq (hashed_view name.entry)) (map hashed_view names.old.keys)
-        then map id_view ids.old.items else map id_view ids.old.items ++ id_view id.entry ∷ [])) }
-{
-    if names.insert(name)? {
-        ids.push(id)?;
+        if names.insert(name)? {
+            ids.push(*feature)?;
+        }
     }
     Ok(())
 }

@@ -1,6 +1,6 @@
 //! Demands between the nodes that there are.
 
-ghost use Rattle.std.specs.Prelude.{◌≡◌, ◌∷◌, [], OnOk, ◌++◌, filter, length, map};
+ghost use Rattle.std.specs.Prelude.{◌≡◌, OnOk, ◌++◌, length, map};
 ghost use Rattle.guppy_feature_demands.specs.Demands.{is_between_nodes, kept_demands, with_numbers};
 ghost use Rattle.guppy_feature_demands.specs.DemandViews.{demand_view, numbered_view};
 ghost use Rattle.guppy_feature_demands.specs.HashedViews.{hashed_view};
@@ -28,26 +28,14 @@ pub(crate) fn keep_demands<'g>(
     let mut to = LastNumber::of(nodes);
     for demand in demands {
         let numbered = with_numbers(&mut from, &mut base, &mut to, *demand);
-        push_kept(nodes, numbered, kept)?;
+        if is_between(nodes, numbered) {
+            kept.push(numbered)?;
+        }
     }
     Ok(())
 }
 
-fn push_kept<'g>(
-    nodes: &NodeTable<'g>,
-    demand: NumberedDemand<'g>,
-    kept: &mut Vec<NumberedDemand<'g>>,
-) -> Result<(), AllocError>
-    ensures { OnOk result (map numbered_view kept.new.items
-        ≡ map numbered_view kept.old.items
-        ++ filter (is_between_nodes (length nodes.now)) (numbered_view demand.entry ∷ [])) }
-{
-    if is_between(nodes, demand) {
-        kept.push(demand)?;
-    }
-    Ok(())
-}
-
+// Demands that lead to a package and to features of it take turns, so both are kept in mind.
 fn with_numbers<'g>(
     from: &mut LastNumber<'_, 'g>,
     base: &mut LastNumber<'_, 'g>,
@@ -64,26 +52,14 @@ fn with_numbers<'g>(
 {
     NumberedDemand {
         from: from.number_of(demand.from),
-        to: number_to(base, to, demand.to),
+        to: match demand.to.label {
+            FeatureLabel::Base => base.number_of(demand.to),
+            FeatureLabel::Named(_) | FeatureLabel::OptionalDependency(_) => {
+                to.number_of(demand.to)
+            }
+        },
         form: demand.form,
         line: demand.line,
-    }
-}
-
-// Demands that lead to a package and to features of it take turns, so both are kept in mind.
-fn number_to<'g>(
-    base: &mut LastNumber<'_, 'g>,
-    other: &mut LastNumber<'_, 'g>,
-    feature: FeatureKey<'g>,
-) -> usize
-    requires { other.old.nodes.now ≡ base.old.nodes.now }
-    ensures number { result ≡ number_of base.old.nodes.now (hashed_view feature.entry) }
-    ensures base { base.new.nodes.now ≡ base.old.nodes.now }
-    ensures other { other.new.nodes.now ≡ other.old.nodes.now }
-{
-    match feature.label {
-        FeatureLabel::Base => base.number_of(feature),
-        FeatureLabel::Named(_) | FeatureLabel::OptionalDependency(_) => other.number_of(feature),
     }
 }
 

@@ -1,8 +1,8 @@
 //! What is odd about the features of rows.
 
-ghost use Rattle.std.specs.Prelude.{◌≡◌, ◌∷◌, ◌++◌, [], IfOk, OnOk, map, string_bytes};
+ghost use Rattle.std.specs.Prelude.{◌≡◌, ◌++◌, IfOk, OnOk, map, string_bytes};
 ghost use Rattle.std.specs.List.{flat_map};
-ghost use Rattle.guppy_package_parts.specs.Warnings.{AddNamedFeatureEdges, MissingFeature, SelfLoop};
+ghost use Rattle.guppy_package_parts.specs.Warnings.{AddNamedFeatureEdges, MissingFeature};
 ghost use Rattle.guppy_feature_demands.specs.LabelViews.{label_view};
 ghost use Rattle.guppy_feature_demands.specs.Printing.{label_text};
 ghost use Rattle.guppy_package_parts.specs.WarningViews.{stage_view, warning_view};
@@ -11,7 +11,7 @@ ghost use Rattle.guppy_feature_demands.specs.EntryAtView.{entry_at_view};
 ghost use Rattle.guppy_feature_demands.specs.HashedViews.{hashed_view};
 ghost use Rattle.guppy_feature_demands.specs.Nodes.{named_of};
 ghost use Rattle.guppy_feature_demands.specs.Numbered.{links_named};
-ghost use Rattle.guppy_feature_demands.specs.NumberedViews.{ends_view, link_view};
+ghost use Rattle.guppy_feature_demands.specs.NumberedViews.{link_view};
 ghost use Rattle.guppy_feature_demands.specs.StageViews.{place_view};
 ghost use Rattle.guppy_feature_demands.specs.Warnings.{line_warnings, link_warnings, missing, optional_warnings, own_warnings, slash_warnings};
 
@@ -45,26 +45,14 @@ pub(crate) fn warnings_of<'g>(
         ++ flat_map (λ link. link_warnings nodes.now link.1) links.now) }
 {
     let mut warnings: Vec<FeatureGraphWarning> = Vec::new(alloc);
-    push_entries(alloc, entries, nodes, links, &mut warnings)?;
-    push_links(alloc, links.all(), nodes, &mut warnings)?;
-    Ok(warnings)
-}
-
-fn push_entries<'g>(
-    alloc: Global,
-    entries: &[EntryAt<'g>],
-    nodes: &NodeTable<'g>,
-    links: &LinkTable<'g>,
-    warnings: &mut Vec<FeatureGraphWarning>,
-) -> Result<(), AllocError>
-    ensures { OnOk result (map warning_view warnings.new.items
-        ≡ map warning_view warnings.old.items
-        ++ flat_map (at_warnings nodes.now links.now) (map entry_at_view entries.now)) }
-{
     for at in entries {
-        push_entry(alloc, *at, nodes, links, warnings)?;
+        push_entry(alloc, *at, nodes, links, &mut warnings)?;
     }
-    Ok(())
+    let all = links.all();
+    for link in all {
+        push_link(alloc, *link, nodes, &mut warnings)?;
+    }
+    Ok(warnings)
 }
 
 fn push_entry<'g>(
@@ -110,7 +98,12 @@ fn push_own<'g>(
         ++ own_warnings nodes.now id.entry.text.now from.entry.now name.entry.now) }
 {
     if name == from {
-        warnings.push(self_loop(alloc, id.text, from)?)?;
+        let package_id = id_of(alloc, id.text)?;
+        let feature_name = String::from_str(alloc, from)?;
+        warnings.push(FeatureGraphWarning::SelfLoop {
+            package_id,
+            feature_name,
+        })?;
         Ok(())
     } else {
         let feature = FeatureKey::named(id, name);
@@ -159,41 +152,9 @@ fn push_slash_links<'g>(
         (map link_view links.now)) }
 {
     for link in links {
-        push_slash_link(alloc, stage, feature, *link, nodes, warnings)?;
-    }
-    Ok(())
-}
-
-fn push_slash_link<'g>(
-    alloc: Global,
-    stage: WarningSite<'g>,
-    feature: &'g str,
-    link: NumberedLink<'g>,
-    nodes: &NodeTable<'g>,
-    warnings: &mut Vec<FeatureGraphWarning>,
-) -> Result<(), AllocError>
-    ensures { OnOk result (map warning_view warnings.new.items
-        ≡ map warning_view warnings.old.items
-        ++ missing nodes.now (place_view stage.entry)
-        (named_of link.entry.row.now.to feature.entry.now)) }
-{
-    let row = link.row;
-    let to = FeatureKey::named(HashedId::of(row.to.as_str()), feature);
-    push_missing(alloc, stage, to, nodes, warnings)
-}
-
-fn push_links<'g>(
-    alloc: Global,
-    links: &[LinkEnds<'g>],
-    nodes: &NodeTable<'g>,
-    warnings: &mut Vec<FeatureGraphWarning>,
-) -> Result<(), AllocError>
-    ensures { OnOk result (map warning_view warnings.new.items
-        ≡ map warning_view warnings.old.items
-        ++ flat_map (λ link. link_warnings nodes.now link.1) (map ends_view links.now)) }
-{
-    for link in links {
-        push_link(alloc, *link, nodes, warnings)?;
+        let row = link.row;
+        let to = FeatureKey::named(HashedId::of(row.to.as_str()), feature);
+        push_missing(alloc, stage, to, nodes, warnings)?;
     }
     Ok(())
 }
@@ -208,20 +169,7 @@ fn push_link<'g>(
         ≡ map warning_view warnings.old.items ++ link_warnings nodes.now link.entry.at.row.now) }
 {
     let row = link.at.row;
-    push_lines(alloc, link, &row.lines, nodes, warnings)
-}
-
-fn push_lines<'g>(
-    alloc: Global,
-    link: LinkEnds<'g>,
-    lines: &'g [LineRow],
-    nodes: &NodeTable<'g>,
-    warnings: &mut Vec<FeatureGraphWarning>,
-) -> Result<(), AllocError>
-    ensures { OnOk result (map warning_view warnings.new.items
-        ≡ map warning_view warnings.old.items
-        ++ flat_map (line_warnings nodes.now link.entry.at.row.now) lines.entry.now) }
-{
+    let lines: &[LineRow] = &row.lines;
     for line in lines {
         push_line(alloc, link, line, nodes, warnings)?;
     }
@@ -319,17 +267,6 @@ fn missing_feature(
     let stage = stage_of(alloc, stage)?;
     Ok(FeatureGraphWarning::MissingFeature {
         stage,
-        package_id,
-        feature_name,
-    })
-}
-
-fn self_loop(alloc: Global, id: &str, feature: &str) -> Result<FeatureGraphWarning, AllocError>
-    ensures { IfOk result (λ w. warning_view w ≡ SelfLoop id.now feature.now) }
-{
-    let package_id = id_of(alloc, id)?;
-    let feature_name = String::from_str(alloc, feature)?;
-    Ok(FeatureGraphWarning::SelfLoop {
         package_id,
         feature_name,
     })

@@ -92,7 +92,7 @@ impl<'g> DependencyReq<'g> {
     pub fn is_present(&self) -> bool
         ensures { result ≡ nat_lt 0 (length (requirement_lines self.now)) }
     {
-        has_line_of_kind(self.lines, self.kind)
+        self.lines.iter().any(|line| line.kind == self.kind)
     }
 
     /// Where the dependency is on.
@@ -163,12 +163,6 @@ impl<'g> DependencyReq<'g> {
             )),
         }
     }
-}
-
-fn has_line_of_kind(lines: &[LineRecord], kind: LineKind) -> bool
-    ensures { result ≡ list_any (is_kind kind) lines.now }
-{
-    lines.iter().any(|line| line.kind == kind)
 }
 
 // A feature's name as a line lists it: a status keeps this text, and not the caller's.

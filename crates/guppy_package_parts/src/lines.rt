@@ -144,17 +144,11 @@ fn first_named<'g>(
 {
     let mut left = places;
     while let Some((place, others)) = left.split_first() {
-        if let Some(line) = line_at(links, *place) {
+        let (link, line) = *place;
+        if let Some(line) = links.get(link).and_then(|link| link.lines.get(line)) {
             return Some((line, others));
         }
         left = others;
     }
     None
-}
-
-fn line_at<'g>(links: &'g [LinkRecord], place: (usize, usize)) -> Option<&'g LineRecord>
-    ensures { option_copied result ≡ line_at links.entry.now place }
-{
-    let link = links.get(place.0)?;
-    link.lines.get(place.1)
 }

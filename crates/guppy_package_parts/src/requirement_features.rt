@@ -2,7 +2,7 @@ ghost use Rattle.std.specs.Prelude.{◌≡◌, ◌∷◌, [], MatchOption, None,
 ghost use Rattle.list_facts.specs.Texts.{texts};
 ghost use Rattle.guppy_package_parts.specs.LineViews.{is_in_half, is_line_of};
 ghost use Rattle.guppy_package_parts.specs.Lines.{lines_of_kind};
-ghost use Rattle.guppy_package_parts.specs.Names.{each_once, features_of, is_above, listed, lower, lower_above, lowest_from};
+ghost use Rattle.guppy_package_parts.specs.Names.{each_once, features_of, is_above, listed, lower_above, lowest_from};
 ghost use Rattle.guppy_package_parts.specs.NameViews.{features_left, names_left};
 
 use crate::lines::{LineTest, Part};
@@ -150,28 +150,9 @@ fn lower_above<'g>(last: Option<&'g str>, least: Option<&'g str>, name: &'g str)
         ≡ lower_above (option_map (λ t. t.now) last.entry) (option_map (λ t. t.now) least.entry)
         name.entry.now }
 {
-    if is_above(last, name) {
-        lower(least, name)
-    } else {
-        least
-    }
-}
-
-fn is_above(last: Option<&str>, name: &str) -> bool
-    ensures { result ≡ is_above (option_map (λ t. t.now) last.entry) name.now }
-{
-    match last {
-        None => true,
-        Some(last) => last < name,
-    }
-}
-
-fn lower<'g>(least: Option<&'g str>, name: &'g str) -> Option<&'g str>
-    ensures { option_map (λ t. t.now) result
-        ≡ lower (option_map (λ t. t.now) least.entry) name.entry.now }
-{
-    match least {
-        Some(least) if !(name < least) => Some(least),
+    match (last, least) {
+        (Some(last), _) if !(last < name) => least,
+        (_, Some(least)) if !(name < least) => Some(least),
         _ => Some(name),
     }
 }

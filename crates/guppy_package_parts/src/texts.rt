@@ -1,6 +1,6 @@
 //! Texts looked for in lists of texts.
 
-ghost use Rattle.std.specs.Prelude.{◌≡◌, not, string_bytes};
+ghost use Rattle.std.specs.Prelude.{◌≡◌, not};
 ghost use Rattle.std.specs.List.{list_any};
 ghost use Rattle.std.specs.Str.{bytes_eq};
 ghost use Rattle.list_facts.specs.Texts.{texts};
@@ -9,23 +9,11 @@ ghost use Rattle.list_facts.specs.Texts.{texts};
 pub fn contains_text(names: &[String], text: &str) -> bool
     ensures { result ≡ list_any (bytes_eq text.now) (texts names.now) }
 {
-    is_one_of(text, names)
-}
-
-fn is_one_of(text: &str, names: &[String]) -> bool
-    ensures { result ≡ list_any (λ name. bytes_eq text.now (string_bytes name)) names.now }
-{
     names.iter().any(|name| name.as_str() == text)
 }
 
 pub(crate) fn contains_other_text(names: &[String], text: &str) -> bool
     ensures { result ≡ list_any (λ name. not (bytes_eq text.now name)) (texts names.now) }
-{
-    is_not_all_of(text, names)
-}
-
-fn is_not_all_of(text: &str, names: &[String]) -> bool
-    ensures { result ≡ list_any (λ name. not (bytes_eq text.now (string_bytes name))) names.now }
 {
     names.iter().any(|name| name.as_str() != text)
 }

@@ -1,6 +1,6 @@
 //! Keys that stand at an earlier place.
 
-ghost use Rattle.std.specs.Prelude.{◌≡◌, [], IfOk, map, string_bytes};
+ghost use Rattle.std.specs.Prelude.{◌≡◌, IfOk, map, string_bytes};
 ghost use Rattle.std.specs.Ordering.{eq_by_cmp};
 ghost use Rattle.std.specs.Str.{bytes_eq};
 ghost use Rattle.guppy_package_rules.specs.Places.{first_repeat};
@@ -19,19 +19,6 @@ pub fn first_repeat<K: Eq + Hash + Copy>(
     ensures { IfOk result (λ place. place ≡ first_repeat K.eq keys.now) }
 {
     let mut seen: IndexSet<K> = IndexSet::with_capacity(alloc, keys.len())?;
-    let place = first_seen(&mut seen, keys);
-    drop(seen);
-    place
-}
-
-/// The same, by a set for the keys of earlier places, which is empty yet.
-fn first_seen<K: Eq + Hash + Copy>(
-    seen: &mut IndexSet<K>,
-    keys: &[K],
-) -> Result<Option<usize>, AllocError>
-    requires { seen.old.keys ≡ [] }
-    ensures { IfOk result (λ place. place ≡ first_repeat K.eq keys.now) }
-{
     for (place, key) in keys.iter().enumerate() {
         if !seen.insert(*key)? {
             return Ok(Some(place));
@@ -67,16 +54,6 @@ pub fn first_repeated_text(alloc: Global, texts: &[&str]) -> Result<Option<usize
 pub fn is_distinct(alloc: Global, texts: &[String]) -> Result<bool, AllocError>
     ensures { IfOk result (λ answer. answer ≡ is_distinct (map string_bytes texts.now)) }
 {
-    let lent = lent_texts(alloc, texts)?;
+    let lent: Vec<&str> = texts.iter().map(|text| text.as_str()).collect(alloc)?;
     Ok(first_repeated_text(alloc, &lent)?.is_none())
-}
-
-fn lent_texts<'a>(alloc: Global, texts: &'a [String]) -> Result<Vec<&'a str>, AllocError>
-    ensures { IfOk result (λ v. map (λ t. t.now) v.items ≡ map string_bytes texts.entry.now) }
-{
-    let mut lent: Vec<&'a str> = Vec::new(alloc);
-    for text in texts {
-        lent.push(text.as_str())?;
-    }
-    Ok(lent)
 }

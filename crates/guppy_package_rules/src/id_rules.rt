@@ -25,11 +25,7 @@ pub(crate) fn first_repeated_id(
 fn package_ids<'a>(alloc: Global, packages: &'a [PackageRecord]) -> Result<Vec<&'a str>, AllocError>
     ensures { IfOk result (λ v. map (λ t. t.now) v.items ≡ map (λ p. p.id) packages.entry.now) }
 {
-    let mut ids: Vec<&'a str> = Vec::new(alloc);
-    for row in packages {
-        ids.push(row.id.as_str())?;
-    }
-    Ok(ids)
+    packages.iter().map(|row| row.id.as_str()).collect(alloc)
 }
 
 /// The ids of the packages as a set.

@@ -2,8 +2,8 @@
 
 ghost use Rattle.std.specs.Prelude.{◌≡◌, ◌==◌, ◌&&◌, IfOk, length, map, not, position};
 ghost use Rattle.guppy_package_rules.specs.Places.{first_repeat};
+ghost use Rattle.guppy_package_rules.specs.Found.{finds};
 ghost use Rattle.guppy_package_rules.specs.Rules.{is_package_id, link_key, same_key};
-ghost use Rattle.guppy_package_rules.specs.Found.{finds, lent_key};
 
 use crate::distinct::first_repeat;
 use crate::id_rules::package_id_set;
@@ -22,15 +22,9 @@ pub(crate) fn first_unknown_end(
         links.now) }
 {
     let ids = package_id_set(alloc, packages)?;
-    let place = first_end_outside(&ids, links);
+    let place = links.iter().position(|link| !has_known_ends(&ids, link));
     drop(ids);
     Ok(place)
-}
-
-fn first_end_outside(ids: &IndexSet<&str>, links: &[LinkRecord]) -> Option<usize>
-    ensures { result ≡ position (λ l. not (finds ids.now l.from && finds ids.now l.to)) links.now }
-{
-    links.iter().position(|link| !has_known_ends(ids, link))
 }
 
 fn has_known_ends(ids: &IndexSet<&str>, link: &LinkRecord) -> bool
@@ -46,21 +40,11 @@ pub(crate) fn first_repeated_link(
 ) -> Result<Option<usize>, AllocError>
     ensures { IfOk result (λ place. place ≡ first_repeat same_key (map link_key links.now)) }
 {
-    let keys = link_keys(alloc, links)?;
-    first_repeat(alloc, &keys)
-}
-
-fn link_keys<'a>(
-    alloc: Global,
-    links: &'a [LinkRecord],
-) -> Result<Vec<(&'a str, &'a str, &'a str)>, AllocError>
-    ensures { IfOk result (λ v. map lent_key v.items ≡ map link_key links.entry.now) }
-{
-    let mut keys: Vec<(&'a str, &'a str, &'a str)> = Vec::with_capacity(alloc, links.len())?;
+    let mut keys: Vec<(&str, &str, &str)> = Vec::with_capacity(alloc, links.len())?;
     for link in links {
         keys.push((link.from.as_str(), link.to.as_str(), link.name.as_str()))?;
     }
-    Ok(keys)
+    first_repeat(alloc, &keys)
 }
 
 /// The first link with no line.

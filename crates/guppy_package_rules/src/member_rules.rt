@@ -1,13 +1,13 @@
 //! The rules on members.
 
-ghost use Rattle.std.specs.Prelude.{◌≡◌, List, [], ◌∷◌, ◌++◌, IfOk, OnOk, map, not, position, string_bytes, unwrap_or};
+ghost use Rattle.std.specs.Prelude.{◌≡◌, List, [], ◌∷◌, ◌++◌, IfOk, OnOk, map, not, position};
 ghost use Rattle.std.specs.Ordering.{eq_by_cmp};
 ghost use Rattle.std.specs.Str.{bytes_eq};
 ghost use Rattle.workspace_record.specs.Records.{Package};
 ghost use Rattle.guppy_package_rules.specs.Paths.{path_cmp};
 ghost use Rattle.guppy_package_rules.specs.Places.{first_repeat};
 ghost use Rattle.guppy_package_rules.specs.Rules.{earlier, is_member_id, is_package_id, member_name};
-ghost use Rattle.guppy_package_rules.specs.Found.{HoldsNames, finds, text_at};
+ghost use Rattle.guppy_package_rules.specs.Found.{HoldsNames};
 
 use crate::distinct::{first_repeat_in_order, first_repeated_text};
 use crate::id_rules::package_id_set;
@@ -43,15 +43,9 @@ fn first_unknown_id(
         ≡ position (λ id. not (is_package_id packages.now id)) (map (λ t. t.now) ids.now)) }
 {
     let known = package_id_set(alloc, packages)?;
-    let place = first_outside(&known, ids);
+    let place = ids.iter().position(|id| !known.contains(*id));
     drop(known);
     Ok(place)
-}
-
-fn first_outside(known: &IndexSet<&str>, ids: &[&str]) -> Option<usize>
-    ensures { result ≡ position (λ id. not (finds known.now id.now)) ids.now }
-{
-    ids.iter().position(|id| !known.contains(*id))
 }
 
 fn earlier(a: Option<usize>, b: Option<usize>) -> Option<usize>
@@ -64,6 +58,7 @@ fn earlier(a: Option<usize>, b: Option<usize>) -> Option<usize>
     }
 }
 
+// The rule on members comes before, so each has a name: that of the first package with its id.
 /// The first member whose package has the name of an earlier one's.
 pub(crate) fn first_repeated_name(
     alloc: Global,
@@ -73,35 +68,13 @@ pub(crate) fn first_repeated_name(
     ensures { IfOk result (λ place. place
         ≡ first_repeat bytes_eq (map (member_name packages.now) members.now)) }
 {
-    let names = member_names(alloc, packages, members)?;
-    first_repeated_text(alloc, &names)
-}
-
-// The name of a member is that of the first package with its id. The rule on members comes before, so each has
-// one.
-fn member_names<'a>(
-    alloc: Global,
-    packages: &'a [PackageRecord],
-    members: &[MemberRecord],
-) -> Result<Vec<&'a str>, AllocError>
-    ensures { IfOk result (λ v. map (λ t. t.now) v.items
-        ≡ map (member_name packages.entry.now) members.now) }
-{
     let names_by_id = package_names(alloc, packages)?;
-    let mut names: Vec<&'a str> = Vec::new(alloc);
+    let mut names: Vec<&str> = Vec::new(alloc);
     for member in members {
-        names.push(name_of(&names_by_id, member))?;
+        let name = names_by_id.get(member.package.as_str()).copied();
+        names.push(name.unwrap_or(""))?;
     }
-    Ok(names)
-}
-
-fn name_of<'a>(names_by_id: &BTreeMap<&'a str, &'a str>, member: &MemberRecord) -> &'a str
-    ensures { result.now ≡ unwrap_or (text_at names_by_id.now member.now.package_id) [] }
-{
-    match names_by_id.get(member.package.as_str()) {
-        Some(name) => *name,
-        None => "",
-    }
+    first_repeated_text(alloc, &names)
 }
 
 /// The names of the packages by their ids: of several with one id that of the first.
@@ -139,24 +112,13 @@ pub(crate) fn first_repeated_path(
     ensures { IfOk result (λ place. place
         ≡ first_repeat (eq_by_cmp path_cmp) (map (λ m. m.path) members.now)) }
 {
-    let paths = member_paths(alloc, members)?;
-    first_repeat_in_order(alloc, &paths)
-}
-
-fn member_paths<'a>(
-    alloc: Global,
-    members: &'a [MemberRecord],
-) -> Result<Vec<PathText<'a>>, AllocError>
-    ensures { IfOk result (λ v. map (λ p. p.text.now) v.items
-        ≡ map (λ m. m.path) members.entry.now) }
-{
-    let mut paths: Vec<PathText<'a>> = Vec::new(alloc);
+    let mut paths = Vec::new(alloc);
     for member in members {
         paths.push(PathText {
             text: member.path.as_str(),
         })?;
     }
-    Ok(paths)
+    first_repeat_in_order(alloc, &paths)
 }
 
 /// The first default member that is no member.
@@ -169,15 +131,10 @@ pub(crate) fn first_unknown_default(
 {
     let ids = workspace.member_ids(alloc)?;
     let members = text_set(alloc, &ids)?;
-    let place = first_default_outside(&members, &workspace.default_members);
+    let place = workspace
+        .default_members
+        .iter()
+        .position(|id| !members.contains(id.as_str()));
     drop(members);
     Ok(place)
-}
-
-fn first_default_outside(members: &IndexSet<&str>, defaults: &[String]) -> Option<usize>
-    ensures { result ≡ position (λ id. not (finds members.now (string_bytes id))) defaults.now }
-{
-    defaults
-        .iter()
-        .position(|id| !members.contains(id.as_str()))
 }

@@ -26,19 +26,11 @@ pub(crate) fn first_repeated_target(
 fn has_distinct_targets(alloc: Global, row: &PackageRecord) -> Result<bool, AllocError>
     ensures { IfOk result (λ answer. answer ≡ has_distinct_targets row.now) }
 {
-    let keys = target_keys(alloc, &row.targets)?;
-    is_distinct(alloc, &keys)
-}
-
-fn target_keys(alloc: Global, targets: &[TargetRecord]) -> Result<Vec<String>, AllocError>
-    ensures { IfOk result (λ v. map string_bytes v.items
-        ≡ map (λ t. target_key t.kind t.name) targets.now) }
-{
     let mut keys = Vec::new(alloc);
-    for target in targets {
+    for target in &row.targets {
         keys.push(target_key(alloc, target.kind, target.name.as_str())?)?;
     }
-    Ok(keys)
+    is_distinct(alloc, &keys)
 }
 
 // A library and a procedural macro share a key, build scripts have one; others are told apart by kind and name.

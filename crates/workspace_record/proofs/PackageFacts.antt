@@ -1,5 +1,5 @@
 -- Packages by their ids, of each id the first.
-use Rattle.std.proofs.Common.{◌≡◌, Bool, true, false, cond, not, ◌||◌, List, [], ◌∷◌, ◌++◌, filter, append-nil, map, Bor, Option, Some, None, is_some, refl, sym, ◌∙◌, ap, subst, find, true≢false}
+use Rattle.std.proofs.Common.{◌≡◌, Bool, true, false, cond, not, ◌||◌, List, [], ◌∷◌, ◌++◌, filter, append-nil, Bor, Option, Some, None, is_some, refl, sym, ◌∙◌, ap, subst, find, true≢false}
 use Rattle.std.proofs.lemmas.Bool.{false≢true}
 use Rattle.std.proofs.lemmas.List.{map-append}
 use Rattle.std.proofs.lemmas.List.Elements.{filter-append}

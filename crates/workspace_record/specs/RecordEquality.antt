@@ -31,18 +31,6 @@ pub targets_decide : DecidesEquality target_eq
 targets_decide =
     decide_by _ (λ p. record { kind = p.0; name = p.1.0; required_features = p.1.1.0; tested = p.1.1.1.0; info = p.1.1.1.1 }) (λ t. refl) (pairs_decide target_kinds_decide (pairs_decide texts_decide (pairs_decide (lists_decide texts_decide) (pairs_decide booleans_Decides target_details_decide))))
 
--- where the package comes from and goes to
-abbrev pub same_origin : PackageDetails → PackageDetails → Bool
-same_origin = on (λ p. (p.source, (p.path, (p.manifest_path, (p.edition, (p.rust_version, p.publish)))))) (pair_eq (option_eq text_eq) (pair_eq (option_eq text_eq) (pair_eq text_eq (pair_eq text_eq (pair_eq (option_eq text_eq) (option_eq (pointwise text_eq)))))))
-
--- what its manifest tells of it
-abbrev pub same_description : PackageDetails → PackageDetails → Bool
-same_description = on (λ p. (p.authors, (p.description, (p.license, (p.license_file, (p.categories, p.keywords)))))) (pair_eq (pointwise text_eq) (pair_eq (option_eq text_eq) (pair_eq (option_eq text_eq) (pair_eq (option_eq text_eq) (pair_eq (pointwise text_eq) (pointwise text_eq))))))
-
--- where to read on, and the rest
-abbrev pub same_addresses : PackageDetails → PackageDetails → Bool
-same_addresses = on (λ p. (p.readme, (p.repository, (p.homepage, (p.documentation, (p.links, (p.default_run, p.metadata))))))) (pair_eq (option_eq text_eq) (pair_eq (option_eq text_eq) (pair_eq (option_eq text_eq) (pair_eq (option_eq text_eq) (pair_eq (option_eq text_eq) (pair_eq (option_eq text_eq) (option_eq text_eq)))))))
-
 abbrev pub package_details_eq : PackageDetails → PackageDetails → Bool
 package_details_eq =
     on (λ p. ((p.source, (p.path, (p.manifest_path, (p.edition, (p.rust_version, p.publish))))), ((p.authors, (p.description, (p.license, (p.license_file, (p.categories, p.keywords))))), (p.readme, (p.repository, (p.homepage, (p.documentation, (p.links, (p.default_run, p.metadata))))))))) (pair_eq (pair_eq (option_eq text_eq) (pair_eq (option_eq text_eq) (pair_eq text_eq (pair_eq text_eq (pair_eq (option_eq text_eq) (option_eq (pointwise text_eq))))))) (pair_eq (pair_eq (pointwise text_eq) (pair_eq (option_eq text_eq) (pair_eq (option_eq text_eq) (pair_eq (option_eq text_eq) (pair_eq (pointwise text_eq) (pointwise text_eq)))))) (pair_eq (option_eq text_eq) (pair_eq (option_eq text_eq) (pair_eq (option_eq text_eq) (pair_eq (option_eq text_eq) (pair_eq (option_eq text_eq) (pair_eq (option_eq text_eq) (option_eq text_eq)))))))))

@@ -3,6 +3,7 @@ ghost use Rattle.workspace_record.specs.Tables.{answer, SameTable};
 
 use crate::feature::Feature;
 use crate::kinds::Standard;
+use crate::texts::copy_each;
 use indexmap::IndexMap;
 use std::alloc::{AllocError, Global};
 use std::marker::Model;
@@ -49,19 +50,9 @@ impl FeatureChoice {
         ensures { IfOk result (λ c. c ≡ self.now) }
     {
         let standard = self.standard;
-        let extras = copy_features(alloc, &self.extras)?;
+        let extras = copy_each(alloc, &self.extras, |feature| feature.copy(alloc))?;
         Ok(FeatureChoice { standard, extras })
     }
-}
-
-fn copy_features(alloc: Global, features: &[Feature]) -> Result<Vec<Feature>, AllocError>
-    ensures { IfOk result (λ v. v.items ≡ features.now) }
-{
-    let mut copies = Vec::with_capacity(alloc, features.len())?;
-    for feature in features {
-        copies.push(feature.copy(alloc)?)?;
-    }
-    Ok(copies)
 }
 
 // Answers are compared as `IndexMap` does, without regard to their order; a copy keeps the order too.

@@ -1,7 +1,7 @@
 //! What the entries of a feature's list say.
 
 ghost use Rattle.std.specs.Prelude.{◌≡◌};
-ghost use Rattle.workspace_record.specs.Entries.{entry_value, slash_entry};
+ghost use Rattle.workspace_record.specs.Entries.{entry_value};
 ghost use Rattle.workspace_record.specs.EntryView.{entry_view};
 
 /// What an entry of a feature's list says.
@@ -25,17 +25,11 @@ pub fn entry_of(text: &str) -> Entry<'_>
     match text.strip_prefix("dep:") {
         Some(name) => Entry::Dependency(name),
         None => match text.split_once('/') {
-            Some((name, feature)) => slash_entry_of(name, feature),
+            Some((name, feature)) => match name.strip_suffix("?") {
+                Some(name) => Entry::Weak(name, feature),
+                None => Entry::Strong(name, feature),
+            },
             None => Entry::OwnFeature(text),
         },
-    }
-}
-
-fn slash_entry_of<'a>(name: &'a str, feature: &'a str) -> Entry<'a>
-    ensures { entry_view result ≡ slash_entry name.entry.now feature.entry.now }
-{
-    match name.strip_suffix("?") {
-        Some(name) => Entry::Weak(name, feature),
-        None => Entry::Strong(name, feature),
     }
 }

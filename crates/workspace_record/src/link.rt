@@ -1,7 +1,7 @@
 ghost use Rattle.std.specs.Prelude.{◌≡◌, [], IfOk};
 
 use crate::kinds::LineKind;
-use crate::texts::{copy_text, same_text, same_texts};
+use crate::texts::{copy_each, copy_text, same_text, same_texts};
 use list_facts::copy_texts;
 use std::alloc::{AllocError, Global};
 use std::marker::Model;
@@ -72,16 +72,6 @@ impl LineRecord {
     }
 }
 
-fn copy_lines(alloc: Global, lines: &[LineRecord]) -> Result<Vec<LineRecord>, AllocError>
-    ensures { IfOk result (λ v. v.items ≡ lines.now) }
-{
-    let mut copies = Vec::with_capacity(alloc, lines.len())?;
-    for line in lines {
-        copies.push(line.copy(alloc)?)?;
-    }
-    Ok(copies)
-}
-
 /// A dependency of one package on another, under the name that the first gives it, with its lines.
 /// `from` and `to` are package ids.
 #[derive(Debug, Drop)]
@@ -144,7 +134,7 @@ impl LinkRecord {
     pub fn copy(&self, alloc: Global) -> Result<LinkRecord, AllocError>
         ensures { IfOk result (λ l. l ≡ self.now) }
     {
-        let lines = copy_lines(alloc, &self.lines)?;
+        let lines = copy_each(alloc, &self.lines, |line| line.copy(alloc))?;
         let mut link = self.copy_without_lines(alloc)?;
         link.lines = lines;
         Ok(link)
@@ -170,9 +160,5 @@ impl LinkRecord {
 pub fn copy_links(alloc: Global, links: &[LinkRecord]) -> Result<Vec<LinkRecord>, AllocError>
     ensures { IfOk result (λ v. v.items ≡ links.now) }
 {
-    let mut copies = Vec::with_capacity(alloc, links.len())?;
-    for link in links {
-        copies.push(link.copy(alloc)?)?;
-    }
-    Ok(copies)
+    copy_each(alloc, links, |link| link.copy(alloc))
 }

@@ -1,9 +1,8 @@
 ghost use Rattle.std.specs.Prelude.{◌≡◌, IfOk, OnOk};
 ghost use Rattle.workspace_record.specs.Records.{no_details};
-ghost use Rattle.workspace_record.specs.RecordEquality.{same_origin, same_description, same_addresses};
 
-use crate::target::{TargetRecord, copy_targets};
-use crate::texts::{copy_text_list, replace_text, same_text, same_text_list, same_texts};
+use crate::target::TargetRecord;
+use crate::texts::{copy_each, copy_text, same_text, same_texts};
 use list_facts::copy_texts;
 use std::alloc::{AllocError, Global};
 use std::marker::Model;
@@ -54,19 +53,6 @@ impl FeatureRecord {
         let enables = copy_texts(alloc, &self.enables)?;
         Ok(FeatureRecord { name, enables })
     }
-}
-
-fn copy_features(
-    alloc: Global,
-    features: &[FeatureRecord],
-) -> Result<Vec<FeatureRecord>, AllocError>
-    ensures { IfOk result (λ v. v.items ≡ features.now) }
-{
-    let mut copies = Vec::with_capacity(alloc, features.len())?;
-    for feature in features {
-        copies.push(feature.copy(alloc)?)?;
-    }
-    Ok(copies)
 }
 
 /// A package's remaining metadata, as `cargo metadata` gives it. A text that a manifest leaves out
@@ -124,40 +110,6 @@ impl Model for PackageInfo {
     } };
 }
 
-fn has_same_origin(a: &PackageInfo, b: &PackageInfo) -> bool
-    ensures { result ≡ same_origin a.now b.now }
-{
-    same_text(&a.source, &b.source)
-        && same_text(&a.path, &b.path)
-        && a.manifest_path == b.manifest_path
-        && a.edition == b.edition
-        && same_text(&a.rust_version, &b.rust_version)
-        && same_text_list(&a.publish, &b.publish)
-}
-
-fn has_same_description(a: &PackageInfo, b: &PackageInfo) -> bool
-    ensures { result ≡ same_description a.now b.now }
-{
-    same_texts(&a.authors, &b.authors)
-        && same_text(&a.description, &b.description)
-        && same_text(&a.license, &b.license)
-        && same_text(&a.license_file, &b.license_file)
-        && same_texts(&a.categories, &b.categories)
-        && same_texts(&a.keywords, &b.keywords)
-}
-
-fn has_same_addresses(a: &PackageInfo, b: &PackageInfo) -> bool
-    ensures { result ≡ same_addresses a.now b.now }
-{
-    same_text(&a.readme, &b.readme)
-        && same_text(&a.repository, &b.repository)
-        && same_text(&a.homepage, &b.homepage)
-        && same_text(&a.documentation, &b.documentation)
-        && same_text(&a.links, &b.links)
-        && same_text(&a.default_run, &b.default_run)
-        && same_text(&a.metadata, &b.metadata)
-}
-
 impl PartialEq for PackageInfo {
     ghost use Rattle.workspace_record.specs.RecordEquality.{package_details_eq, package_details_decide};
     ghost use Rattle.workspace_record.specs.Equality.{equivalence};
@@ -168,9 +120,29 @@ impl PartialEq for PackageInfo {
     ghost laws = { partial_equiv_from_equiv (equivalence package_details_decide) };
 
     fn eq(&self, other: &PackageInfo) -> bool {
-        has_same_origin(self, other)
-            && has_same_description(self, other)
-            && has_same_addresses(self, other)
+        same_text(&self.source, &other.source)
+            && same_text(&self.path, &other.path)
+            && self.manifest_path == other.manifest_path
+            && self.edition == other.edition
+            && same_text(&self.rust_version, &other.rust_version)
+            && match (&self.publish, &other.publish) {
+                (None, None) => true,
+                (Some(a), Some(b)) => same_texts(a, b),
+                _ => false,
+            }
+            && same_texts(&self.authors, &other.authors)
+            && same_text(&self.description, &other.description)
+            && same_text(&self.license, &other.license)
+            && same_text(&self.license_file, &other.license_file)
+            && same_texts(&self.categories, &other.categories)
+            && same_texts(&self.keywords, &other.keywords)
+            && same_text(&self.readme, &other.readme)
+            && same_text(&self.repository, &other.repository)
+            && same_text(&self.homepage, &other.homepage)
+            && same_text(&self.documentation, &other.documentation)
+            && same_text(&self.links, &other.links)
+            && same_text(&self.default_run, &other.default_run)
+            && same_text(&self.metadata, &other.metadata)
     }
 }
 
@@ -223,71 +195,28 @@ impl PackageInfo {
 fn copy_info(alloc: Global, from: &PackageInfo, to: &mut PackageInfo) -> Result<(), AllocError>
     ensures { OnOk result (to.new ≡ from.now) }
 {
-    copy_origin(alloc, from, to)?;
-    copy_description(alloc, from, to)?;
-    copy_addresses(alloc, from, to)
-}
-
-fn copy_origin(alloc: Global, from: &PackageInfo, to: &mut PackageInfo) -> Result<(), AllocError>
-    ensures { OnOk result (to.new ≡ record to.old {
-      source = from.now.source;
-      path = from.now.path;
-      manifest_path = from.now.manifest_path;
-      edition = from.now.edition;
-      rust_version = from.now.rust_version;
-      publish = from.now.publish;
-    }) }
-{
-    replace_text(alloc, &from.source, &mut to.source)?;
-    replace_text(alloc, &from.path, &mut to.path)?;
+    to.source = copy_text(alloc, &from.source)?;
+    to.path = copy_text(alloc, &from.path)?;
     to.manifest_path = String::from_str(alloc, from.manifest_path.as_str())?;
     to.edition = String::from_str(alloc, from.edition.as_str())?;
-    replace_text(alloc, &from.rust_version, &mut to.rust_version)?;
-    to.publish = copy_text_list(alloc, &from.publish)?;
-    Ok(())
-}
-
-fn copy_description(
-    alloc: Global,
-    from: &PackageInfo,
-    to: &mut PackageInfo,
-) -> Result<(), AllocError>
-    ensures { OnOk result (to.new ≡ record to.old {
-      authors = from.now.authors;
-      description = from.now.description;
-      license = from.now.license;
-      license_file = from.now.license_file;
-      categories = from.now.categories;
-      keywords = from.now.keywords;
-    }) }
-{
     to.authors = copy_texts(alloc, &from.authors)?;
-    replace_text(alloc, &from.description, &mut to.description)?;
-    replace_text(alloc, &from.license, &mut to.license)?;
-    replace_text(alloc, &from.license_file, &mut to.license_file)?;
+    to.description = copy_text(alloc, &from.description)?;
+    to.license = copy_text(alloc, &from.license)?;
+    to.license_file = copy_text(alloc, &from.license_file)?;
     to.categories = copy_texts(alloc, &from.categories)?;
     to.keywords = copy_texts(alloc, &from.keywords)?;
-    Ok(())
-}
-
-fn copy_addresses(alloc: Global, from: &PackageInfo, to: &mut PackageInfo) -> Result<(), AllocError>
-    ensures { OnOk result (to.new ≡ record to.old {
-      readme = from.now.readme;
-      repository = from.now.repository;
-      homepage = from.now.homepage;
-      documentation = from.now.documentation;
-      links = from.now.links;
-      default_run = from.now.default_run;
-      metadata = from.now.metadata;
-    }) }
-{
-    replace_text(alloc, &from.readme, &mut to.readme)?;
-    replace_text(alloc, &from.repository, &mut to.repository)?;
-    replace_text(alloc, &from.homepage, &mut to.homepage)?;
-    replace_text(alloc, &from.documentation, &mut to.documentation)?;
-    replace_text(alloc, &from.links, &mut to.links)?;
-    replace_text(alloc, &from.default_run, &mut to.default_run)?;
-    replace_text(alloc, &from.metadata, &mut to.metadata)?;
+    to.readme = copy_text(alloc, &from.readme)?;
+    to.repository = copy_text(alloc, &from.repository)?;
+    to.homepage = copy_text(alloc, &from.homepage)?;
+    to.documentation = copy_text(alloc, &from.documentation)?;
+    to.links = copy_text(alloc, &from.links)?;
+    to.publish = match &from.publish {
+        None => None,
+        Some(texts) => Some(copy_texts(alloc, texts)?),
+    };
+    to.default_run = copy_text(alloc, &from.default_run)?;
+    to.rust_version = copy_text(alloc, &from.rust_version)?;
+    to.metadata = copy_text(alloc, &from.metadata)?;
     Ok(())
 }
 
@@ -357,9 +286,9 @@ impl PackageRecord {
             id: String::from_str(alloc, self.id.as_str())?,
             name: String::from_str(alloc, self.name.as_str())?,
             version: String::from_str(alloc, self.version.as_str())?,
-            features: copy_features(alloc, &self.features)?,
+            features: copy_each(alloc, &self.features, |feature| feature.copy(alloc))?,
             optional: copy_texts(alloc, &self.optional)?,
-            targets: copy_targets(alloc, &self.targets)?,
+            targets: copy_each(alloc, &self.targets, |target| target.copy(alloc))?,
             info: self.info.copy(alloc)?,
         })
     }
@@ -372,9 +301,5 @@ pub fn copy_packages(
 ) -> Result<Vec<PackageRecord>, AllocError>
     ensures { IfOk result (λ v. v.items ≡ packages.now) }
 {
-    let mut copies = Vec::with_capacity(alloc, packages.len())?;
-    for row in packages {
-        copies.push(row.copy(alloc)?)?;
-    }
-    Ok(copies)
+    copy_each(alloc, packages, |row| row.copy(alloc))
 }

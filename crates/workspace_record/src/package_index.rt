@@ -4,7 +4,7 @@ ghost use Rattle.std.specs.Prelude.{◌≡◌, IfOk};
 ghost use Rattle.workspace_record.specs.Packages.{has_feature, has_optional};
 
 use crate::package::PackageRecord;
-use crate::text_sets::{feature_names, text_set};
+use crate::text_sets::text_set;
 use indexmap::IndexSet;
 use std::alloc::{AllocError, Global};
 use std::marker::Model;
@@ -44,8 +44,8 @@ impl<'a> PackageIndex<'a> {
     pub(crate) fn of(alloc: Global, row: &'a PackageRecord) -> Result<PackageIndex<'a>, AllocError>
         ensures { IfOk result (λ p. p ≡ row.entry.now) }
     {
-        let features = feature_names(alloc, &row.features)?;
-        match text_set(alloc, &row.optional) {
+        let features = text_set(alloc, &row.features, |feature| feature.name.as_str())?;
+        match text_set(alloc, &row.optional, |name| name.as_str()) {
             Ok(optional) => Ok(PackageIndex {
                 row,
                 features,

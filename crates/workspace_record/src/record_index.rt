@@ -8,7 +8,7 @@ ghost use Rattle.workspace_record.specs.LinkNames.{link_view, links_named};
 use crate::link_names::{LentLink, LinkName, LinkNames, link_names};
 use crate::package_index::PackageIndex;
 use crate::packages_by_id::packages_by_id;
-use crate::text_sets::member_ids;
+use crate::text_sets::text_set;
 use crate::workspace::WorkspaceRecord;
 use indexmap::{IndexMap, IndexSet};
 use std::alloc::{AllocError, Global};
@@ -55,7 +55,10 @@ impl<'a> RecordIndex<'a> {
     {
         let links = link_names(alloc, &record.links)?;
         let packages = packages_by_id(alloc, &record.packages)?;
-        match member_ids(alloc, &record.workspace.members) {
+        let members = text_set(alloc, &record.workspace.members, |member| {
+            member.package.as_str()
+        });
+        match members {
             Ok(members) => Ok(RecordIndex {
                 record,
                 packages,

@@ -143,16 +143,3 @@ impl TargetRecord {
         })
     }
 }
-
-pub(crate) fn copy_targets(
-    alloc: Global,
-    targets: &[TargetRecord],
-) -> Result<Vec<TargetRecord>, AllocError>
-    ensures { IfOk result (λ v. v.items ≡ targets.now) }
-{
-    let mut copies = Vec::with_capacity(alloc, targets.len())?;
-    for target in targets {
-        copies.push(target.copy(alloc)?)?;
-    }
-    Ok(copies)
-}

@@ -1,12 +1,30 @@
 //! Copies and comparisons of the texts that records hold.
 
-ghost use Rattle.std.specs.Prelude.{◌≡◌, IfOk, OnOk, map, option_map, string_bytes};
+ghost use Rattle.std.specs.Prelude.{◌≡◌, IfOk, Ok, OnOk, map, option_map, string_bytes};
+ghost use Rattle.std.specs.Fn.{FnReturnsAt};
 ghost use Rattle.std.specs.Option.{option_eq};
 ghost use Rattle.std.specs.Cmp.Lexicographic.{pointwise};
 ghost use Rattle.workspace_record.specs.Equality.{text_eq};
 
 use list_facts::copy_texts;
 use std::alloc::{AllocError, Global};
+
+/// Copies each item, in order.
+pub(crate) fn copy_each<T: Drop, F: Fn(&T) -> Result<T, AllocError>>(
+    alloc: Global,
+    items: &[T],
+    copy: F,
+) -> Result<Vec<T>, AllocError>
+    requires callable { F.IsAlwaysCallable copy }
+    requires copies { (x y : T) → FnReturnsAt F.Fn copy x (Ok y) → y ≡ x }
+    ensures { IfOk result (λ v. v.items ≡ items.now) }
+{
+    let mut copies = Vec::with_capacity(alloc, items.len())?;
+    for item in items {
+        copies.push(copy(item)?)?;
+    }
+    Ok(copies)
+}
 
 pub(crate) fn copy_text(alloc: Global, text: &Option<String>) -> Result<Option<String>, AllocError>
     ensures { IfOk result (λ t. option_map string_bytes t ≡ option_map string_bytes text.now) }
@@ -15,18 +33,6 @@ pub(crate) fn copy_text(alloc: Global, text: &Option<String>) -> Result<Option<S
         None => Ok(None),
         Some(text) => Ok(Some(String::from_str(alloc, text.as_str())?)),
     }
-}
-
-/// Puts a copy of a text in place of another.
-pub(crate) fn replace_text(
-    alloc: Global,
-    from: &Option<String>,
-    to: &mut Option<String>,
-) -> Result<(), AllocError>
-    ensures { OnOk result (option_map string_bytes to.new ≡ option_map string_bytes from.now) }
-{
-    *to = copy_text(alloc, from)?;
-    Ok(())
 }
 
 pub(crate) fn same_texts(a: &[String], b: &[String]) -> bool
@@ -42,31 +48,6 @@ pub(crate) fn same_text(a: &Option<String>, b: &Option<String>) -> bool
     match (a, b) {
         (None, None) => true,
         (Some(a), Some(b)) => a == b,
-        _ => false,
-    }
-}
-
-pub(crate) fn copy_text_list(
-    alloc: Global,
-    texts: &Option<Vec<String>>,
-) -> Result<Option<Vec<String>>, AllocError>
-    ensures { IfOk result (λ t. option_map (λ v. map string_bytes v.items) t
-        ≡ option_map (λ v. map string_bytes v.items) texts.now) }
-{
-    match texts {
-        None => Ok(None),
-        Some(texts) => Ok(Some(copy_texts(alloc, texts)?)),
-    }
-}
-
-pub(crate) fn same_text_list(a: &Option<Vec<String>>, b: &Option<Vec<String>>) -> bool
-    ensures { result ≡ option_eq (pointwise text_eq)
-        (option_map (λ v. map string_bytes v.items) a.now)
-        (option_map (λ v. map string_bytes v.items) b.now) }
-{
-    match (a, b) {
-        (None, None) => true,
-        (Some(a), Some(b)) => same_texts(a, b),
         _ => false,
     }
 }

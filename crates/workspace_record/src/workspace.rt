@@ -2,7 +2,7 @@ ghost use Rattle.std.specs.Prelude.{◌≡◌, IfOk, map};
 
 use crate::link::{LinkRecord, copy_links};
 use crate::package::{PackageRecord, copy_packages};
-use crate::texts::{copy_text, same_text, same_texts};
+use crate::texts::{copy_each, copy_text, same_text, same_texts};
 use list_facts::copy_texts;
 use std::alloc::{AllocError, Global};
 use std::marker::Model;
@@ -53,16 +53,6 @@ impl MemberRecord {
         let path = String::from_str(alloc, self.path.as_str())?;
         Ok(MemberRecord { package, path })
     }
-}
-
-fn copy_members(alloc: Global, members: &[MemberRecord]) -> Result<Vec<MemberRecord>, AllocError>
-    ensures { IfOk result (λ v. v.items ≡ members.now) }
-{
-    let mut copies = Vec::with_capacity(alloc, members.len())?;
-    for member in members {
-        copies.push(member.copy(alloc)?)?;
-    }
-    Ok(copies)
 }
 
 /// The workspace: its folders, its members, the members that commands work on by default, and its
@@ -127,7 +117,7 @@ impl WorkspaceInfo {
         Ok(WorkspaceInfo {
             root: String::from_str(alloc, self.root.as_str())?,
             target_directory: String::from_str(alloc, self.target_directory.as_str())?,
-            members: copy_members(alloc, &self.members)?,
+            members: copy_each(alloc, &self.members, |member| member.copy(alloc))?,
             default_members: copy_texts(alloc, &self.default_members)?,
             build_directory: copy_text(alloc, &self.build_directory)?,
             metadata: copy_text(alloc, &self.metadata)?,
@@ -139,19 +129,11 @@ impl WorkspaceInfo {
         ensures { IfOk result (λ v. map (λ t. t.now) v.items
             ≡ map (λ m. m.package_id) self.entry.now.members) }
     {
-        package_ids(alloc, &self.members)
+        self.members
+            .iter()
+            .map(|member| member.package.as_str())
+            .collect(alloc)
     }
-}
-
-fn package_ids<'a>(alloc: Global, members: &'a [MemberRecord]) -> Result<Vec<&'a str>, AllocError>
-    ensures { IfOk result (λ v. map (λ t. t.now) v.items
-        ≡ map (λ m. m.package_id) members.entry.now) }
-{
-    let mut ids: Vec<&'a str> = Vec::with_capacity(alloc, members.len())?;
-    for member in members {
-        ids.push(member.package.as_str())?;
-    }
-    Ok(ids)
 }
 
 /// A test group: its name, and the filter of the tests that may stand in it.
@@ -200,16 +182,6 @@ impl GroupRecord {
         let filter = String::from_str(alloc, self.filter.as_str())?;
         Ok(GroupRecord { name, filter })
     }
-}
-
-fn copy_groups(alloc: Global, groups: &[GroupRecord]) -> Result<Vec<GroupRecord>, AllocError>
-    ensures { IfOk result (λ v. v.items ≡ groups.now) }
-{
-    let mut copies = Vec::with_capacity(alloc, groups.len())?;
-    for group in groups {
-        copies.push(group.copy(alloc)?)?;
-    }
-    Ok(copies)
 }
 
 /// The packages of a workspace and those that it depends on, with the links among them, and the
@@ -269,7 +241,7 @@ impl WorkspaceRecord {
         ensures { IfOk result (λ w. w ≡ self.now) }
     {
         Ok(WorkspaceRecord {
-            groups: copy_groups(alloc, &self.groups)?,
+            groups: copy_each(alloc, &self.groups, |group| group.copy(alloc))?,
             links: copy_links(alloc, &self.links)?,
             packages: copy_packages(alloc, &self.packages)?,
             default_filter: copy_text(alloc, &self.default_filter)?,

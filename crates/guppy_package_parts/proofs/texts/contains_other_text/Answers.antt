@@ -1,8 +1,10 @@
-use Rattle.std.proofs.Common.{◌∙◌, not, sym, string_bytes}
+use Rattle.std.proofs.Common.{◌∙◌, not, rules, sym, string_bytes, String, Global, tests}
+use Rattle.std.proofs.lemmas.Iterator.{YieldsList-from_slice}
+use Rattle.std.proofs.lemmas.Iterator.Search.{any_from_yields_List}
 use Rattle.std.specs.Str.{bytes_eq}
 use Rattle.list_facts.proofs.Quantifiers.{list_any-map}
 use Rattle.guppy_package_parts.proofs.texts.contains_other_text.Goals as goal
 
 pub returns : goal.returns
 returns c =
-    c.is_not_all_of.ensures ∙ sym (list_any-map (λ name. not (bytes_eq c.args.text.now name)) string_bytes c.args.names.now)
+    any_from_yields_List (λ (name : String Global). not (bytes_eq c.args.text.now (string_bytes name))) _ _ _ c.any.ensures.ran (YieldsList-from_slice c.args.names.now c.iter.ensures.rest) (λ x b q k. search (rules, tests)) ∙ sym (list_any-map (λ name. not (bytes_eq c.args.text.now name)) string_bytes c.args.names.now)

@@ -1,17 +1,16 @@
-use Rattle.std.proofs.Common.{◌<◌, ◌≤◌, ◌∙◌, length, sym, string_bytes, arith}
-use Rattle.std.specs.Str.{bytes_eq}
-use Rattle.list_facts.proofs.Quantifiers.{list_any-map}
-use Rattle.workspace_record.proofs.TextFacts.{names_more, names_all}
+use Rattle.std.proofs.Common.{◌<◌, ◌≤◌, length, refl, arith}
+use Rattle.workspace_record.proofs.TextFacts.{names_more, names_all, text_inserted}
 use Rattle.workspace_record.proofs.text_sets.text_set.Goals as goal
 
-pub loop-text-preserved : goal.loop-text-preserved
-loop-text-preserved c =
-    let i = c.loop-text.text-index in
-    let within : i < length c.args.texts.now = omega arith in
-    names_more string_bytes c.args.texts.now i c.text-item.result c.as_str.result.now c.loop-text.set c.insert_text.new.texts within c.text-item.is c.as_str.ensures.value c.in_ok-insert_text.ensures c.loop-text.invariant
+pub loop-item-preserved : goal.loop-item-preserved
+loop-item-preserved g c name named =
+    let i = c.loop-item.item-index in
+    let within : i < length c.args.items.now = omega arith in
+    let is = named c.item-item.result c.text.result (record { shown = _; shows = refl; says = record { met = c.text.ensures } }) in
+    names_more name c.args.items.now i c.item-item.result c.text.result.now c.loop-item.set c.insert.new.self within c.item-item.is is (text_inserted c.loop-item.set c.insert.new.self c.text.result c.in_ok-insert.ensures.updates) (c.loop-item.invariant name named)
 
 pub returns : goal.returns
-returns c = λ x.
-    let i = c.loop-text.text-index in
-    let past : length c.args.texts.now ≤ i = omega arith in
-    names_all string_bytes c.args.texts.now i c.loop-text.set past c.loop-text.invariant x ∙ sym (list_any-map (bytes_eq x) string_bytes c.args.texts.now)
+returns g c name named =
+    let i = c.loop-item.item-index in
+    let past : length c.args.items.now ≤ i = omega arith in
+    names_all name c.args.items.now i c.loop-item.set past (c.loop-item.invariant name named)

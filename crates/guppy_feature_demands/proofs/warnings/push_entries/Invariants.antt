@@ -1,9 +1,0 @@
-use Rattle.std.proofs.Common.{◌≡◌, ◌++◌, map, take}
-use Rattle.std.specs.List.{flat_map}
-use Rattle.guppy_package_parts.specs.WarningViews.{warning_view}
-use Rattle.guppy_feature_demands.specs.EntriesAt.{at_warnings}
-use Rattle.guppy_feature_demands.specs.EntryAtView.{entry_at_view}
-use Rattle.guppy_feature_demands.proofs.warnings.push_entries.Given as goal
-
-abbrev pub invariant-loop-at : goal.invariant-loop-at
-invariant-loop-at l = map warning_view l.warnings.items ≡ map warning_view l.fn.warnings.items ++ flat_map (at_warnings l.nodes l.links) (map entry_at_view (take l.at-index l.entries))

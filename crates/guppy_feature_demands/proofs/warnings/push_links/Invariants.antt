@@ -1,9 +1,0 @@
-use Rattle.std.proofs.Common.{◌≡◌, ◌++◌, map, take}
-use Rattle.std.specs.List.{flat_map}
-use Rattle.guppy_package_parts.specs.WarningViews.{warning_view}
-use Rattle.guppy_feature_demands.specs.Warnings.{link_warnings}
-use Rattle.guppy_feature_demands.specs.NumberedViews.{ends_view}
-use Rattle.guppy_feature_demands.proofs.warnings.push_links.Given as goal
-
-abbrev pub invariant-loop-link : goal.invariant-loop-link
-invariant-loop-link l = map warning_view l.warnings.items ≡ map warning_view l.fn.warnings.items ++ flat_map (λ link. link_warnings l.nodes link.1) (map ends_view (take l.link-index l.links))
