@@ -92,20 +92,7 @@ fn some_fits_to(
 ) -> bool
     ensures { result ≡ list_any (spec.fits_to index.now dependency.now id.now) entries.now }
 {
-    entries
-        .iter()
-        .any(|entry| fits_to(index, dependency, entry, id))
-}
-
-fn fits_to(
-    index: &RecordIndex<'_>,
-    dependency: &Dependency,
-    entry: &ResolvedDependency,
-    id: &str,
-) -> bool
-    ensures { result ≡ spec.fits_to index.now dependency.now id.now entry.now }
-{
-    entry.package_id.as_str() == id && fits(index, dependency, entry)
+    entries.iter().any(|entry| entry.package_id.as_str() == id && fits(index, dependency, entry))
 }
 
 /// The entries that fit a dependency.
@@ -148,13 +135,7 @@ fn is_named(index: &RecordIndex<'_>, id: &str, name: &str) -> bool
 fn has_kind(kinds: &[ResolvedKind], line: &LineRecord) -> bool
     ensures { result ≡ list_any (spec.is_kind line.now) kinds.now }
 {
-    kinds.iter().any(|kind| is_kind(kind, line))
-}
-
-fn is_kind(kind: &ResolvedKind, line: &LineRecord) -> bool
-    ensures { result ≡ spec.is_kind line.now kind.now }
-{
-    kind.kind == line.kind && is_spec(&kind.spec, &line.spec)
+    kinds.iter().any(|kind| kind.kind == line.kind && is_spec(&kind.spec, &line.spec))
 }
 
 fn is_spec(first: &Option<String>, second: &Option<String>) -> bool

@@ -262,17 +262,11 @@ fn place_of(links: &[LinkRecord], start: usize, from: &str, to: &str, name: &str
 {
     for place in start..links.len() {
         let link = &links[place];
-        if is_link(link, from, to, name) {
+        if link.name.as_str() == name && link.to.as_str() == to && link.from.as_str() == from {
             return Some(place);
         }
     }
     None
-}
-
-fn is_link(link: &LinkRecord, from: &str, to: &str, name: &str) -> bool
-    ensures { IsTrue result ↔ IsLink link.now from.now to.now name.now }
-{
-    link.name.as_str() == name && link.to.as_str() == to && link.from.as_str() == from
 }
 
 /// A link with the line of a dependency.
