@@ -1,6 +1,6 @@
 //! Whether one feature leads to another.
 
-ghost use Rattle.std.specs.Prelude.{◌≡◌, ◌↔◌, ◌<◌, IsTrue};
+ghost use Rattle.std.specs.Prelude.{◌↔◌, ◌<◌, IsTrue};
 ghost use Rattle.guppy_feature_demands.specs.IdViews.{id_view};
 ghost use Rattle.guppy_feature_graph.specs.Depending.{AnswersDepending, AnswersDirectly, FindsPair, HasLink};
 ghost use Rattle.guppy_feature_graph.specs.Views.{feature_graph_of};

@@ -1,6 +1,6 @@
 //! A view of a feature graph, and what it says of each feature.
 
-ghost use Rattle.std.specs.Prelude.{◌≡◌, ◌<◌, length, map};
+ghost use Rattle.std.specs.Prelude.{◌≡◌, length, map};
 ghost use Rattle.guppy_package_parts.specs.WarningViews.{warning_view};
 ghost use Rattle.guppy_feature_demands.specs.IdViews.{id_view};
 ghost use Rattle.guppy_feature_demands.specs.NameViews.{name_view};
@@ -9,10 +9,9 @@ ghost use Rattle.guppy_feature_demands.specs.Warnings.{warnings_of};
 ghost use Rattle.guppy_feature_graph.specs.Finding.{FindsFeature, FindsNumber};
 ghost use Rattle.guppy_feature_graph.specs.StandardFilters.{FindsDefault};
 ghost use Rattle.guppy_feature_graph.specs.Views.{feature_graph_of};
-ghost use Rattle.guppy_feature_views.specs.Views.{link_view};
 
-use guppy_feature_nodes::{FeatureGraphData, FeatureId, FeatureName, LinkDeclarations};
-use guppy_feature_views::{ConditionalLink, FeatureMetadata};
+use guppy_feature_nodes::{FeatureGraphData, FeatureId, FeatureName};
+use guppy_feature_views::FeatureMetadata;
 use guppy_package_graph::{Error, FeatureGraphWarning, PackageGraph};
 
 /// The features of a package graph's packages and the links between them: a view of data that is
@@ -105,21 +104,6 @@ impl<'g> FeatureGraph<'g> {
         } else {
             Err(Error::UnknownFeatureId)
         }
-    }
-
-    pub(crate) fn link_at(
-        &self,
-        number: usize,
-        declarations: LinkDeclarations,
-    ) -> ConditionalLink<'g>
-        requires { number < length (feature_graph_of self.now).edges }
-        ensures { link_view result ≡ record {
-          graph = feature_graph_of self.now;
-          number = number;
-          declarations = declarations;
-        } }
-    {
-        ConditionalLink::at(self.built, number, declarations)
     }
 }
 

@@ -45,7 +45,7 @@ impl<'a> FeatureLinkContext<'a> {
             DependencyDirection::Forward => link.from().node(),
             DependencyDirection::Reverse => link.to().node(),
         };
-        self.query.starts_from(near)
+        self.query.initials().included().contains(near)
     }
 }
 

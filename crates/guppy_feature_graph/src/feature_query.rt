@@ -1,4 +1,4 @@
-ghost use Rattle.std.specs.Prelude.{◌≡◌, ◌↔◌, ◌<◌, ℕ, All, Contains, IfOk, IsTrue, Ok, length};
+ghost use Rattle.std.specs.Prelude.{◌≡◌, ◌<◌, All, IfOk, IsTrue, Ok, length};
 ghost use Rattle.numbered_graph.specs.Sets.{has};
 ghost use Rattle.guppy_feature_graph.specs.Queries.{AreInitials, AreStarts, IsQueryOf};
 ghost use Rattle.guppy_feature_graph.specs.Views.{feature_graph_of};
@@ -99,12 +99,6 @@ impl<'g> FeatureQuery<'g> {
         ensures within { All (λ v. v < length self.now.graph.nodes) result.now }
     {
         &self.starts
-    }
-
-    pub(crate) fn starts_from(&self, node: usize) -> bool
-        ensures { IsTrue result ↔ Contains self.now.initials node }
-    {
-        self.initials.included().contains(node)
     }
 }
 

@@ -1,4 +1,4 @@
-ghost use Rattle.std.specs.Prelude.{◌≡◌, ◌↔◌, ◌&&◌, ◌||◌, ◌<◌, ℕ, not, All, IfOk, Ok, IsTrue, count_by, length, map};
+ghost use Rattle.std.specs.Prelude.{◌≡◌, ◌↔◌, ◌&&◌, ◌||◌, ◌<◌, ℕ, not, All, IfOk, Ok, IsTrue, count_by, length};
 ghost use Rattle.numbered_graph.specs.ListedViews.{in_direction, listed_left};
 ghost use Rattle.numbered_graph.specs.Sets.{differs, has};
 ghost use Rattle.guppy_package_graph.specs.Directions.{direction_of};
@@ -75,7 +75,7 @@ impl<'g> FeatureSet<'g> {
     pub fn copy(&self, alloc: Global) -> Result<FeatureSet<'g>, AllocError>
         ensures same { IfOk result (λ s. s ≡ self.now) }
     {
-        let included = same_nodes(alloc, &self.included)?;
+        let included = self.included.union(alloc, &self.included)?;
         FeatureSet::found(&self.graph, included)
     }
 
@@ -205,14 +205,6 @@ impl fmt::Debug for FeatureSet<'_> {
             .entries(self.feature_ids(DependencyDirection::Forward))
             .finish()
     }
-}
-
-// The same nodes once more.
-fn same_nodes(alloc: Global, nodes: &NodeSet) -> Result<NodeSet, AllocError>
-    ensures { IfOk result (λ s. s ≡ nodes.now) }
-{
-    let same = nodes.union(alloc, nodes)?;
-    Ok(same)
 }
 
 // Whether two graphs have the same list of features.

@@ -1,6 +1,6 @@
 //! The features of one package, all of them or those that are in a set.
 
-ghost use Rattle.std.specs.Prelude.{◌≡◌, ◌++◌, ◌∷◌, ◌||◌, [], IfErr, IfOk, OnOk, filter, map, string_bytes, if◌then◌else◌};
+ghost use Rattle.std.specs.Prelude.{◌≡◌, ◌||◌, IfErr, IfOk, filter, map, string_bytes};
 ghost use Rattle.std.specs.List.{list_any};
 ghost use Rattle.workspace_record.specs.Features.{Base, Named, Dep};
 ghost use Rattle.guppy_feature_demands.specs.LabelViews.{label_view};
@@ -110,23 +110,11 @@ fn kept_labels<'g>(
 {
     let mut kept: Vec<FeatureLabel<'g>> = Vec::new(alloc);
     for label in labels {
-        push_if(&mut kept, *label, has_label(set, id, *label))?;
+        if has_label(set, id, *label) {
+            kept.push(*label)?;
+        }
     }
     Ok(kept)
-}
-
-fn push_if<'g>(
-    labels: &mut Vec<FeatureLabel<'g>>,
-    label: FeatureLabel<'g>,
-    wanted: bool,
-) -> Result<(), AllocError>
-    ensures { OnOk result (labels.new.items
-        ≡ (if wanted then labels.old.items ++ label.entry ∷ [] else labels.old.items)) }
-{
-    if wanted {
-        labels.push(label)?;
-    }
-    Ok(())
 }
 
 fn has_label(set: &FeatureSet<'_>, package_id: &str, label: FeatureLabel<'_>) -> bool

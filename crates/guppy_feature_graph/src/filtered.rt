@@ -1,6 +1,6 @@
-//! Features of packages that a filter takes, as sets and as queries.
+//! Features of packages that a filter takes, as queries.
 
-ghost use Rattle.std.specs.Prelude.{◌≡◌, ℕ, true, Contains, IfOk, OnErr};
+ghost use Rattle.std.specs.Prelude.{◌≡◌, true, Contains, IfOk, OnErr};
 ghost use Rattle.guppy_package_graph.specs.Visits.{Chain, SameSteps};
 ghost use Rattle.guppy_package_graph.specs.Workspaces.{IsMemberPlace};
 ghost use Rattle.guppy_package_table.specs.Tables.{ids_of};
@@ -8,7 +8,6 @@ ghost use Rattle.guppy_package_parts.specs.declared.dependency_direction.Depende
 ghost use Rattle.guppy_feature_graph.specs.Judging.{AreJudged, Judged, shown_features};
 ghost use Rattle.guppy_feature_graph.specs.PackageFeatures.{IsOfPackage, IsOfSet};
 ghost use Rattle.guppy_feature_graph.specs.Queries.{IsQueryOf};
-ghost use Rattle.guppy_feature_graph.specs.Sets.{IsSetOf};
 ghost use Rattle.guppy_feature_graph.specs.Views.{feature_graph_of};
 
 use crate::feature_filter::FeatureFilter;
@@ -72,33 +71,6 @@ pub(crate) fn query_by_filter<'g, F: FeatureFilter>(
             let initials = FeatureSet::of(*graph, taken.included);
             FeatureQuery::found(initials, direction, taken.starts)
         }
-        Err(refused) => Err(refused),
-    }
-}
-
-/// The features of a set's packages that the filter takes.
-pub(crate) fn set_by_filter<'g, F: FeatureFilter>(
-    alloc: Global,
-    graph: &FeatureGraph<'g>,
-    packages: &PackageSet<'_>,
-    filter: &mut F,
-) -> Result<FeatureSet<'g>, AllocError>
-    requires packages { ids_of packages.now.graph.packages
-        ≡ ids_of (feature_graph_of graph.now).rows.packages }
-    requires can { F.can_accept filter.old }
-    ensures ok { IfOk result
-        (λ s. (judged : Judged)
-        × AreJudged (IsOfSet (feature_graph_of graph.now) packages.now.included) judged
-        × Chain (F.steps filter.old) (F.state filter.old)
-        (shown_features (feature_graph_of graph.now) judged) (F.state filter.new)
-        × IsSetOf (feature_graph_of graph.now) (λ v. Contains judged (v, true)) s) }
-    ensures same { SameSteps (F.steps filter.old) (F.steps filter.new) }
-    ensures can { F.can_accept filter.new }
-    ensures err { OnErr result (filter.new ≡ filter.old) }
-{
-    let wanted = features_of_packages(alloc, graph, packages)?;
-    match take_by_filter(alloc, graph, &wanted, filter) {
-        Ok(taken) => FeatureSet::found(graph, taken.included),
         Err(refused) => Err(refused),
     }
 }

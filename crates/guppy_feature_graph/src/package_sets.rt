@@ -1,8 +1,7 @@
 //! Packages, sets of packages and queries from packages, as features of a graph.
 
-ghost use Rattle.std.specs.Prelude.{◌≡◌, ℕ, true, Contains, IfOk, OnErr, map};
+ghost use Rattle.std.specs.Prelude.{◌≡◌, true, Contains, IfOk, OnErr, map};
 ghost use Rattle.guppy_package_graph.specs.Finding.{IsNamed};
-ghost use Rattle.guppy_package_graph.specs.SetValues.{IsSetOf as IsSetOfPackages};
 ghost use Rattle.guppy_package_graph.specs.Views.{graph_of, place_of};
 ghost use Rattle.guppy_package_graph.specs.Visits.{Chain, SameSteps};
 ghost use Rattle.guppy_package_table.specs.Tables.{id_at, ids_of};
@@ -17,9 +16,10 @@ use crate::feature_filter::FeatureFilter;
 use crate::feature_graph::FeatureGraph;
 use crate::feature_query::FeatureQuery;
 use crate::feature_set::FeatureSet;
-use crate::filtered::{query_by_filter, set_by_filter};
+use crate::filtered::query_by_filter;
 use crate::package_features::features_of_packages;
 use crate::packages_of::known_packages;
+use crate::taking::take_by_filter;
 use guppy_feature_nodes::FeatureId;
 use guppy_package_graph::{PackageId, PackageMetadata, PackageQuery, PackageSet};
 use std::alloc::{AllocError, Global};
@@ -61,7 +61,11 @@ pub fn set_to_feature_set<'g, F: FeatureFilter>(
     ensures can { F.can_accept filter.new }
     ensures err { OnErr result (filter.new ≡ filter.old) }
 {
-    set_by_filter(alloc, graph, set, filter)
+    let wanted = features_of_packages(alloc, graph, set)?;
+    match take_by_filter(alloc, graph, &wanted, filter) {
+        Ok(taken) => FeatureSet::found(graph, taken.included),
+        Err(refused) => Err(refused),
+    }
 }
 
 /// A query from the features of the query's initials that the filter takes, in its direction. The
@@ -87,17 +91,9 @@ pub fn query_to_feature_query<'g, F: FeatureFilter>(
     ensures can { F.can_accept filter.new }
     ensures err { OnErr result (filter.new ≡ filter.old) }
 {
-    let packages = initials_of(alloc, query)?;
-    query_by_filter(alloc, graph, &packages, query.direction(), filter)
-}
-
-// The initials of a query, as a set.
-fn initials_of<'g>(alloc: Global, query: &PackageQuery<'g>) -> Result<PackageSet<'g>, AllocError>
-    ensures { IfOk result (IsSetOfPackages query.now.graph
-        (IsNamed query.now.graph (map (id_at query.now.graph) query.now.initials))) }
-{
     let ids = initial_ids(alloc, query)?;
-    known_packages(alloc, query.graph(), &ids)
+    let packages = known_packages(alloc, query.graph(), &ids)?;
+    query_by_filter(alloc, graph, &packages, query.direction(), filter)
 }
 
 fn initial_ids<'a>(

@@ -63,7 +63,7 @@ impl<'g> FeatureQuery<'g> {
         ensures err { OnErr result (visitor.new ≡ visitor.old) }
         ensures looks { looks.new ≤ looks.old + length self.entry.graph.nodes }
     {
-        set_by_visitor(alloc, &self, visitor, looks)
+        resolve_by_visitor(alloc, &self, visitor, looks)
     }
 
     /// The same features as `resolve_with` gives, where a closure says which links are followed.
@@ -95,7 +95,7 @@ impl<'g> FeatureQuery<'g> {
             × Chain (AsksClosure F.FnMut self.entry) visitor_fn.old run visitor_fn.new) }
         ensures err { OnErr result (visitor_fn.new ≡ visitor_fn.old) }
     {
-        set_by_closure(alloc, &self, visitor_fn)
+        resolve_by_closure(alloc, &self, visitor_fn)
     }
 
     /// The same by a closure that is lent, with a count of the looks that it takes.
@@ -115,7 +115,7 @@ impl<'g> FeatureQuery<'g> {
         ensures err { OnErr result (visitor_fn.new ≡ visitor_fn.old) }
         ensures looks { looks.new ≤ looks.old + length self.entry.graph.nodes }
     {
-        set_by_closure_counted(alloc, &self, visitor_fn, looks)
+        resolve_by_closure_counted(alloc, &self, visitor_fn, looks)
     }
 }
 
@@ -127,67 +127,6 @@ fn reached_from<'g>(alloc: Global, query: &FeatureQuery<'g>) -> Result<FeatureSe
     let direction = direction_of(query.direction());
     let reached = reach(alloc, edges, query.starts(), direction)?;
     FeatureSet::found(query.graph(), reached)
-}
-
-// What is resolved of a query that is lent: letting a query go is dear where there are two ways out.
-fn set_by_visitor<'g, L: Ledger>(
-    alloc: Global,
-    query: &FeatureQuery<'g>,
-    visitor: &mut dyn FeatureLinkVisitor,
-    looks: &mut Looks<L>,
-) -> Result<FeatureSet<'g>, AllocError>
-    ensures graph { IfOk result (λ s. s.graph ≡ query.now.graph) }
-    ensures ok { IfOk result (λ s. (run : Run) × IsResolved query.now run s.included
-        × Chain (steps visitor.old) (state visitor.old) (shown_to query.now run)
-        (state visitor.new)) }
-    ensures same { SameSteps (steps visitor.old) (steps visitor.new) }
-    ensures err { OnErr result (visitor.new ≡ visitor.old) }
-    ensures looks { looks.new ≤ looks.old + length query.now.graph.nodes }
-{
-    match resolve_by_visitor(alloc, query, visitor, looks) {
-        Ok(included) => FeatureSet::found(query.graph(), included),
-        Err(refused) => Err(refused),
-    }
-}
-
-fn set_by_closure<'g, F: FnMut(&FeatureLinkContext<'_>, ConditionalLink<'g>) -> bool>(
-    alloc: Global,
-    query: &FeatureQuery<'g>,
-    accepts: &mut F,
-) -> Result<FeatureSet<'g>, AllocError>
-    requires { F.IsAlwaysCallable accepts.old }
-    ensures graph { IfOk result (λ s. s.graph ≡ query.now.graph) }
-    ensures ok { IfOk result (λ s. (run : Run) × IsResolved query.now run s.included
-        × Chain (AsksClosure F.FnMut query.now) accepts.old run accepts.new) }
-    ensures err { OnErr result (accepts.new ≡ accepts.old) }
-{
-    match resolve_by_closure(alloc, query, accepts) {
-        Ok(included) => FeatureSet::found(query.graph(), included),
-        Err(refused) => Err(refused),
-    }
-}
-
-fn set_by_closure_counted<
-    'g,
-    L: Ledger,
-    F: FnMut(&FeatureLinkContext<'_>, ConditionalLink<'g>) -> bool,
->(
-    alloc: Global,
-    query: &FeatureQuery<'g>,
-    accepts: &mut F,
-    looks: &mut Looks<L>,
-) -> Result<FeatureSet<'g>, AllocError>
-    requires callable { F.IsAlwaysCallable accepts.old }
-    ensures graph { IfOk result (λ s. s.graph ≡ query.now.graph) }
-    ensures ok { IfOk result (λ s. (run : Run) × IsResolved query.now run s.included
-        × Chain (AsksClosure F.FnMut query.now) accepts.old run accepts.new) }
-    ensures err { OnErr result (accepts.new ≡ accepts.old) }
-    ensures looks { looks.new ≤ looks.old + length query.now.graph.nodes }
-{
-    match resolve_by_closure_counted(alloc, query, accepts, looks) {
-        Ok(included) => FeatureSet::found(query.graph(), included),
-        Err(refused) => Err(refused),
-    }
 }
 
 fn resolve_with_blank<'g, L: Ledger>(

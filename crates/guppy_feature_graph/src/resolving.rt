@@ -8,7 +8,7 @@ ghost use Rattle.numbered_offers.specs.Dues.{asked_of, asks};
 ghost use Rattle.numbered_offers.specs.Runs.{Run};
 ghost use Rattle.numbered_offers.specs.declared.offer.Offer.{Offer};
 ghost use Rattle.guppy_feature_graph.specs.Closures.{AsksClosure};
-ghost use Rattle.guppy_feature_graph.specs.Links.{declarations_of, link_of};
+ghost use Rattle.guppy_feature_graph.specs.Links.{link_of};
 ghost use Rattle.guppy_feature_graph.specs.OffersViews.{offers_view};
 ghost use Rattle.guppy_feature_graph.specs.Resolves.{IsResolved, shown_to};
 ghost use Rattle.guppy_feature_views.specs.Views.{link_view};
@@ -16,6 +16,7 @@ ghost use Rattle.guppy_feature_views.specs.Views.{link_view};
 use crate::direction::direction_of;
 use crate::feature_link_context::FeatureLinkContext;
 use crate::feature_query::FeatureQuery;
+use crate::feature_set::FeatureSet;
 use crate::visitor::FeatureLinkVisitor;
 use guppy_feature_nodes::LinkDeclarations;
 use guppy_feature_views::ConditionalLink;
@@ -54,14 +55,16 @@ fn offers_of<'a>(alloc: Global, query: &'a FeatureQuery<'_>) -> Result<Offers<'a
     }
 }
 
-/// Asks a visitor about each offer that becomes due.
-pub(crate) fn resolve_by_visitor<L: Ledger>(
+/// Asks a visitor about each offer that becomes due. The query is lent: letting one go is dear where
+/// there are two ways out.
+pub(crate) fn resolve_by_visitor<'g, L: Ledger>(
     alloc: Global,
-    query: &FeatureQuery<'_>,
+    query: &FeatureQuery<'g>,
     visitor: &mut dyn FeatureLinkVisitor,
     looks: &mut Looks<L>,
-) -> Result<NodeSet, AllocError>
-    ensures ok { IfOk result (λ set. (run : Run) × IsResolved query.now run set
+) -> Result<FeatureSet<'g>, AllocError>
+    ensures graph { IfOk result (λ s. s.graph ≡ query.now.graph) }
+    ensures ok { IfOk result (λ s. (run : Run) × IsResolved query.now run s.included
         × Chain (steps visitor.old) (state visitor.old) (shown_to query.now run)
         (state visitor.new)) }
     ensures same { SameSteps (steps visitor.old) (steps visitor.new) }
@@ -69,7 +72,10 @@ pub(crate) fn resolve_by_visitor<L: Ledger>(
     ensures looks { looks.new ≤ looks.old + length query.now.graph.nodes }
 {
     match offers_of(alloc, query) {
-        Ok(offers) => show_to_visitor(alloc, query, offers.graph(), visitor, looks),
+        Ok(offers) => match show_to_visitor(alloc, query, offers.graph(), visitor, looks) {
+            Ok(included) => FeatureSet::found(query.graph(), included),
+            Err(refused) => Err(refused),
+        },
         Err(refused) => Err(refused),
     }
 }
@@ -133,33 +139,30 @@ fn link_of<'g>(query: &FeatureQuery<'g>, offer: Offer) -> ConditionalLink<'g>
     requires { offer.edge < length query.now.graph.edges }
     ensures { link_view result ≡ link_of query.now.graph offer }
 {
-    query
-        .graph()
-        .link_at(offer.edge, declarations_of(offer.kind))
-}
-
-fn declarations_of(kind: OfferKind) -> LinkDeclarations
-    ensures { result ≡ declarations_of kind }
-{
-    match kind {
+    let declarations = match offer.kind {
         OfferKind::Unsplit => LinkDeclarations::Unsplit,
         OfferKind::Required => LinkDeclarations::Required,
         OfferKind::Optional => LinkDeclarations::Optional,
-    }
+    };
+    ConditionalLink::at(query.graph().built(), offer.edge, declarations)
 }
 
 /// Asks a closure about each offer that becomes due.
 pub(crate) fn resolve_by_closure<
     'g,
     F: FnMut(&FeatureLinkContext<'_>, ConditionalLink<'g>) -> bool,
->(alloc: Global, query: &FeatureQuery<'g>, accepts: &mut F) -> Result<NodeSet, AllocError>
+>(alloc: Global, query: &FeatureQuery<'g>, accepts: &mut F) -> Result<FeatureSet<'g>, AllocError>
     requires { F.IsAlwaysCallable accepts.old }
-    ensures ok { IfOk result (λ set. (run : Run) × IsResolved query.now run set
+    ensures graph { IfOk result (λ s. s.graph ≡ query.now.graph) }
+    ensures ok { IfOk result (λ s. (run : Run) × IsResolved query.now run s.included
         × Chain (AsksClosure F.FnMut query.now) accepts.old run accepts.new) }
     ensures err { OnErr result (accepts.new ≡ accepts.old) }
 {
     match offers_of(alloc, query) {
-        Ok(offers) => show_to_closure(alloc, query, offers.graph(), accepts),
+        Ok(offers) => match show_to_closure(alloc, query, offers.graph(), accepts) {
+            Ok(included) => FeatureSet::found(query.graph(), included),
+            Err(refused) => Err(refused),
+        },
         Err(refused) => Err(refused),
     }
 }
@@ -195,15 +198,19 @@ pub(crate) fn resolve_by_closure_counted<
     query: &FeatureQuery<'g>,
     accepts: &mut F,
     looks: &mut Looks<L>,
-) -> Result<NodeSet, AllocError>
+) -> Result<FeatureSet<'g>, AllocError>
     requires callable { F.IsAlwaysCallable accepts.old }
-    ensures ok { IfOk result (λ set. (run : Run) × IsResolved query.now run set
+    ensures graph { IfOk result (λ s. s.graph ≡ query.now.graph) }
+    ensures ok { IfOk result (λ s. (run : Run) × IsResolved query.now run s.included
         × Chain (AsksClosure F.FnMut query.now) accepts.old run accepts.new) }
     ensures err { OnErr result (accepts.new ≡ accepts.old) }
     ensures looks { looks.new ≤ looks.old + length query.now.graph.nodes }
 {
     match offers_of(alloc, query) {
-        Ok(offers) => show_to_closure_counted(alloc, query, offers.graph(), accepts, looks),
+        Ok(offers) => match show_to_closure_counted(alloc, query, offers.graph(), accepts, looks) {
+            Ok(included) => FeatureSet::found(query.graph(), included),
+            Err(refused) => Err(refused),
+        },
         Err(refused) => Err(refused),
     }
 }

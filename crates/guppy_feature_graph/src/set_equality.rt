@@ -1,15 +1,13 @@
 //! Sets of features are equal where they have the same features.
 
-ghost use Rattle.std.specs.Prelude.{◌≡◌, ◌&&◌, nat_lt};
+ghost use Rattle.std.specs.Prelude.{◌≡◌};
 ghost use Rattle.std.specs.List.{list_all};
-ghost use Rattle.numbered_graph.specs.Sets.{has};
 ghost use Rattle.guppy_feature_demands.specs.IdViews.{id_view};
 ghost use Rattle.guppy_feature_graph.specs.SetEquality.{agree_on, has_feature};
 
 use crate::feature_graph::name_of;
 use crate::feature_set::FeatureSet;
 use guppy_feature_nodes::{FeatureGraphData, FeatureId};
-use numbered_graph::NodeSet;
 
 impl FeatureSet<'_> {
     /// Whether a feature is in the set; one that its graph does not have is not.
@@ -18,29 +16,17 @@ impl FeatureSet<'_> {
     {
         let built = self.graph().built();
         let number = built.number_of(name_of(feature_id));
-        is_in(self.included(), built.feature_count(), number)
+        number < built.feature_count() && self.included().contains(number)
     }
 }
 
-fn is_in(included: &NodeSet, count: usize, number: usize) -> bool
-    ensures { result ≡ (nat_lt number count && has included.now number) }
-{
-    number < count && included.contains(number)
-}
-
-/// Whether a feature is in both sets or in neither.
-fn agree_on(a: &FeatureSet<'_>, b: &FeatureSet<'_>, feature_id: FeatureId<'_>) -> bool
-    ensures { result ≡ agree_on a.now b.now (id_view feature_id.entry) }
-{
-    a.has_feature(feature_id) == b.has_feature(feature_id)
-}
-
-/// Whether each feature of a graph is.
+/// Whether each feature of a graph is in both sets or in neither.
 fn agree_on_all<'g>(a: &FeatureSet<'_>, b: &FeatureSet<'_>, built: &'g FeatureGraphData<'g>) -> bool
     ensures { result ≡ list_all (agree_on a.now b.now) built.entry.now.nodes }
 {
     for node in 0..built.feature_count() {
-        if !agree_on(a, b, built.feature_at(node)) {
+        let feature_id = built.feature_at(node);
+        if a.has_feature(feature_id) != b.has_feature(feature_id) {
             return false;
         }
     }

@@ -1,6 +1,6 @@
 //! Roots of sets of features, and edges inside them.
 
-ghost use Rattle.std.specs.Prelude.{◌≡◌, ◌↔◌, ◌<◌, ℕ, List, All, IfOk, IsTrue, filter, length, map};
+ghost use Rattle.std.specs.Prelude.{◌≡◌, ◌<◌, ℕ, List, All, IfOk, IsTrue, filter, length, map};
 ghost use Rattle.numbered_graph.specs.Sets.{has};
 ghost use Rattle.guppy_feature_demands.specs.IdViews.{id_view};
 ghost use Rattle.guppy_feature_nodes.specs.Graphs.{feature_at};
@@ -8,7 +8,6 @@ ghost use Rattle.guppy_feature_views.specs.Views.{link_view, seen};
 ghost use Rattle.guppy_feature_graph.specs.Queries.{IsQueryOf};
 ghost use Rattle.guppy_feature_views.specs.Told.{is_conditional, told_at, told_view, whole_link};
 ghost use Rattle.guppy_feature_graph.specs.SetParts.{AreRoots, edges_inside};
-ghost use Rattle.guppy_feature_graph.specs.Views.{feature_graph_of};
 
 use crate::direction::direction_of;
 use crate::feature_query::FeatureQuery;

@@ -1,6 +1,6 @@
 //! Asking a filter about each of several features.
 
-ghost use Rattle.std.specs.Prelude.{◌≡◌, ◌↔◌, ◌⊎◌, ◌<◌, ◌≤◌, ◌∷◌, ◌++◌, [], ℕ, true, Contains, IfOk, IsTrue, OnErr, length, vec_capacity, vec_len, if◌then◌else◌};
+ghost use Rattle.std.specs.Prelude.{◌≡◌, ◌↔◌, ◌<◌, ◌≤◌, ◌∷◌, ◌++◌, [], ℕ, true, Contains, IfOk, IsTrue, OnErr, length, vec_capacity, vec_len, if◌then◌else◌};
 ghost use Rattle.numbered_graph.specs.Sets.{has};
 ghost use Rattle.guppy_feature_nodes.specs.Graphs.{feature_at};
 ghost use Rattle.guppy_package_graph.specs.Visits.{Chain, SameSteps};

@@ -1,10 +1,8 @@
 //! Whether a feature graph keeps its own rules.
 
-ghost use Rattle.std.specs.Prelude.{◌≡◌, ◌<◌, true, Ok, length};
-ghost use Rattle.guppy_feature_graph.specs.Views.{feature_graph_of};
+ghost use Rattle.std.specs.Prelude.{◌≡◌, Ok};
 
 use crate::feature_graph::FeatureGraph;
-use guppy_feature_nodes::FeatureGraphData;
 use guppy_package_graph::Error;
 
 impl FeatureGraph<'_> {
@@ -14,18 +12,11 @@ impl FeatureGraph<'_> {
         ensures kept { result ≡ Ok tt }
     {
         for number in 0..self.link_count() {
-            if !is_lined(self.built(), number) {
+            let edge = &self.built().edge(number).edge;
+            if !edge.is_unconditional() && edge.lines().is_empty() {
                 return Err(Error::FeatureGraphInternalError);
             }
         }
         Ok(())
     }
-}
-
-fn is_lined(built: &FeatureGraphData<'_>, number: usize) -> bool
-    requires { number < length built.now.edges }
-    ensures { result ≡ true }
-{
-    let edge = &built.edge(number).edge;
-    edge.is_unconditional() || !edge.lines().is_empty()
 }

@@ -1,10 +1,10 @@
 -- What is demanded by a line is demanded by a line of the rows.
-use Rattle.std.proofs.Common.{◌≡◌, ℕ, zero, suc, ◌+◌, ◌<◌, length, get_or, Bool, true, false, cond, List, [], ◌∷◌, ◌++◌, ◌⊎◌, All, Contains, Option, Some, None, option_and_then, slice_get, map, filter, flat_map, IsTrue, refl, sym, subst, ap, ◌∙◌, ⊎_elim, arith}
+use Rattle.std.proofs.Common.{◌≡◌, ℕ, suc, ◌+◌, ◌<◌, length, get_or, Bool, true, false, cond, List, [], ◌∷◌, ◌++◌, Contains, Option, Some, None, option_and_then, slice_get, map, flat_map, IsTrue, refl, sym, subst, ap, ◌∙◌, ⊎_elim, arith}
 use Rattle.std.specs.Option.{is_some}
 use Rattle.std.proofs.lemmas.Bool.{false≢true}
 use Rattle.std.proofs.lemmas.Option.{slice_get-get_or}
 use Rattle.list_facts.proofs.Membership.{Contains-none, Contains-cons_cases, Contains-append_cases, Contains-map_cases, Contains-filter_cases, Contains-flat_map_cases}
-use Rattle.workspace_record.specs.Records.{Text, FeatureEntry, Package, Line, Link}
+use Rattle.workspace_record.specs.Records.{Text, Package, Line, Link}
 use Rattle.workspace_record.specs.Features.{FeatureValue}
 use Rattle.guppy_package_parts.specs.Lines.{IsLineAt, line_at}
 use Rattle.workspace_record.specs.Entries.{EntryValue, OwnFeature, Dependency, Strong, Weak, entry_value}

@@ -1,5 +1,5 @@
 -- The ends of edges lie between the nodes.
-use Rattle.std.proofs.Common.{ℕ, ◌<◌, List, All, Contains, map}
+use Rattle.std.proofs.Common.{ℕ, ◌<◌, List, Contains}
 use Rattle.std.proofs.lemmas.List.Elements.{All-contains, All-map}
 use Rattle.list_facts.proofs.Quantifiers.{All-from_Contains}
 use Rattle.numbered_graph.specs.Links.{AreWithin}

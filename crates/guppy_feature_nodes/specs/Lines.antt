@@ -1,10 +1,10 @@
 -- The lines behind an edge, by what they declare.
-use Rattle.std.specs.Prelude.{◌≡◌, ℕ, Bool, false, ◌&&◌, nat_eq, List, All, Contains, map, filter, if◌then◌else◌}
+use Rattle.std.specs.Prelude.{ℕ, Bool, false, ◌&&◌, nat_eq, List, map, filter, if◌then◌else◌}
 use Rattle.std.specs.List.{list_any}
 use Rattle.std.specs.Option.{option_map_or}
 use Rattle.workspace_record.specs.Records.{Line, Link}
 use Rattle.workspace_record.specs.declared.kinds.LineKind.{LineKind}
-use Rattle.guppy_package_parts.specs.Lines.{IsLineAt, is_kind, line_at}
+use Rattle.guppy_package_parts.specs.Lines.{is_kind, line_at}
 use Rattle.guppy_feature_demands.specs.Kinds.{has_optional, has_required}
 use Rattle.guppy_feature_demands.specs.declared.link_declarations.LinkDeclarations.{LinkDeclarations}
 use Rattle.guppy_feature_demands.specs.Nodes.{first_of_each}

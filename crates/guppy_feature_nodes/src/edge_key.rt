@@ -1,7 +1,7 @@
-ghost use Rattle.std.specs.Prelude.{◌≡◌, [], ◌∷◌, map};
+ghost use Rattle.std.specs.Prelude.{◌≡◌, []};
 ghost use Rattle.guppy_feature_demands.specs.DemandViews.{numbered_view};
 ghost use Rattle.guppy_feature_nodes.specs.Joining.{ends_of, join_key, weight_key};
-ghost use Rattle.guppy_feature_nodes.specs.KeyViews.{key_view, key_word};
+ghost use Rattle.guppy_feature_nodes.specs.KeyViews.{key_view};
 
 use guppy_feature_demands::{EdgeKind, NumberedDemand};
 use std::hash::{Hash, Hasher};
@@ -43,7 +43,10 @@ impl Hash for EdgeKey<'_> {
     ghost respects_eq = { same_key_writes };
 
     fn hash<H: Hasher>(&self, state: &mut H) {
-        state.write_usize(self.word());
+        // The ends and the sort in one word, which may be that of other keys too.
+        let from = self.from.wrapping_mul(4_294_967_296);
+        let to = self.to.wrapping_mul(4);
+        state.write_usize(from.wrapping_add(to).wrapping_add(self.sort));
         if !self.name.is_empty() {
             self.name.hash(state);
         }
@@ -51,15 +54,6 @@ impl Hash for EdgeKey<'_> {
 }
 
 impl<'g> EdgeKey<'g> {
-    // The ends and the sort in one word, which may be that of other keys too.
-    fn word(&self) -> usize
-        ensures { result ≡ key_word (key_view self.now) }
-    {
-        let from = self.from.wrapping_mul(4_294_967_296);
-        let to = self.to.wrapping_mul(4);
-        from.wrapping_add(to).wrapping_add(self.sort)
-    }
-
     fn of(demand: NumberedDemand<'g>, sort: usize, name: &'g str) -> EdgeKey<'g>
         ensures { key_view result ≡ (ends_of (numbered_view demand.entry), (sort, name.entry.now)) }
     {

@@ -1,6 +1,6 @@
 //! The links of the lines behind an edge.
 
-ghost use Rattle.std.specs.Prelude.{◌≡◌, ◌-◌, ◌++◌, ◌∷◌, [], IfOk, OnOk, Some, length, nat_eq, slice_get, true, if◌then◌else◌};
+ghost use Rattle.std.specs.Prelude.{◌≡◌, ◌-◌, IfOk, OnOk, Some, length, nat_eq, slice_get, true, if◌then◌else◌};
 ghost use Rattle.std.specs.List.{list_any};
 ghost use Rattle.std.specs.List.Sorted.{IsStrictlySortedBy};
 ghost use Rattle.indexmap.specs.IndexSet.{insert_key};
@@ -59,24 +59,12 @@ impl EdgeLinks {
         ensures { result.now ≡ shown_of self.now shown }
     {
         match shown {
-            LinkDeclarations::Unsplit => self.all(),
+            LinkDeclarations::Unsplit if self.optional.is_empty() => &self.required,
+            LinkDeclarations::Unsplit if self.required.is_empty() => &self.optional,
+            LinkDeclarations::Unsplit => &self.unsplit,
             LinkDeclarations::Required => &self.required,
             LinkDeclarations::Optional => &self.optional,
         }
-    }
-
-    /// Those of all lines.
-    fn all(&self) -> &[usize]
-        ensures { result.now ≡ joined self.now.required.items self.now.optional.items
-            self.now.unsplit.items }
-    {
-        if self.optional.is_empty() {
-            return &self.required;
-        }
-        if self.required.is_empty() {
-            return &self.optional;
-        }
-        &self.unsplit
     }
 }
 
@@ -146,18 +134,14 @@ fn push_new(number: usize, numbers: &mut Vec<usize>) -> Result<(), AllocError>
     ensures { OnOk result (numbers.new.items ≡ insert_key nat_eq numbers.old.items number) }
 {
     match numbers.last() {
-        Some(last) if *last == number => Ok(()),
-        _ => push_number(number, numbers),
+        Some(last) if *last == number => {}
+        _ => {
+            // The first gets room for itself alone, since most edges have one link.
+            if numbers.is_empty() {
+                numbers.reserve_exact(1)?;
+            }
+            numbers.push(number)?;
+        }
     }
-}
-
-// The first gets room for itself alone, since most edges have one link.
-fn push_number(number: usize, numbers: &mut Vec<usize>) -> Result<(), AllocError>
-    ensures { OnOk result (numbers.new.items ≡ numbers.old.items ++ number ∷ []) }
-{
-    if numbers.is_empty() {
-        numbers.reserve_exact(1)?;
-    }
-    numbers.push(number)?;
     Ok(())
 }

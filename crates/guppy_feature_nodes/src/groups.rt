@@ -1,6 +1,6 @@
 //! Demands by what joins them in one edge.
 
-ghost use Rattle.std.specs.Prelude.{◌≡◌, ◌++◌, ◌∷◌, [], IfOk, OnOk, map};
+ghost use Rattle.std.specs.Prelude.{◌≡◌, IfOk, OnOk, map};
 ghost use Rattle.indexmap.specs.IndexMap.{insert_entry};
 ghost use Rattle.std.specs.Map.{lookup};
 ghost use Rattle.guppy_feature_demands.specs.DemandViews.{numbered_view};
@@ -84,18 +84,11 @@ fn push_line<'g>(group: &mut Group<'g>, line: Option<(usize, usize)>) -> Result<
     ensures { OnOk result (group_view group.new ≡ joins_line (group_view group.old) line) }
 {
     if let Some(place) = line {
-        push_place(&mut group.lines, place)?;
+        // The first gets room for itself alone, since most edges have one line.
+        if group.lines.is_empty() {
+            group.lines.reserve_exact(1)?;
+        }
+        group.lines.push(place)?;
     }
-    Ok(())
-}
-
-// The first gets room for itself alone, since most edges have one line.
-fn push_place(lines: &mut Vec<(usize, usize)>, place: (usize, usize)) -> Result<(), AllocError>
-    ensures { OnOk result (lines.new.items ≡ lines.old.items ++ place ∷ []) }
-{
-    if lines.is_empty() {
-        lines.reserve_exact(1)?;
-    }
-    lines.push(place)?;
     Ok(())
 }

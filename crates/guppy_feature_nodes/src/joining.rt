@@ -1,13 +1,12 @@
 //! Edges, joined from demands.
 
-ghost use Rattle.std.specs.Prelude.{◌≡◌, ◌∷◌, ◌++◌, [], IfOk, List, OnOk, map};
+ghost use Rattle.std.specs.Prelude.{◌∷◌, ◌++◌, [], IfOk, List, OnOk, map};
 ghost use Rattle.indexmap.specs.IndexMap.{values};
-ghost use Rattle.guppy_package_parts.specs.SortedSets.{HoldsEach};
 ghost use Rattle.guppy_feature_demands.specs.DemandViews.{numbered_view};
 ghost use Rattle.guppy_feature_nodes.specs.GroupViews.{group_view};
 ghost use Rattle.guppy_feature_nodes.specs.Groups.{AreKept};
 ghost use Rattle.guppy_feature_nodes.specs.JoinedViews.{joined_view};
-ghost use Rattle.guppy_feature_nodes.specs.Joining.{AreJoined, JoinedValue, place_cmp, place_eq};
+ghost use Rattle.guppy_feature_nodes.specs.Joining.{AreJoined, JoinedValue};
 ghost use Rattle.guppy_feature_nodes.specs.KeyViews.{key_view};
 ghost use Rattle.guppy_feature_nodes.specs.Weights.{FindsWeights};
 
@@ -85,18 +84,11 @@ fn push_kept<'g>(
         (map joined_view edges.new.items)) }
 {
     if !gives_way(weights, group.first) {
-        edges.push(edge_of(group))?;
+        let Group { first, lines } = group;
+        edges.push(JoinedEdge {
+            head: first,
+            lines: SortedSet::new(lines),
+        })?;
     }
     Ok(())
-}
-
-fn edge_of<'g>(group: Group<'g>) -> JoinedEdge<'g>
-    ensures head { (joined_view result).head ≡ numbered_view group.entry.first }
-    ensures lines { HoldsEach place_eq place_cmp group.entry.lines.items result.lines }
-{
-    let Group { first, lines } = group;
-    JoinedEdge {
-        head: first,
-        lines: SortedSet::new(lines),
-    }
 }

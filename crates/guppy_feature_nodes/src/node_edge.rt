@@ -4,7 +4,7 @@ ghost use Rattle.std.specs.Prelude.{◌≡◌, All, IfOk, map};
 ghost use Rattle.guppy_feature_demands.specs.DemandViews as demands;
 ghost use Rattle.guppy_feature_nodes.specs.JoinedViews.{joined_view};
 ghost use Rattle.guppy_feature_nodes.specs.EdgeViews.{edge_view, form_view, lines_view};
-ghost use Rattle.guppy_feature_nodes.specs.GraphEdges.{edge_form, edge_lines, edge_value, waits_for};
+ghost use Rattle.guppy_feature_nodes.specs.GraphEdges.{edge_form, edge_lines, edge_value};
 ghost use Rattle.guppy_feature_nodes.specs.EdgeLinkViews.{AreEdgeLinks};
 
 use crate::edge_links::EdgeLinks;
@@ -77,17 +77,14 @@ fn feature_edge<'g>(
         EdgeKind::NamedFeature => FeatureEdge::NamedFeature,
         EdgeKind::NamedFeatureDepColon => FeatureEdge::NamedFeatureDepColon,
         EdgeKind::StrongSlash(_) => FeatureEdge::strong(lines),
-        EdgeKind::WeakSlash(name) => FeatureEdge::weak(lines, waits_for(nodes, head.from, name)),
+        EdgeKind::WeakSlash(name) => {
+            // The node of the optional dependency that a feature's weak entry names.
+            let dep = match nodes.ids().get(head.from) {
+                Some(id) => nodes.number_of(FeatureName::dep(id.package_id().repr(), name)),
+                None => nodes.len(),
+            };
+            FeatureEdge::weak(lines, dep)
+        }
         EdgeKind::DependenciesSection => FeatureEdge::by_lines(lines),
-    }
-}
-
-// The node of the optional dependency that a feature's weak entry names.
-fn waits_for(nodes: &NodeTable<'_>, from: usize, name: &str) -> usize
-    ensures { result ≡ waits_for nodes.now from name.now }
-{
-    match nodes.ids().get(from) {
-        Some(id) => nodes.number_of(FeatureName::dep(id.package_id().repr(), name)),
-        None => nodes.len(),
     }
 }

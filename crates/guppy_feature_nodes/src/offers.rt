@@ -1,10 +1,10 @@
 //! Edges between nodes as they are offered in a direction.
 
-ghost use Rattle.std.specs.Prelude.{◌≡◌, IfOk, length, map};
+ghost use Rattle.std.specs.Prelude.{◌≡◌, IfOk, map};
 ghost use Rattle.guppy_feature_nodes.specs.EdgeViews.{edge_view};
 ghost use Rattle.guppy_feature_nodes.specs.GraphEdges.{AreEdgesWithin};
 ghost use Rattle.guppy_feature_nodes.specs.Lines.{is_declared};
-ghost use Rattle.guppy_feature_nodes.specs.Offering.{may_come, offer_edge, offer_edges, sort_of, weak_sort};
+ghost use Rattle.guppy_feature_nodes.specs.Offering.{offer_edges, sort_of, weak_sort};
 
 use crate::edge_lines::declares_at;
 use crate::feature_edge::{FeatureEdge, SlashForm};
@@ -45,19 +45,13 @@ fn offer_edges(
 {
     let mut offers = Vec::with_capacity(alloc, edges.len())?;
     for edge in edges {
-        offers.push(offer_edge(direction, nodes, links, edge))?;
+        offers.push(Edge {
+            from: edge.from,
+            to: edge.to,
+            sort: sort_of(direction, nodes, links, edge),
+        })?;
     }
     Ok(offers)
-}
-
-fn offer_edge(direction: Direction, nodes: usize, links: &[LinkRow], edge: &NodeEdge) -> Edge
-    ensures { result ≡ offer_edge direction nodes links.now (edge_view edge.now) }
-{
-    Edge {
-        from: edge.from,
-        to: edge.to,
-        sort: sort_of(direction, nodes, links, edge),
-    }
 }
 
 fn sort_of(direction: Direction, nodes: usize, links: &[LinkRow], edge: &NodeEdge) -> EdgeSort
@@ -91,16 +85,7 @@ fn weak_sort(
     EdgeSort::Weak {
         dep: if dep < nodes { dep } else { edge.from },
         required,
-        optional: may_come(direction, nodes, dep) && optional,
-    }
-}
-
-fn may_come(direction: Direction, nodes: usize, dep: usize) -> bool
-    ensures { result ≡ may_come direction nodes dep }
-{
-    match direction {
-        Direction::Forward => dep < nodes,
-        Direction::Reverse => true,
+        optional: (direction == Direction::Reverse || dep < nodes) && optional,
     }
 }
 

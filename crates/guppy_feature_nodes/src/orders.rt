@@ -1,13 +1,11 @@
 //! Edges as links between nodes, the order in which the nodes are listed, and the default features.
 
-ghost use Rattle.std.specs.Prelude.{◌≡◌, ◌↔◌, ◌<◌, ℕ, [], All, IfOk, IsTrue, length, map, nat_lt, slice_index_or};
+ghost use Rattle.std.specs.Prelude.{◌≡◌, ◌<◌, [], All, IfOk, length, map, slice_index_or};
 ghost use Rattle.std.specs.List.{list_any};
-ghost use Rattle.numbered_graph.specs.Listings.{IsListing};
-ghost use Rattle.numbered_graph.specs.Sets.{has};
 ghost use Rattle.guppy_feature_demands.specs.Nodes.{base_of};
 ghost use Rattle.guppy_feature_nodes.specs.EdgeViews.{edge_view, form_view};
 ghost use Rattle.guppy_feature_nodes.specs.GraphEdges.{AreEdgesWithin, edge_ends};
-ghost use Rattle.guppy_feature_nodes.specs.Orders.{IsDefaultAmong, default_starts, firm_edges, is_firm_edge, is_firm_line, is_naming, naming_edges, starts_defaults};
+ghost use Rattle.guppy_feature_nodes.specs.Orders.{default_starts, firm_edges, is_firm_edge, is_firm_line, is_naming, naming_edges, starts_defaults};
 ghost use Rattle.guppy_feature_nodes.specs.OrderViews.{AreOrders};
 
 use crate::edge_lines::line_at;
@@ -50,31 +48,18 @@ pub(crate) fn orders_of(
     requires { AreEdgesWithin (length nodes.now) links.now (map edge_view edges.now) }
     ensures { IfOk result (AreOrders links.now nodes.now (map edge_view edges.now)) }
 {
-    let graph = graph_of(alloc, nodes.len(), links, edges)?;
-    let listing = listing_of(alloc, &graph, links, edges)?;
-    let defaults = defaults_of(alloc, nodes, &graph, edges)?;
+    let ends = ends_of(alloc, edges)?;
+    let graph = Graph::new(alloc, nodes.len(), ends)?;
+    let firm = firm_edges(alloc, links, edges)?;
+    let listing = listing(alloc, &graph, &firm)?;
+    let starts = default_starts(alloc, nodes)?;
+    let naming = naming_edges(alloc, edges)?;
+    let defaults = reach_over(alloc, &graph, &starts, Direction::Forward, &naming)?;
     Ok(Orders {
         graph,
         listing,
         defaults,
     })
-}
-
-fn graph_of(
-    alloc: Global,
-    nodes: usize,
-    links: &[LinkRow],
-    edges: &[NodeEdge],
-) -> Result<Graph, AllocError>
-    requires { AreEdgesWithin nodes links.now (map edge_view edges.now) }
-    ensures { IfOk result (λ g. g ≡ record {
-      nodes = nodes;
-      links = edge_ends (map edge_view edges.now);
-    }) }
-{
-    let ends = ends_of(alloc, edges)?;
-    let graph = Graph::new(alloc, nodes, ends)?;
-    Ok(graph)
 }
 
 fn ends_of(alloc: Global, edges: &[NodeEdge]) -> Result<Vec<Link>, AllocError>
@@ -88,22 +73,6 @@ fn ends_of(alloc: Global, edges: &[NodeEdge]) -> Result<Vec<Link>, AllocError>
         })?;
     }
     Ok(ends)
-}
-
-fn listing_of(
-    alloc: Global,
-    graph: &Graph,
-    links: &[LinkRow],
-    edges: &[NodeEdge],
-) -> Result<Vec<usize>, AllocError>
-    requires { length graph.now.links ≡ length edges.now }
-    ensures { IfOk result (λ xs. IsListing graph.now.links
-        (has (firm_edges links.now (map edge_view edges.now))) (λ v. nat_lt v graph.now.nodes)
-        xs.items) }
-{
-    let firm = firm_edges(alloc, links, edges)?;
-    let order = listing(alloc, graph, &firm)?;
-    Ok(order)
 }
 
 fn firm_edges(alloc: Global, links: &[LinkRow], edges: &[NodeEdge]) -> Result<Vec<bool>, AllocError>
@@ -135,23 +104,6 @@ fn is_firm_line(links: &[LinkRow], place: (usize, usize)) -> bool
         Some(line) => line.kind != LineKind::Dev,
         None => false,
     }
-}
-
-fn defaults_of(
-    alloc: Global,
-    nodes: &NodeTable<'_>,
-    graph: &Graph,
-    edges: &[NodeEdge],
-) -> Result<NodeSet, AllocError>
-    requires nodes { graph.now.nodes ≡ length nodes.now }
-    requires links { graph.now.links ≡ edge_ends (map edge_view edges.now) }
-    ensures { IfOk result (λ set. (v : ℕ) → IsTrue (has set v)
-        ↔ IsDefaultAmong nodes.now (map edge_view edges.now) v) }
-{
-    let starts = default_starts(alloc, nodes)?;
-    let naming = naming_edges(alloc, edges)?;
-    let defaults = reach_over(alloc, graph, &starts, Direction::Forward, &naming)?;
-    Ok(defaults)
 }
 
 fn naming_edges(alloc: Global, edges: &[NodeEdge]) -> Result<Vec<bool>, AllocError>

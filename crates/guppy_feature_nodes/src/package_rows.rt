@@ -1,10 +1,9 @@
 //! The rows of a package graph's packages, each with its id.
 
-ghost use Rattle.std.specs.Prelude.{◌≡◌, ◌≢◌, AllPairs, IfOk, Some, map, slice_get};
-ghost use Rattle.guppy_package_graph.specs.Views.{graph_of, place_of};
+ghost use Rattle.std.specs.Prelude.{◌≡◌, ◌≢◌, AllPairs, IfOk, map};
 
 use guppy_feature_demands::PackageAt;
-use guppy_package_graph::{PackageGraph, PackageMetadata};
+use guppy_package_graph::PackageGraph;
 use std::alloc::{AllocError, Global};
 
 /// The packages' rows, in their order; no two have one id.
@@ -19,14 +18,7 @@ pub(crate) fn package_rows<'g>(
     let mut rows: Vec<PackageAt<'g>> = Vec::with_capacity(alloc, count)?;
     let mut packages = graph.packages();
     while let Some(metadata) = packages.next() {
-        rows.push(package_at(metadata))?;
+        rows.push(PackageAt::new(metadata.id(), metadata.row()))?;
     }
     Ok(rows)
-}
-
-fn package_at<'g>(metadata: PackageMetadata<'g>) -> PackageAt<'g>
-    ensures { slice_get (graph_of metadata.entry).packages (place_of metadata.entry)
-        ≡ Some result.row.now }
-{
-    PackageAt::new(metadata.id(), metadata.row())
 }

@@ -20,7 +20,12 @@ pub(crate) fn weights_of<'g>(
     ensures { IfOk result (λ set. FindsWeights (map numbered_view demands.now)
         (map key_view set.keys)) }
 {
-    let mut set: IndexSet<EdgeKey<'g>> = IndexSet::with_capacity(alloc, weight_count(demands))?;
+    // Most have no such weight, as they stand on lines.
+    let count = demands
+        .iter()
+        .filter(|demand| EdgeKey::weight(**demand).sort < 2)
+        .count();
+    let mut set: IndexSet<EdgeKey<'g>> = IndexSet::with_capacity(alloc, count)?;
     let filled = insert_weights(&mut set, demands);
     filled.and(Ok(set))
 }
@@ -38,14 +43,6 @@ fn insert_weights<'g>(
         insert_weight(set, *demand)?;
     }
     Ok(())
-}
-
-/// How many of the demands have such a weight: most do not, as they stand on lines.
-fn weight_count(demands: &[NumberedDemand<'_>]) -> usize {
-    demands
-        .iter()
-        .filter(|demand| EdgeKey::weight(**demand).sort < 2)
-        .count()
 }
 
 fn insert_weight<'g>(

@@ -29,7 +29,10 @@ pub fn in_root_order<'g>(
 {
     let mut places = root_places(alloc, built, nodes)?;
     places.sort_unstable();
-    let ordered = nodes_at(alloc, &places)?;
+    let mut ordered = Vec::with_capacity(alloc, places.len())?;
+    for place in &places {
+        ordered.push(place.node)?;
+    }
     Ok(ordered)
 }
 
@@ -47,31 +50,11 @@ fn root_places<'g>(
 {
     let mut places: Vec<RootPlace<'g>> = Vec::with_capacity(alloc, nodes.len())?;
     for node in nodes {
-        places.push(root_place(built, *node))?;
+        places.push(RootPlace {
+            place: built.place_at(*node),
+            label: built.feature_at(*node).label(),
+            node: *node,
+        })?;
     }
     Ok(places)
-}
-
-// What a feature with this number is sorted by.
-fn root_place<'g>(built: &'g FeatureGraphData<'g>, node: usize) -> RootPlace<'g>
-    requires { node < length built.now.nodes }
-    ensures place { place_view result ≡ place_at built.entry.now node }
-    ensures features { built.entry.now.nodes ≡ nodes_of built.entry.now.rows.packages }
-{
-    RootPlace {
-        place: built.place_at(node),
-        label: built.feature_at(node).label(),
-        node,
-    }
-}
-
-// The numbers of the features at these places.
-fn nodes_at(alloc: Global, places: &[RootPlace<'_>]) -> Result<Vec<usize>, AllocError>
-    ensures { IfOk result (λ nodes. nodes.items ≡ map (λ p. p.node) places.now) }
-{
-    let mut nodes = Vec::with_capacity(alloc, places.len())?;
-    for place in places {
-        nodes.push(place.node)?;
-    }
-    Ok(nodes)
 }

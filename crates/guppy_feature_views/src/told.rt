@@ -59,21 +59,11 @@ pub fn edges_told<'g>(
         numbers.len(),
     )?;
     for number in numbers {
-        edges.push(edge_told(built, *number))?;
+        let edge = built.edge(*number);
+        let (from, to) = (built.feature_at(edge.from), built.feature_at(edge.to));
+        edges.push((from, to, &edge.edge))?;
     }
     Ok(edges)
-}
-
-fn edge_told<'g>(
-    built: &'g FeatureGraphData<'g>,
-    number: usize,
-) -> (FeatureId<'g>, FeatureId<'g>, &'g FeatureEdge)
-    requires { number < length built.now.edges }
-    ensures { told_view result ≡ told_at built.entry.now number }
-{
-    let edge = built.edge(number);
-    let (from, to) = (built.feature_at(edge.from), built.feature_at(edge.to));
-    (from, to, &edge.edge)
 }
 
 /// Those of the edges with these numbers that stand on lines, each as one link.
@@ -88,16 +78,9 @@ pub fn links_at<'g>(
 {
     let mut links: Vec<ConditionalLink<'g>> = Vec::new(alloc);
     for number in numbers {
-        if is_conditional(built, *number) {
+        if !built.edge(*number).edge.is_unconditional() {
             links.push(ConditionalLink::at(built, *number, LinkDeclarations::Unsplit))?;
         }
     }
     Ok(links)
-}
-
-fn is_conditional(built: &FeatureGraphData<'_>, number: usize) -> bool
-    requires { number < length built.now.edges }
-    ensures { result ≡ is_conditional built.now number }
-{
-    !built.edge(number).edge.is_unconditional()
 }

@@ -1,4 +1,4 @@
-use Rattle.std.proofs.Common.{List, All, subst, sym}
+use Rattle.std.proofs.Common.{All, subst, sym}
 use Rattle.std.proofs.lemmas.List.Elements.{All-push}
 use Rattle.guppy_feature_nodes.specs.JoinedViews.{joined_view}
 use Rattle.guppy_feature_nodes.specs.EdgeViews.{edge_view}

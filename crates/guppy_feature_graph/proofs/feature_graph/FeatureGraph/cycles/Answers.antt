@@ -1,4 +1,4 @@
-use Rattle.std.proofs.Common.{◌≡◌, ◌∙◌, ◌<◌, ℕ, List, Vec, Global, Contains, ap, flat_map, get_or, length, map, subst, sym}
+use Rattle.std.proofs.Common.{◌≡◌, ◌∙◌, ◌<◌, ℕ, Vec, Global, Contains, ap, flat_map, get_or, length, map, subst, sym}
 use Rattle.std.proofs.lemmas.List.Elements.{Contains-get_or}
 use Rattle.list_facts.proofs.Membership.{Contains-flat_map}
 use Rattle.list_facts.proofs.Quantifiers.{All-from_Contains}

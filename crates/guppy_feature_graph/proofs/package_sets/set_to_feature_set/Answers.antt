@@ -1,7 +1,7 @@
 use Rattle.std.proofs.Common.{refl}
 use Rattle.guppy_feature_graph.proofs.SetFacts.{ok_is}
 use Rattle.guppy_feature_graph.proofs.TakeFacts.{judged_by}
-use Rattle.guppy_feature_graph.proofs.filtered.set_by_filter.Goals as goal
+use Rattle.guppy_feature_graph.proofs.package_sets.set_to_feature_set.Goals as goal
 
 pub returns-in-Ok-clause-ok : goal.returns-in-Ok-clause-ok
 returns-in-Ok-clause-ok g c =
