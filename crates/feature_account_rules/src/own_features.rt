@@ -31,22 +31,10 @@ fn push_own_features<'a>(
 ) -> Result<(), AllocError>
     ensures { OnOk result (features.new.items ≡ features.old.items ++ own_features row.entry.now) }
 {
-    push_named(row.id.as_str(), &row.features, features)?;
-    push_dependencies(row.id.as_str(), &row.optional, features)?;
-    Ok(())
-}
-
-fn push_named<'a>(
-    id: &'a str,
-    named: &'a [FeatureRecord],
-    features: &mut Vec<FeatureRef<'a>>,
-) -> Result<(), AllocError>
-    ensures { OnOk result (features.new.items
-        ≡ features.old.items ++ map (λ f. named_of id.entry.now f.name) named.entry.now) }
-{
-    for feature in named {
-        features.push(FeatureRef::named(id, feature.name.as_str()))?;
+    for feature in &row.features {
+        features.push(FeatureRef::named(row.id.as_str(), feature.name.as_str()))?;
     }
+    push_dependencies(row.id.as_str(), &row.optional, features)?;
     Ok(())
 }
 
@@ -64,19 +52,6 @@ fn push_dependencies<'a>(
     Ok(())
 }
 
-fn push_default<'a>(
-    owner: &PackageIndex<'a>,
-    features: &mut Vec<FeatureRef<'a>>,
-) -> Result<(), AllocError>
-    ensures { OnOk result (features.new.items ≡ features.old.items ++ default_features owner.now) }
-{
-    if owner.has_feature(DEFAULT) {
-        let row = owner.row();
-        features.push(FeatureRef::named(row.id.as_str(), DEFAULT))?;
-    }
-    Ok(())
-}
-
 fn push_standard<'a>(
     standard: Standard,
     owner: &PackageIndex<'a>,
@@ -87,7 +62,13 @@ fn push_standard<'a>(
 {
     match standard {
         Standard::None => Ok(()),
-        Standard::Default => push_default(owner, features),
+        Standard::Default => {
+            if owner.has_feature(DEFAULT) {
+                let row = owner.row();
+                features.push(FeatureRef::named(row.id.as_str(), DEFAULT))?;
+            }
+            Ok(())
+        }
         Standard::All => push_own_features(owner.row(), features),
     }
 }
