@@ -134,11 +134,17 @@ fn packages_among<'a>(
 {
     let mut among: Vec<&'a PackageRecord> = Vec::new(alloc);
     for row in packages {
-        if ids.contains(row.id.as_str()) {
+        if has_id_among(ids, row) {
             among.push(row)?;
         }
     }
     Ok(among)
+}
+
+fn has_id_among(ids: &IndexSet<&str>, row: &PackageRecord) -> bool
+    ensures { result ≡ finds ids.now row.now.id }
+{
+    ids.contains(row.id.as_str())
 }
 
 fn push_binaries<'a>(
