@@ -2,13 +2,12 @@
 
 ghost use Rattle.std.specs.Prelude.{◌≡◌, ◌++◌, OnOk, IfOk, map, string_bytes};
 ghost use Rattle.std.specs.List.{flat_map};
-ghost use Rattle.feature_account_rules.specs.RuleList.{named_of, dep_of, own_features, default_features, standard_features, member_features, chosen_features};
+ghost use Rattle.feature_account_rules.specs.RuleList.{dep_of, own_features, standard_features, member_features, chosen_features};
 
 use crate::feature_ref::{FeatureRef, copies_of};
 use std::alloc::{AllocError, Global};
 use workspace_record::{
-    Feature, FeatureChoice, FeatureRecord, PackageIndex, PackageRecord, RecordIndex, Standard,
-    WorkspaceRecord,
+    Feature, FeatureChoice, PackageIndex, PackageRecord, RecordIndex, Standard, WorkspaceRecord,
 };
 
 /// The feature that Cargo switches on by default.

@@ -4,9 +4,8 @@ ghost use Rattle.std.specs.Prelude.{◌≡◌, [], ◌∷◌, ◌++◌, OnOk, If
 ghost use Rattle.std.specs.List.{flat_map};
 ghost use Rattle.workspace_record.specs.EntryView.{entry_view};
 ghost use Rattle.workspace_record.specs.Entries.{entry_value};
-ghost use Rattle.workspace_record.specs.LinkNames.{link_view};
 ghost use Rattle.feature_account_rules.specs.Lines.{counts, counting_lines};
-ghost use Rattle.feature_account_rules.specs.RuleList.{given, implies, named_of, dep_of, has_feature, has_optional, base_rules, target_has, is_slash_link, slash_lines, dependency_features, strong_targets, strong_features, weak_rule, weak_rules, rules_of_entry, feature_rules, entry_rules, line_start, asked_features, line_features, line_rules, link_rules, rule_list};
+ghost use Rattle.feature_account_rules.specs.RuleList.{given, implies, named_of, dep_of, has_feature, has_optional, base_rules, is_slash_link, slash_lines, dependency_features, strong_targets, strong_features, weak_rule, weak_rules, rules_of_entry, feature_rules, entry_rules, line_start, asked_features, line_features, line_rules, link_rules, rule_list};
 
 use crate::feature_ref::FeatureRef;
 use crate::lent_rule::{LentRule, copies_of};
@@ -15,8 +14,8 @@ use crate::own_features::{DEFAULT, chosen_by, own_features};
 use crate::rule::Rule;
 use std::alloc::{AllocError, Global};
 use workspace_record::{
-    Entry, FeatureChoice, FeatureRecord, LentLink, LineRecord, LinkRecord, PackageIndex,
-    PackageRecord, PlatformTable, RecordIndex, WorkspaceRecord, entry_of,
+    Entry, FeatureChoice, FeatureRecord, LineRecord, LinkRecord, PackageIndex, PackageRecord,
+    PlatformTable, RecordIndex, WorkspaceRecord, entry_of,
 };
 
 /// The rules by which Cargo switches features on, numbered from 0: those of the choice, then those
