@@ -31,31 +31,17 @@ pub fn explanation_of(
     ensures in_order { IfOk result (λ o. IfSome o (λ v. IsSublist v.items account.now)) }
 {
     let lent = lend_rules(alloc, rules)?;
-    let entries = needed_entries(alloc, &lent, account, &FeatureRef::of(feature))?;
+    let goal = FeatureRef::of(feature);
+    let mut needed: IndexSet<&FeatureRef<'_>> = IndexSet::new(alloc);
+    let entries = entries_by(alloc, &lent, account, &goal, &mut needed)?;
     if entries.is_empty() {
         return Ok(None);
     }
     Ok(Some(entries))
 }
 
-// The entries of which each concludes the goal or a premise of a later one, in the order of the account.
-fn needed_entries(
-    alloc: Global,
-    rules: &[LentRule<'_>],
-    account: &[usize],
-    goal: &FeatureRef<'_>,
-) -> Result<Vec<usize>, AllocError>
-    requires sound { IsSound rules.now account.now }
-    ensures none { IfOk result (λ v. v.items ≡ []
-        → concludes rules.now account.now goal.now ≡ false) }
-    ensures explains { IfOk result (λ v. v.items ≢ [] → IsExplanation rules.now goal.now v.items) }
-    ensures in_order { IfOk result (λ v. IsSublist v.items account.now) }
-{
-    let mut needed: IndexSet<&FeatureRef<'_>> = IndexSet::new(alloc);
-    entries_by(alloc, rules, account, goal, &mut needed)
-}
-
-// Goes from the end, and takes each entry whose conclusion is the goal or a premise of one taken.
+// The entries of which each concludes the goal or a premise of a later one, in the order of the account: it goes
+// from the end.
 fn entries_by<'r, 'a>(
     alloc: Global,
     rules: &'r [LentRule<'a>],

@@ -37,24 +37,9 @@ pub fn account_of_lent(alloc: Global, rules: &[LentRule<'_>]) -> Result<Account,
     ensures looks { IfOk result (λ a. IsLooksOf rules.now a.rules.items a.looks) }
 {
     let waiting = waiting_rules(alloc, rules)?;
-    account_by(alloc, rules, &waiting)
-}
-
-/// The same, where it is known which rules wait for a feature.
-fn account_by<'r, 'a>(
-    alloc: Global,
-    rules: &'r [LentRule<'a>],
-    waiting: &IndexMap<&'r FeatureRef<'a>, Vec<usize>>,
-) -> Result<Account, AllocError>
-    requires waiting { IsWaiting rules.now waiting.now }
-    ensures lowest { IfOk result (λ a. IsLowestAccount rules.entry.now a.rules.items) }
-    ensures on { IfOk result (λ a. (f : FeatureValue)
-        → IsTrue (concludes rules.entry.now a.rules.items f) ↔ IsOn rules.entry.now f) }
-    ensures looks { IfOk result (λ a. IsLooksOf rules.entry.now a.rules.items a.looks) }
-{
     let mut ready = RuleQueue::each(alloc, rules.len());
     let mut found = IndexSet::new(alloc);
-    look_at_each(alloc, rules, waiting, &mut ready, &mut found)
+    look_at_each(alloc, rules, &waiting, &mut ready, &mut found)
 }
 
 /// Looks at each rule that is ready, and puts those that may stand into the account, until none is ready.

@@ -37,23 +37,12 @@ impl RuleQueue {
     {
         match self.woken.pop_first() {
             Some(number) => Some(number),
-            None => self.take_next(),
-        }
-    }
-
-    /// Takes out the next number that was never looked at, where none is woken.
-    fn take_next(&mut self) -> Option<usize>
-        requires ready { IsReady self.old }
-        requires none_woken { self.old.woken.keys ≡ [] }
-        ensures least { IfSome result (IsTakenLeast self.old self.new) }
-        ensures none { IfNone result (size self.old ≡ 0) }
-    {
-        let number = self.next;
-        if number < self.count {
-            self.next = number + 1;
-            Some(number)
-        } else {
-            None
+            None if self.next < self.count => {
+                let number = self.next;
+                self.next = number + 1;
+                Some(number)
+            }
+            None => None,
         }
     }
 

@@ -2,13 +2,12 @@
 
 ghost use Rattle.std.specs.Prelude.{◌≡◌, ◌++◌, OnOk, IfOk, map, string_bytes};
 ghost use Rattle.std.specs.List.{flat_map};
-ghost use Rattle.feature_account_rules.specs.RuleList.{named_of, dep_of, own_features, default_features, standard_features, member_features, chosen_features};
+ghost use Rattle.feature_account_rules.specs.RuleList.{dep_of, own_features, standard_features, member_features, chosen_features};
 
 use crate::feature_ref::{FeatureRef, copies_of};
 use std::alloc::{AllocError, Global};
 use workspace_record::{
-    Feature, FeatureChoice, FeatureRecord, PackageIndex, PackageRecord, RecordIndex, Standard,
-    WorkspaceRecord,
+    Feature, FeatureChoice, PackageIndex, PackageRecord, RecordIndex, Standard, WorkspaceRecord,
 };
 
 /// The feature that Cargo switches on by default.
@@ -31,22 +30,10 @@ fn push_own_features<'a>(
 ) -> Result<(), AllocError>
     ensures { OnOk result (features.new.items ≡ features.old.items ++ own_features row.entry.now) }
 {
-    push_named(row.id.as_str(), &row.features, features)?;
-    push_dependencies(row.id.as_str(), &row.optional, features)?;
-    Ok(())
-}
-
-fn push_named<'a>(
-    id: &'a str,
-    named: &'a [FeatureRecord],
-    features: &mut Vec<FeatureRef<'a>>,
-) -> Result<(), AllocError>
-    ensures { OnOk result (features.new.items
-        ≡ features.old.items ++ map (λ f. named_of id.entry.now f.name) named.entry.now) }
-{
-    for feature in named {
-        features.push(FeatureRef::named(id, feature.name.as_str()))?;
+    for feature in &row.features {
+        features.push(FeatureRef::named(row.id.as_str(), feature.name.as_str()))?;
     }
+    push_dependencies(row.id.as_str(), &row.optional, features)?;
     Ok(())
 }
 
@@ -64,19 +51,6 @@ fn push_dependencies<'a>(
     Ok(())
 }
 
-fn push_default<'a>(
-    owner: &PackageIndex<'a>,
-    features: &mut Vec<FeatureRef<'a>>,
-) -> Result<(), AllocError>
-    ensures { OnOk result (features.new.items ≡ features.old.items ++ default_features owner.now) }
-{
-    if owner.has_feature(DEFAULT) {
-        let row = owner.row();
-        features.push(FeatureRef::named(row.id.as_str(), DEFAULT))?;
-    }
-    Ok(())
-}
-
 fn push_standard<'a>(
     standard: Standard,
     owner: &PackageIndex<'a>,
@@ -87,7 +61,13 @@ fn push_standard<'a>(
 {
     match standard {
         Standard::None => Ok(()),
-        Standard::Default => push_default(owner, features),
+        Standard::Default => {
+            if owner.has_feature(DEFAULT) {
+                let row = owner.row();
+                features.push(FeatureRef::named(row.id.as_str(), DEFAULT))?;
+            }
+            Ok(())
+        }
         Standard::All => push_own_features(owner.row(), features),
     }
 }

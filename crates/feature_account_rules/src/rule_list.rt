@@ -4,9 +4,8 @@ ghost use Rattle.std.specs.Prelude.{◌≡◌, [], ◌∷◌, ◌++◌, OnOk, If
 ghost use Rattle.std.specs.List.{flat_map};
 ghost use Rattle.workspace_record.specs.EntryView.{entry_view};
 ghost use Rattle.workspace_record.specs.Entries.{entry_value};
-ghost use Rattle.workspace_record.specs.LinkNames.{link_view};
 ghost use Rattle.feature_account_rules.specs.Lines.{counts, counting_lines};
-ghost use Rattle.feature_account_rules.specs.RuleList.{given, implies, named_of, dep_of, has_feature, has_optional, base_rules, target_has, is_slash_link, slash_lines, dependency_features, strong_targets, strong_features, weak_rule, weak_rules, rules_of_entry, feature_rules, entry_rules, line_start, asked_features, line_features, line_rules, link_rules, rule_list};
+ghost use Rattle.feature_account_rules.specs.RuleList.{given, implies, named_of, dep_of, has_feature, has_optional, base_rules, is_slash_link, slash_lines, dependency_features, strong_targets, strong_features, weak_rule, weak_rules, rules_of_entry, feature_rules, entry_rules, line_start, asked_features, line_features, line_rules, link_rules, rule_list};
 
 use crate::feature_ref::FeatureRef;
 use crate::lent_rule::{LentRule, copies_of};
@@ -15,8 +14,8 @@ use crate::own_features::{DEFAULT, chosen_by, own_features};
 use crate::rule::Rule;
 use std::alloc::{AllocError, Global};
 use workspace_record::{
-    Entry, FeatureChoice, FeatureRecord, LentLink, LineRecord, LinkRecord, PackageIndex,
-    PackageRecord, PlatformTable, RecordIndex, WorkspaceRecord, entry_of,
+    Entry, FeatureChoice, FeatureRecord, LineRecord, LinkRecord, PackageIndex, PackageRecord,
+    PlatformTable, RecordIndex, WorkspaceRecord, entry_of,
 };
 
 /// The rules by which Cargo switches features on, numbered from 0: those of the choice, then those
@@ -66,26 +65,11 @@ pub fn lent_rules<'a>(
 {
     let mut rules = Vec::new(alloc);
     let links = &index.record().links;
-    push_rules(alloc, index, links, choice, table, &mut rules)?;
+    push_given(chosen_by(alloc, index, choice)?, &mut rules)?;
+    push_packages_base_rules(alloc, index.packages(), &mut rules)?;
+    push_packages_entry_rules(alloc, index, table, index.packages(), &mut rules)?;
+    push_links_rules(alloc, index, table, links, &mut rules)?;
     Ok(rules)
-}
-
-fn push_rules<'a>(
-    alloc: Global,
-    index: &RecordIndex<'a>,
-    links: &'a [LinkRecord],
-    choice: &'a FeatureChoice,
-    table: &PlatformTable,
-    rules: &mut Vec<LentRule<'a>>,
-) -> Result<(), AllocError>
-    requires { links.now ≡ (index.now).links }
-    ensures { OnOk result (rules.new.items
-        ≡ rules.old.items ++ rule_list index.now choice.entry.now table.now) }
-{
-    push_given(chosen_by(alloc, index, choice)?, rules)?;
-    push_packages_base_rules(alloc, index.packages(), rules)?;
-    push_packages_entry_rules(alloc, index, table, index.packages(), rules)?;
-    push_links_rules(alloc, index, table, links, rules)
 }
 
 fn push_given<'a>(
@@ -150,35 +134,13 @@ fn counting_lines<'a>(
     ensures { IfOk result (λ v. map (λ l. l.now) v.items
         ≡ counting_lines index.now table.now link.entry.now) }
 {
-    lines_that_count(alloc, index, table, link.from.as_str(), &link.lines)
-}
-
-fn lines_that_count<'a>(
-    alloc: Global,
-    index: &RecordIndex<'_>,
-    table: &PlatformTable,
-    source: &str,
-    lines: &'a [LineRecord],
-) -> Result<Vec<&'a LineRecord>, AllocError>
-    ensures { IfOk result (λ v. map (λ l. l.now) v.items
-        ≡ filter (counts index.now table.now source.now) lines.entry.now) }
-{
     let mut counting: Vec<&'a LineRecord> = Vec::new(alloc);
-    for line in lines {
-        if counts(index, table, source, line) {
+    for line in &link.lines {
+        if counts(index, table, link.from.as_str(), line) {
             counting.push(line)?;
         }
     }
     Ok(counting)
-}
-
-fn target_has(index: &RecordIndex<'_>, link: &LinkRecord, name: &str) -> bool
-    ensures { result ≡ target_has index.now link.now name.now }
-{
-    match index.package_of(link.to.as_str()) {
-        Some(target) => target.has_feature(name),
-        None => false,
-    }
 }
 
 /// An entry with a slash of a feature of a owner.
@@ -214,7 +176,10 @@ fn is_slash_link(index: &RecordIndex<'_>, entry: SlashEntry<'_>, link: &LinkReco
     let row = entry.row;
     row.id == link.from
         && entry.name == link.name.as_str()
-        && target_has(index, link, entry.feature)
+        && match index.package_of(link.to.as_str()) {
+            Some(target) => target.has_feature(entry.feature),
+            None => false,
+        }
 }
 
 fn push_dependency_features<'a>(
@@ -235,22 +200,6 @@ fn push_dependency_features<'a>(
     Ok(())
 }
 
-fn push_targets<'a>(
-    id: &'a str,
-    name: &'a str,
-    lines: &[&LineRecord],
-    features: &mut Vec<FeatureRef<'a>>,
-) -> Result<(), AllocError>
-    ensures { OnOk result (features.new.items
-        ≡ features.old.items ++ map (λ _. named_of id.entry.now name.entry.now)
-        (map (λ l. l.now) lines.now)) }
-{
-    for _line in lines {
-        features.push(FeatureRef::named(id, name))?;
-    }
-    Ok(())
-}
-
 fn push_strong_targets<'a>(
     alloc: Global,
     index: &RecordIndex<'_>,
@@ -264,24 +213,8 @@ fn push_strong_targets<'a>(
         entry.entry.name.now entry.entry.feature.now link.entry.now) }
 {
     let lines = slash_lines(alloc, index, table, entry, link)?;
-    push_targets(link.to.as_str(), entry.feature, &lines, features)
-}
-
-fn push_named_targets<'a>(
-    alloc: Global,
-    index: &RecordIndex<'_>,
-    table: &PlatformTable,
-    entry: SlashEntry<'a>,
-    links: &[LentLink<'a>],
-    features: &mut Vec<FeatureRef<'a>>,
-) -> Result<(), AllocError>
-    ensures { OnOk result (features.new.items
-        ≡ features.old.items ++ flat_map
-        (strong_targets index.now table.now entry.entry.row.now entry.entry.name.now
-        entry.entry.feature.now) (map link_view links.now)) }
-{
-    for link in links {
-        push_strong_targets(alloc, index, table, entry, link.row, features)?;
+    for _line in &lines {
+        features.push(FeatureRef::named(link.to.as_str(), entry.feature))?;
     }
     Ok(())
 }
@@ -300,7 +233,12 @@ fn push_links_targets<'a>(
 {
     let row = entry.row;
     match index.links_named(row.id.as_str(), entry.name) {
-        Some(links) => push_named_targets(alloc, index, table, entry, links, features),
+        Some(links) => {
+            for link in links {
+                push_strong_targets(alloc, index, table, entry, link.row, features)?;
+            }
+            Ok(())
+        }
         None => Ok(()),
     }
 }
@@ -340,24 +278,6 @@ fn weak_rule<'a>(
     } else {
         LentRule::implies(premise.again(), conclusion)
     }
-}
-
-fn push_weak_rules<'a>(
-    premise: &FeatureRef<'a>,
-    row: &'a PackageRecord,
-    name: &'a str,
-    target: &FeatureRef<'a>,
-    lines: &[&LineRecord],
-    rules: &mut Vec<LentRule<'a>>,
-) -> Result<(), AllocError>
-    ensures { OnOk result (rules.new.items
-        ≡ rules.old.items ++ map (weak_rule premise.now row.entry.now name.entry.now target.now)
-        (map (λ l. l.now) lines.now)) }
-{
-    for line in lines {
-        rules.push(weak_rule(premise, row, name, target.again(), line))?;
-    }
-    Ok(())
 }
 
 fn push_own_feature<'a>(
@@ -439,25 +359,8 @@ fn push_link_weak_rules<'a>(
 {
     let lines = slash_lines(alloc, index, table, entry, link)?;
     let target = FeatureRef::named(link.to.as_str(), entry.feature);
-    push_weak_rules(premise, entry.row, entry.name, &target, &lines, rules)
-}
-
-fn push_named_weak_rules<'a>(
-    alloc: Global,
-    index: &RecordIndex<'_>,
-    table: &PlatformTable,
-    premise: &FeatureRef<'a>,
-    entry: SlashEntry<'a>,
-    links: &[LentLink<'a>],
-    rules: &mut Vec<LentRule<'a>>,
-) -> Result<(), AllocError>
-    ensures { OnOk result (rules.new.items
-        ≡ rules.old.items ++ flat_map
-        (weak_rules index.now table.now entry.entry.row.now premise.now entry.entry.name.now
-        entry.entry.feature.now) (map link_view links.now)) }
-{
-    for link in links {
-        push_link_weak_rules(alloc, index, table, premise, entry, link.row, rules)?;
+    for line in &lines {
+        rules.push(weak_rule(premise, entry.row, entry.name, target.again(), line))?;
     }
     Ok(())
 }
@@ -477,7 +380,12 @@ fn push_weak_entry<'a>(
 {
     let row = entry.row;
     match index.links_named(row.id.as_str(), entry.name) {
-        Some(links) => push_named_weak_rules(alloc, index, table, premise, entry, links, rules),
+        Some(links) => {
+            for link in links {
+                push_link_weak_rules(alloc, index, table, premise, entry, link.row, rules)?;
+            }
+            Ok(())
+        }
         None => Ok(()),
     }
 }
@@ -619,20 +527,6 @@ fn line_features<'a>(
     Ok(features)
 }
 
-fn push_line_rules<'a>(
-    alloc: Global,
-    index: &RecordIndex<'_>,
-    link: &'a LinkRecord,
-    line: &'a LineRecord,
-    rules: &mut Vec<LentRule<'a>>,
-) -> Result<(), AllocError>
-    ensures { OnOk result (rules.new.items
-        ≡ rules.old.items ++ line_rules index.now link.entry.now line.entry.now) }
-{
-    let start = line_start(link, line);
-    push_implications(&start, line_features(alloc, index, link, line)?, rules)
-}
-
 fn push_lines_rules<'a>(
     alloc: Global,
     index: &RecordIndex<'_>,
@@ -645,7 +539,8 @@ fn push_lines_rules<'a>(
         (map (λ l. l.now) lines.now)) }
 {
     for line in lines {
-        push_line_rules(alloc, index, link, line, rules)?;
+        let features = line_features(alloc, index, link, *line)?;
+        push_implications(&line_start(link, *line), features, rules)?;
     }
     Ok(())
 }

@@ -13,7 +13,6 @@ use crate::distinct::{first_repeat_in_order, first_repeated_text};
 use crate::id_rules::package_id_set;
 use crate::paths::PathText;
 use crate::text_sets::text_set;
-use indexmap::IndexSet;
 use std::alloc::{AllocError, Global};
 use std::collections::BTreeMap;
 use workspace_record::{MemberRecord, PackageRecord, WorkspaceInfo};

@@ -1,11 +1,11 @@
 //! The rule on the targets of a package.
 
-ghost use Rattle.std.specs.Prelude.{◌≡◌, ◌++◌, IfOk, map, not, position, string_bytes};
+ghost use Rattle.std.specs.Prelude.{◌≡◌, ◌++◌, IfOk, not, position, string_bytes};
 ghost use Rattle.guppy_package_rules.specs.Rules.{target_key, has_distinct_targets};
 
 use crate::distinct::is_distinct;
 use std::alloc::{AllocError, Global};
-use workspace_record::{PackageRecord, TargetKind, TargetRecord};
+use workspace_record::{PackageRecord, TargetKind};
 
 /// The first package with two targets that may not stand beside each other.
 pub(crate) fn first_repeated_target(

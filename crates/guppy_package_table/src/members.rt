@@ -70,11 +70,10 @@ fn member_numbers(
     ensures { IfOk result (λ numbers. numbers.items
         ≡ map (place_among members.now.keys) package_ids.now) }
 {
-    let mut numbers = Vec::with_capacity(alloc, package_ids.len())?;
-    for id in package_ids {
-        numbers.push(place_of_id(members, id.repr()))?;
-    }
-    Ok(numbers)
+    package_ids
+        .iter()
+        .map(|id| place_of_id(members, id.repr()))
+        .collect(alloc)
 }
 
 /// The place of each member's package.
@@ -86,11 +85,10 @@ fn member_places(
     ensures { IfOk result (λ places. places.items
         ≡ map (λ m. place_among ids.now.keys m.package_id) members.now) }
 {
-    let mut places = Vec::with_capacity(alloc, members.len())?;
-    for member in members {
-        places.push(place_of_id(ids, member.package.as_str()))?;
-    }
-    Ok(places)
+    members
+        .iter()
+        .map(|member| place_of_id(ids, member.package.as_str()))
+        .collect(alloc)
 }
 
 /// The place of each default member's package.
@@ -102,11 +100,10 @@ fn default_places(
     ensures { IfOk result (λ places. places.items
         ≡ map (λ m. place_among ids.now.keys (string_bytes m)) members.now) }
 {
-    let mut places = Vec::with_capacity(alloc, members.len())?;
-    for member in members {
-        places.push(place_of_id(ids, member.as_str()))?;
-    }
-    Ok(places)
+    members
+        .iter()
+        .map(|member| place_of_id(ids, member.as_str()))
+        .collect(alloc)
 }
 
 /// The member whose package has an id.

@@ -21,18 +21,12 @@ pub(crate) fn numbered_links(
 {
     let mut numbered = Vec::with_capacity(alloc, links.len())?;
     for row in links {
-        numbered.push(numbered_link(ids, row))?;
+        numbered.push(Link {
+            from: place_of_id(ids, row.from.as_str()),
+            to: place_of_id(ids, row.to.as_str()),
+        })?;
     }
     Ok(numbered)
-}
-
-fn numbered_link(ids: &IndexSet<PackageId>, row: &LinkRow) -> Link
-    ensures { result ≡ link_between ids.now.keys row.now }
-{
-    Link {
-        from: place_of_id(ids, row.from.as_str()),
-        to: place_of_id(ids, row.to.as_str()),
-    }
 }
 
 /// A flag for each link: whether it has a normal or a build line.

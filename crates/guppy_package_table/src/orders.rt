@@ -66,7 +66,7 @@ fn members_by_name(alloc: Global, table: &PackageTable) -> Result<Vec<usize>, Al
     places.sort_unstable_by(
         |a: &usize, b: &usize| -> Ordering
             ensures { result ≡ order_by text_cmp (name_at table.entry.now) a.now b.now }
-        { compare_by_name(table, *a, *b) },
+        { name_at(table, *a).cmp(name_at(table, *b)) },
     );
     Ok(places)
 }
@@ -91,15 +91,5 @@ fn with_paths<'t>(
 fn places_of(alloc: Global, members: &[(&str, usize)]) -> Result<Vec<usize>, AllocError>
     ensures { IfOk result (λ places. places.items ≡ map (λ m. m.1) members.now) }
 {
-    let mut places = Vec::with_capacity(alloc, members.len())?;
-    for member in members {
-        places.push(member.1)?;
-    }
-    Ok(places)
-}
-
-fn compare_by_name(table: &PackageTable, a: usize, b: usize) -> Ordering
-    ensures { result ≡ order_by text_cmp (name_at table.now) a b }
-{
-    name_at(table, a).cmp(name_at(table, b))
+    members.iter().map(|member| member.1).collect(alloc)
 }

@@ -19,19 +19,11 @@ pub(crate) fn first_repeated_binary(
     ensures { IfOk result (λ place. place
         ≡ first_repeat bytes_eq (map (λ b. b.id) (map binary_view all.now))) }
 {
-    let ids = binary_ids(alloc, all)?;
-    first_repeated_text(alloc, &ids)
-}
-
-fn binary_ids<'a>(alloc: Global, all: &'a [TestBinary<'_>]) -> Result<Vec<&'a str>, AllocError>
-    ensures { IfOk result (λ v. map (λ t. t.now) v.items
-        ≡ map (λ b. b.id) (map binary_view all.entry.now)) }
-{
-    let mut ids: Vec<&'a str> = Vec::new(alloc);
+    let mut ids: Vec<&str> = Vec::new(alloc);
     for binary in all {
         ids.push(binary.id.as_str())?;
     }
-    Ok(ids)
+    first_repeated_text(alloc, &ids)
 }
 
 /// The first test binary whose id holds a space or a line feed.

@@ -19,9 +19,15 @@ pub(crate) fn first_bad_group(
         ≡ earlier (position (λ g. is_reserved g.name) groups.now)
         (first_repeat bytes_eq (map (λ g. g.name) groups.now))) }
 {
-    let names = group_names(alloc, groups)?;
+    let mut names: Vec<&str> = Vec::new(alloc);
+    for group in groups {
+        names.push(group.name.as_str())?;
+    }
     let repeated = first_repeated_text(alloc, &names)?;
-    Ok(earlier(first_reserved(groups), repeated))
+    let reserved = groups
+        .iter()
+        .position(|group| is_reserved(group.name.as_str()));
+    Ok(earlier(reserved, repeated))
 }
 
 fn earlier(a: Option<usize>, b: Option<usize>) -> Option<usize>
@@ -34,26 +40,8 @@ fn earlier(a: Option<usize>, b: Option<usize>) -> Option<usize>
     }
 }
 
-fn first_reserved(groups: &[GroupRecord]) -> Option<usize>
-    ensures { result ≡ position (λ g. is_reserved g.name) groups.now }
-{
-    groups
-        .iter()
-        .position(|group| is_reserved(group.name.as_str()))
-}
-
 fn is_reserved(name: &str) -> bool
     ensures { result ≡ is_reserved name.now }
 {
     name.starts_with("@")
-}
-
-fn group_names<'a>(alloc: Global, groups: &'a [GroupRecord]) -> Result<Vec<&'a str>, AllocError>
-    ensures { IfOk result (λ v. map (λ t. t.now) v.items ≡ map (λ g. g.name) groups.entry.now) }
-{
-    let mut names: Vec<&'a str> = Vec::new(alloc);
-    for group in groups {
-        names.push(group.name.as_str())?;
-    }
-    Ok(names)
 }

@@ -1,7 +1,7 @@
 //! The rule on links with optional lines.
 
 ghost use Rattle.std.specs.Prelude.{◌≡◌, not, position};
-ghost use Rattle.test_select_rules.specs.RecordRules.{has_optional_line, has_optional_name, names_its_optional_lines};
+ghost use Rattle.test_select_rules.specs.RecordRules.{has_optional_line, names_its_optional_lines};
 
 use workspace_record::{LinkRecord, RecordIndex};
 
@@ -19,21 +19,15 @@ pub(crate) fn first_unnamed_link(index: &RecordIndex<'_>) -> Option<usize>
 fn names_its_optional_lines(index: &RecordIndex<'_>, link: &LinkRecord) -> bool
     ensures { result ≡ names_its_optional_lines index.now link.now }
 {
-    !has_optional_line(link) || has_optional_name(index, link)
+    !has_optional_line(link)
+        || match index.package_of(link.from.as_str()) {
+            None => false,
+            Some(source) => source.has_optional(link.name.as_str()),
+        }
 }
 
 fn has_optional_line(link: &LinkRecord) -> bool
     ensures { result ≡ has_optional_line link.now }
 {
     link.lines.iter().any(|line| line.optional)
-}
-
-/// Whether the link has the name of an optional dependency of its source.
-fn has_optional_name(index: &RecordIndex<'_>, link: &LinkRecord) -> bool
-    ensures { result ≡ has_optional_name index.now link.now }
-{
-    match index.package_of(link.from.as_str()) {
-        None => false,
-        Some(source) => source.has_optional(link.name.as_str()),
-    }
 }

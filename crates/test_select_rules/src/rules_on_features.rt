@@ -43,11 +43,10 @@ fn feature_names<'a>(
 ) -> Result<Vec<&'a str>, AllocError>
     ensures { IfOk result (λ v. map (λ t. t.now) v.items ≡ map (λ f. f.name) features.entry.now) }
 {
-    let mut names: Vec<&'a str> = Vec::new(alloc);
-    for feature in features {
-        names.push(feature.name.as_str())?;
-    }
-    Ok(names)
+    features
+        .iter()
+        .map(|feature| feature.name.as_str())
+        .collect(alloc)
 }
 
 /// The first package with a target that requires a feature which the package lacks.
@@ -84,12 +83,6 @@ fn require_only(targets: &[TargetRecord], own: &IndexSet<&str>) -> bool
 
 fn are_among(own: &IndexSet<&str>, names: &[String]) -> bool
     ensures { result ≡ list_all (finds own.now) (map string_bytes names.now) }
-{
-    is_each_among(own, names)
-}
-
-fn is_each_among(own: &IndexSet<&str>, names: &[String]) -> bool
-    ensures { result ≡ list_all (λ name. finds own.now (string_bytes name)) names.now }
 {
     names.iter().all(|name| own.contains(name.as_str()))
 }

@@ -10,5 +10,5 @@ returns-clause-found c =
     let entries = c.in_ok-entries.entries.items in
     let some : entries ≢ [] = search rules in
     let same = c.deref.ensures.value ∙ c.in_ok-lent.ensures.lent in
-    let explained = subst (λ (f : FeatureValue). IsExplanation c.args.rules.now f entries) c.of.ensures.lent (subst (λ (rs : List Rule). IsExplanation rs c.of.result entries) same (c.in_ok-entries.ensures.explains some)) in
+    let explained = subst (λ (f : FeatureValue). IsExplanation c.args.rules.now f entries) c.of-goal.ensures.lent (subst (λ (rs : List Rule). IsExplanation rs c.of-goal.result entries) same (c.in_ok-entries.ensures.explains some)) in
     (λ h. goal_concluded c.args.rules.now c.args.feature.now c.args.account.now entries c.in_ok-entries.ensures.in_order explained, λ h. refl)

@@ -1,14 +1,23 @@
-use Rattle.std.proofs.Common.{◌≡◌, ◌++◌, List, OnOk, append-nil, sym, ap, subst, ◌∙◌}
+use Rattle.std.proofs.Common.{◌++◌, List, append-nil, map, sym, ap, ◌∙◌}
 use Rattle.std.specs.List.{flat_map}
 use Rattle.workspace_record.specs.Records.{Package, Text}
 use Rattle.feature_account_rules.specs.declared.rule.Rule.{Rule}
-use Rattle.workspace_record.specs.LinkNames.{links_named}
+use Rattle.workspace_record.specs.LinkNames.{link_view, links_named}
+use Rattle.workspace_record.specs.declared.link_names.LentLink.{LentLink}
+use Rattle.list_facts.proofs.Lists.{flat_map-append}
 use Rattle.feature_account_rules.specs.RuleList.{weak_rules}
+use Rattle.feature_account_rules.proofs.PushFacts.{parts_of_map, pushed_all, pushed_more}
 use Rattle.feature_account_rules.proofs.KeptLinks.{weak_kept}
 use Rattle.feature_account_rules.proofs.rule_list.push_weak_entry.Goals as goal
 
-pub returns-in-Some : goal.returns-in-Some
-returns-in-Some c =
+pub loop-link-preserved : goal.loop-link-preserved
+loop-link-preserved c =
+    let entry = c.args.entry in
+    let given = weak_rules c.args.index.now c.args.table.now entry.row.now c.args.premise.now entry.name.now entry.feature.now in
+    pushed_more (λ (links : List LentLink). flat_map given (map link_view links)) (parts_of_map (flat_map given) link_view (flat_map-append given)) _ _ _ _ c.in-Some.links.now c.loop-link.link-index c.link-item.result c.loop-link-test.true c.link-item.is c.loop-link.invariant c.in_ok-push_link_weak_rules-in-Some.ensures (sym (append-nil _))
+
+pub returns-after-loop-link : goal.returns-after-loop-link
+returns-after-loop-link c =
     let w = c.args.index.now in
     let table = c.args.table.now in
     let row = c.args.entry.row.now in
@@ -16,7 +25,7 @@ returns-in-Some c =
     let x = c.args.entry.feature.now in
     let id_is = c.as_str.ensures.value ∙ ap (λ (p : Package). p.id) c.row.view_is in
     let group = c.in-Some.ensures.some ∙ ap (λ (id : Text). links_named w.links id name) id_is in
-    subst (λ (more : List Rule). OnOk c.push_named_weak_rules.result (c.push_named_weak_rules.new.rules.items ≡ c.args.rules.now.items ++ more)) (ap (flat_map (weak_rules w table row c.args.premise.now name x)) group ∙ weak_kept w table row name x c.args.premise.now) c.push_named_weak_rules.ensures
+    pushed_all (λ (links : List LentLink). flat_map (weak_rules w table row c.args.premise.now name x) (map link_view links)) _ _ c.in-Some.links.now c.loop-link.link-index c.loop-link-test.false c.loop-link.invariant ∙ ap (λ (more : List Rule). c.args.rules.now.items ++ more) (ap (flat_map (weak_rules w table row c.args.premise.now name x)) group ∙ weak_kept w table row name x c.args.premise.now)
 
 pub returns-in-None : goal.returns-in-None
 returns-in-None c =

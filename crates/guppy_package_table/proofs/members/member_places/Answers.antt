@@ -1,12 +1,9 @@
-use Rattle.std.proofs.Common.{ap, ◌∙◌}
+use Rattle.std.proofs.Common.{rules}
+use Rattle.std.proofs.lemmas.Iterator.{YieldsList-from_map, YieldsList-from_slice, items_from_collect}
 use Rattle.workspace_record.specs.Records.{Member}
 use Rattle.guppy_package_table.specs.Tables.{place_among}
-use Rattle.guppy_package_table.proofs.PushFacts.{mapped_all, mapped_more}
 use Rattle.guppy_package_table.proofs.members.member_places.Goals as goal
 
-pub loop-member-preserved : goal.loop-member-preserved
-loop-member-preserved c =
-    mapped_more (λ (m : Member). place_among c.args.ids.now.keys m.package_id) c.args.members.now c.loop-member.member-index c.member-item.result c.loop-member-test.true c.member-item.is _ _ _ c.loop-member.invariant c.in_ok-push.ensures.items (c.place_of_id.ensures ∙ ap (place_among c.args.ids.now.keys) (c.as_str.ensures.value ∙ ap (λ (m : Member). m.package_id) c.member.view_is))
-
 pub returns : goal.returns
-returns c = mapped_all (λ (m : Member). place_among c.args.ids.now.keys m.package_id) c.args.members.now c.loop-member.member-index _ c.loop-member-test.false c.loop-member.invariant
+returns c =
+    items_from_collect _ c.collect.ensures.ran (YieldsList-from_map _ (λ (m : Member). place_among c.args.ids.now.keys m.package_id) (YieldsList-from_slice c.args.members.now cc) c.map.ensures.closure (λ x r q k. search rules))

@@ -1,5 +1,5 @@
 use Rattle.std.proofs.Common.{◌≡◌, ◌+◌, ◌-◌, ◌/◌, ◌<◌, length, get_or, sym, subst, ◌∙◌, arith}
-use Rattle.std.specs.declared.cmp.Ordering.TheVariants.{Less, Equal, Greater}
+use Rattle.std.specs.declared.cmp.Ordering.TheVariants.{Less, Greater}
 use Rattle.workspace_record.specs.Features.{FeatureValue, feature_cmp}
 use Rattle.test_select_rules.specs.CountedViews.{counted_list}
 use Rattle.test_select_rules.specs.Digits.{digits}

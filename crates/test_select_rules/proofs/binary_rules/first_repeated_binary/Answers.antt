@@ -1,10 +1,12 @@
-use Rattle.std.proofs.Common.{Bor, ◌++◌, ◌∷◌, [], get_or, map, take, take_all, ap, sym, ◌∙◌, List}
+use Rattle.std.proofs.Common.{◌≡◌, Bor, IfOk, subst, ◌++◌, ◌∷◌, [], get_or, map, take, take_all, ap, sym, ◌∙◌, List}
 use Rattle.std.proofs.lemmas.List.{map_more, map_push}
+use Rattle.std.specs.Str.{bytes_eq}
+use Rattle.guppy_package_rules.specs.Places.{first_repeat}
 use Rattle.workspace_record.specs.Records.{Text}
 use Rattle.test_select_rules.specs.Binaries.{Binary}
 use Rattle.test_select_rules.specs.BinaryView.{binary_view}
 use Rattle.test_select_rules.specs.declared.test_binary.TestBinary.{TestBinary}
-use Rattle.test_select_rules.proofs.binary_rules.binary_ids.Goals as goal
+use Rattle.test_select_rules.proofs.binary_rules.first_repeated_binary.Goals as goal
 
 pub loop-binary-preserved : goal.loop-binary-preserved
 loop-binary-preserved c =
@@ -17,4 +19,5 @@ loop-binary-preserved c =
 
 pub returns : goal.returns
 returns c =
-    c.loop-binary.invariant ∙ ap (λ (all : List TestBinary). map (λ (b : Binary). b.id) (map binary_view all)) (take_all c.loop-binary.binary-index c.args.all.now c.loop-binary-test.false)
+    let ids = c.loop-binary.invariant ∙ ap (λ (all : List TestBinary). map (λ (b : Binary). b.id) (map binary_view all)) (take_all c.loop-binary.binary-index c.args.all.now c.loop-binary-test.false) in
+    subst (λ texts. IfOk c.first_repeated_text.result (λ place. place ≡ first_repeat bytes_eq texts)) (ap (map (λ (t : Bor Text). t.now)) c.deref.ensures.value ∙ ids) c.first_repeated_text.ensures
