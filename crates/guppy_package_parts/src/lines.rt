@@ -1,6 +1,6 @@
 //! The lines that a status stands on.
 
-ghost use Rattle.std.specs.Prelude.{◌≡◌, ◌∷◌, [], MatchOption, filter, option_copied};
+ghost use Rattle.std.specs.Prelude.{◌≡◌, ◌∷◌, [], MatchOption, filter};
 ghost use Rattle.std.specs.List.{filter_map};
 ghost use Rattle.guppy_package_parts.specs.Lines.{line_at};
 ghost use Rattle.guppy_package_parts.specs.LineChoices.{takes};

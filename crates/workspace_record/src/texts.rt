@@ -1,12 +1,11 @@
 //! Copies and comparisons of the texts that records hold.
 
-ghost use Rattle.std.specs.Prelude.{◌≡◌, IfOk, Ok, OnOk, map, option_map, string_bytes};
+ghost use Rattle.std.specs.Prelude.{◌≡◌, IfOk, Ok, map, option_map, string_bytes};
 ghost use Rattle.std.specs.Fn.{FnReturnsAt};
 ghost use Rattle.std.specs.Option.{option_eq};
 ghost use Rattle.std.specs.Cmp.Lexicographic.{pointwise};
 ghost use Rattle.workspace_record.specs.Equality.{text_eq};
 
-use list_facts::copy_texts;
 use std::alloc::{AllocError, Global};
 
 /// Copies each item, in order.
