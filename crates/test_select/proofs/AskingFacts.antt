@@ -1,7 +1,7 @@
 -- The words of a command line, as the program gets them.
 use Rattle.std.proofs.Common.{◌≡◌, ◌∙◌, ◌↔◌, ℕ, List, [], refl, sym, ap, subst, Option, Some, None, option_map, Bor}
 use Rattle.std.specs.Option.{option_map_or}
-use Rattle.std.specs.Prelude.{Bool, true, false, codes, is_some}
+use Rattle.std.specs.Prelude.{true, false, codes, is_some}
 use Rattle.clap.proofs.WalkLemmas.{first_value-rows}
 use Rattle.clap.specs.Words.{first_value, found_of, rows_of}
 use Rattle.clap.specs.declared.parser.matches.ArgMatches.{ArgMatches}

@@ -3,7 +3,7 @@ use Rattle.std.proofs.Common.{◌≡◌, ◌++◌, ◌∙◌, ℕ, inl, inr, Lis
 use Rattle.serde_json.specs.Data.{Data}
 use Rattle.workspace_record.specs.Choices.{Choice}
 use Rattle.workspace_record.specs.Records.{Text}
-use Rattle.workspace_record.specs.Tables.{answered, entry_of}
+use Rattle.workspace_record.specs.Tables.{entry_of}
 use Rattle.workspace_record.specs.declared.choice.PlatformTable.{PlatformTable}
 use Rattle.record_files.specs.Choices.{choice_file}
 use Rattle.record_files.specs.Faults.{Fault, fault_of}

@@ -16,6 +16,7 @@ use Rattle.test_select_files.proofs.ReadingFacts.{ends_by, ends_on}
 use Rattle.test_select.specs.Printing.{EndsReading, Prints, never}
 use Rattle.test_select.specs.Asking.{AsksForTestsOf, asks_in, filters_in, scope_in}
 use Rattle.test_select.specs.Runs.{AnswersQuestion, ExplainsQuestion}
+use Rattle.test_select_tests.specs.Choosing.{BlamesUnlisted}
 use Rattle.test_select_tests.specs.declared.asked_binaries.AskedBinaries.{AskedBinaries}
 use Rattle.test_select_tests.specs.declared.scope.LinkScope.{LinkScope}
 use Rattle.test_select.specs.Selections.{IsTextOf, Listings, PrintsShown, SaysWhy, Selects, ShowsTests, asks_for_json, tests_of}
@@ -89,11 +90,6 @@ text_of_part words selection is_json tests form of text shows =
 -- ---- where memory ran out before a lister was made
 
 module _ (words : List Row) (q : FeatureQuestion) (listings : Listings) where
-  -- a selection without one
-  pub memory_selects : (result : Result Selected SelectError) → IsErrAnd result (λ e. e ≡ Memory) → Selects words q listings result
-  memory_selects (Ok x) is = absurd is
-  memory_selects (Err e) is = subst (λ (e : SelectError). Selects words q listings (Err e)) (sym is) (unasked listings, inl refl)
-
   -- an explanation without one
   pub memory_says : (result : Result Reason SelectError) → IsErrAnd result (λ e. e ≡ Memory) → SaysWhy words q listings result
   memory_says (Ok x) is = absurd is
@@ -103,13 +99,13 @@ module _ (words : List Row) (q : FeatureQuestion) (listings : Listings) where
 
 module _ (words : List Row) (q : FeatureQuestion) (listings : Listings) where
   -- the selection of such a lister
-  pub selected_by : (result : Result Selected SelectError) (scope : LinkScope) (texts : List Text) (asks : AskedBinaries) (old new : Shown) → scope ≡ scope_in words → texts ≡ filters_in words → asks ≡ asks_in words → old ≡ unasked listings → AnswersQuestion q scope texts asks old result new → Selects words q listings result
-  selected_by result scope texts asks old new is_scope are_texts are_asks is_old h = (
+  pub selected_by : (result : Result Selected SelectError) (scope : LinkScope) (texts : List Text) (asks : AskedBinaries) (new : Shown) → scope ≡ scope_in words → texts ≡ filters_in words → asks ≡ asks_in words → AnswersQuestion q scope texts asks (unasked listings) result new → BlamesUnlisted listings result → Selects words q listings result
+  selected_by result scope texts asks new is_scope are_texts are_asks h missing = (
     new,
     subst (λ (s : LinkScope). AnswersQuestion q s (filters_in words) (asks_in words) (unasked listings) result new) is_scope
         (subst (λ (l : List Text). AnswersQuestion q scope l (asks_in words) (unasked listings) result new) are_texts
-        (subst (λ (a : AskedBinaries). AnswersQuestion q scope texts a (unasked listings) result new) are_asks
-        (subst (λ (s : Shown). AnswersQuestion q scope texts asks s result new) is_old h))),
+        (subst (λ (a : AskedBinaries). AnswersQuestion q scope texts a (unasked listings) result new) are_asks h)),
+    missing,
   )
 
   -- what such a lister explains

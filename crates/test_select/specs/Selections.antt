@@ -13,6 +13,7 @@ use Rattle.test_select_files.specs.Reading.{Asked, ReadsAs, ReadsBoth, ReadsQues
 use Rattle.test_select_files.specs.Words.{files_named, says, word_or_empty}
 use Rattle.test_select_files.specs.declared.inputs.FeatureQuestion.{FeatureQuestion}
 use Rattle.test_select_files.specs.declared.run_failure.RunFailure.{RunFailure}
+use Rattle.test_select_tests.specs.Choosing.{BlamesUnlisted}
 use Rattle.test_select_tests.specs.Grouping.{IsByBinary}
 use Rattle.test_select_tests.specs.Partitions.{part_of}
 use Rattle.test_select_tests.specs.Reasons.{says_yes}
@@ -56,10 +57,10 @@ EndsBinaries words = EndsReading (ReadsQuestion (files_named words)) (PrintsBina
 
 -- ---- the tests that run
 
--- a selection by these words, of a lister over the listings that was asked nothing before
+-- a selection by these words, of a lister over the listings that was asked nothing before; a binary is blamed only where no listing is its
 abbrev pub Selects : List Row → FeatureQuestion → Listings → Result Selected SelectError → Type 0
 Selects words q listings selection =
-    (after : Shown) × AnswersQuestion q (scope_in words) (filters_in words) (asks_in words) (unasked listings) selection after
+    (after : Shown) × AnswersQuestion q (scope_in words) (filters_in words) (asks_in words) (unasked listings) selection after × BlamesUnlisted listings selection
 
 -- all chosen tests, or those of a part
 abbrev pub tests_of : Option (ℕ × ℕ) → List (Text × Text) → List (Text × Text)

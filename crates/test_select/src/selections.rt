@@ -18,14 +18,14 @@ use crate::failure::Failure;
 use crate::inputs::tests_inputs;
 use clap::ArgMatches;
 use list_facts::write_bytes;
-use nextest_binaries::{FileLister, Listing};
+use nextest_binaries::Listing;
 use record_writing::listings_line;
 use std::alloc::{AllocError, Global};
 use std::collections::BTreeMap;
 use std::io::Write;
 use test_select_checks::SelectError;
 use test_select_files::{FeatureQuestion, FileSource, values_of};
-use test_select_tests::{Selection, by_binary, select_shared, write_report};
+use test_select_tests::{Selection, by_binary, select_listed, write_report};
 
 /// Prints the tests that run, or those of the part that is asked for, as lines or as JSON.
 pub(crate) fn print_tests<'a, O: Write>(
@@ -46,7 +46,7 @@ pub(crate) fn print_tests<'a, O: Write>(
     write_selection(alloc, chosen, is_json(asked), out)
 }
 
-/// The selection that the command line asks for, by a lister over the listings.
+/// The selection that the command line asks for, from the listings.
 fn selection_in(
     alloc: Global,
     asked: &ArgMatches<'_>,
@@ -58,17 +58,7 @@ fn selection_in(
     let (record, choice, table) = (&question.record, &question.choice, &question.table);
     let (scope, asks) = (link_scope(asked), asked_binaries(asked));
     let texts = values_of(asked, "filter");
-    let mut lister = FileLister::new(alloc, listings)?;
-    select_shared(
-        alloc,
-        record,
-        choice,
-        table,
-        scope,
-        texts,
-        asks,
-        &mut lister,
-    )
+    select_listed(alloc, record, choice, table, scope, texts, asks, listings)
 }
 
 /// The selection with the chosen tests of the part that the command line asks for, if it asks for one.

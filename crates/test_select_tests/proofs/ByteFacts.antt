@@ -7,7 +7,6 @@ use Rattle.std.specs.Global.{Global}
 use lib.Utf8.{encode, encodes, next, scalar, scalar_cases, scalars}
 use Rattle.list_facts.specs.Texts.{pair_of}
 use Rattle.list_facts.proofs.Membership.{Contains-map_cases}
-use Rattle.workspace_record.specs.Features.{LabelValue, Base, Named, Dep}
 use Rattle.workspace_record.specs.LabelView.{label_view}
 use Rattle.workspace_record.specs.Records.{Text}
 use Rattle.workspace_record.specs.declared.label.Label.{Label}

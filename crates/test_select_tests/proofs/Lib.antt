@@ -5,6 +5,7 @@ pub mod SomeFacts
 pub mod LendingFacts
 pub mod NamedFacts
 pub mod ChoosingFacts
+pub mod TakingFacts
 pub mod KeptFacts
 pub mod ListingFacts
 pub mod MayFacts

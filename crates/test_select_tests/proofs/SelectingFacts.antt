@@ -1,5 +1,5 @@
 -- From a plan that was carried out to the answer of the question.
-use Rattle.std.proofs.Common.{◌≡◌, ◌<◌, length, All, List, sym, subst, ◌↔◌, Contains, inr, Option, Result, Ok, Err}
+use Rattle.std.proofs.Common.{◌≡◌, ◌<◌, length, All, List, refl, sym, subst, ◌↔◌, Contains, inl, inr, Option, Result, Ok, Err}
 use Rattle.std.specs.List.Sorted.{IsStrictlySortedBy}
 use Rattle.list_facts.specs.Ascending.{IsAscendingOf, pair_cmp, text_cmp}
 use Rattle.list_facts.proofs.Ascending.{one_ascending, pair_total, pair_exact, text_total, text_exact}
@@ -10,7 +10,7 @@ use Rattle.test_select_rules.specs.Binaries.{Binary}
 use Rattle.test_select_checks.specs.declared.select_error.SelectError.{SelectError}
 use Rattle.test_select_checks.specs.declared.select_error.SelectError.TheVariants.{Record, UnknownExtra, Filter as BadFilter, Lister, BadListing, Memory}
 use Rattle.test_select_tests.specs.Choosing.{ids_of, IsMatched, IsCarriedOut, CarriesOut}
-use Rattle.test_select_tests.specs.Plans.{IsPlan, PassesIn}
+use Rattle.test_select_tests.specs.Plans.{IsPlan, PassesIn, Plans}
 use Rattle.test_select_rules.specs.Asked.{test_asked}
 use Rattle.test_select_tests.specs.QuestionFilters.{CompiledQuestion}
 use Rattle.test_select_tests.specs.Questions.{Question}
@@ -123,3 +123,12 @@ module _ (q : Question) where
     answers_question (Err (Lister id)) new h = record { readings = plan.readings; answered = plan.answered; ids = ids_of asked; asked = plan.ids; place = h.place; at = h.at; failed = h.failed }
     answers_question (Err (BadListing id fault)) new h = record { readings = plan.readings; answered = plan.answered; ids = ids_of asked; asked = plan.ids; place = h.place; at = h.at; faulty = h.faulty }
     answers_question (Err Memory) new h = inr (record { readings = plan.readings; answered = plan.answered; ids = ids_of asked; asked = plan.ids; begun = h })
+
+-- a question that is refused while it is planned changes no lister
+pub plan_refused : (q : Question) (old : Shown) (e : SelectError) → Plans q (Err e) → Answers q old (Err e) old
+plan_refused q old (Record e) h = (h, refl)
+plan_refused q old (UnknownExtra place) h = (h.0, h.1, refl)
+plan_refused q old (BadFilter place faults) h = (h, refl)
+plan_refused q old (Lister id) h = absurd h
+plan_refused q old (BadListing id fault) h = absurd h
+plan_refused q old Memory h = inl refl

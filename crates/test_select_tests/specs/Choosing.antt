@@ -1,5 +1,6 @@
 -- Asking for the listings of planned binaries, and choosing from them.
-use Rattle.std.specs.Prelude.{◌≡◌, ℕ, ◌<◌, List, [], length, map, All, Contains, slice_index_or, Option, Some, Result, Ok, Err, ◌↔◌, string_bytes, String}
+use Rattle.std.specs.Prelude.{◌≡◌, ℕ, ◌<◌, List, [], length, map, All, Contains, slice_index_or, Option, Some, None, Result, Ok, Err, ◌↔◌, string_bytes, String}
+use Rattle.std.specs.BTreeMap.{BTreeMap}
 use Rattle.std.specs.Global.{Global}
 use Rattle.std.specs.Prelude.{Vec}
 use Rattle.std.specs.List.{zip}
@@ -7,8 +8,10 @@ use Rattle.std.specs.List.Sorted.{IsStrictlySortedBy}
 use Rattle.list_facts.specs.Ascending.{pair_cmp}
 use Rattle.list_facts.specs.Texts.{texts}
 use Rattle.workspace_record.specs.Records.{Text}
-use Rattle.nextest_binaries.specs.Listers.{Shown, Asked, largest}
+use Rattle.nextest_binaries.specs.Listers.{Shown, Asked, largest, listing_in}
 use Rattle.nextest_binaries.specs.Asking.{HoldsWellFormed, FailedAt, FaultyAt, AskedSome}
+use Rattle.nextest_binaries.specs.declared.fault.AskError.{AskError}
+use Rattle.nextest_binaries.specs.declared.fault.AskError.TheVariants as ask
 use Rattle.nextest_binaries.specs.declared.fault.ListingFault.{ListingFault}
 use Rattle.nextest_filtering.specs.SameFilters.{AreBytes}
 use Rattle.test_select_rules.specs.Binaries.{Binary}
@@ -81,3 +84,11 @@ CarriesOut holds asked old (Err (Filter place faults)) new = ⊥
 CarriesOut holds asked old (Err (Lister id)) new = FailsAt (ids_of asked) old (string_bytes id) new
 CarriesOut holds asked old (Err (BadListing id fault)) new = IsFaultyAt (ids_of asked) old (string_bytes id) fault new
 CarriesOut holds asked old (Err Memory) new = AskedSome old (ids_of asked) new
+
+-- a binary is blamed for want of a listing only where none of these is its
+abbrev pub BlamesUnlisted : {A : Type 0} → BTreeMap (String Global) (Vec (String Global) Global) → Result A SelectError → Type 0
+BlamesUnlisted listings result = (id : String Global) → result ≡ Err (Lister id) → listing_in listings (string_bytes id) ≡ None
+
+-- the binary that is blamed has the id at the place at which asking failed
+abbrev pub BlamesAt : {A B : Type 0} → List Text → Result A AskError → Result B SelectError → Type 0
+BlamesAt ids asking result = (id : String Global) → result ≡ Err (Lister id) → (place : ℕ) × (asking ≡ Err (ask.Lister place)) × (slice_index_or ids place [] ≡ string_bytes id)

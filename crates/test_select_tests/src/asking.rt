@@ -1,9 +1,13 @@
 //! Asking for the tests of the planned binaries, and choosing from the answers.
 
 ghost use Rattle.std.specs.Prelude.{◌≡◌, ◌∷◌, ◌++◌, [], IfOk, OnOk, map, string_bytes};
+ghost use Rattle.std.specs.List.Sorted.{IsStrictlySortedBy};
+ghost use Rattle.list_facts.specs.Ascending.{text_cmp};
 ghost use Rattle.list_facts.specs.Texts.{texts, pair_of};
+ghost use Rattle.nextest_binaries.specs.Asking.{ListsEach};
+ghost use Rattle.nextest_binaries.specs.Listers.{Shown, unasked};
 ghost use Rattle.test_select_rules.specs.BinaryView.{binary_view};
-ghost use Rattle.test_select_tests.specs.Choosing.{AreListed, CarriesOut, IsTestOf, ids_of};
+ghost use Rattle.test_select_tests.specs.Choosing.{AreListed, BlamesAt, BlamesUnlisted, CarriesOut, IsTestOf, ids_of};
 ghost use Rattle.test_select_tests.specs.Kept.{Adds};
 ghost use Rattle.test_select_tests.specs.Passing.{ArePassing, IsPassing};
 ghost use Rattle.test_select_tests.specs.Plans.{PassesIn};
@@ -17,10 +21,13 @@ use crate::ascending_pairs::ascending_pairs;
 use crate::lending::lent_filters;
 use crate::plan::Plan;
 use crate::selection::Selection;
-use nextest_binaries::{AskError, BinaryInfo, Listing, TestLister, ask_each};
+use nextest_binaries::{
+    AskError, BinaryInfo, Listing, TestLister, ask_each, names_ascend, take_each,
+};
 use nextest_filter_evaluation::{LentFilters, ReadyFilters};
 use regex::Matcher;
 use std::alloc::{AllocError, Global};
+use std::collections::BTreeMap;
 use test_select_checks::SelectError;
 use test_select_rules::binaries::TestBinary;
 
@@ -32,9 +39,45 @@ pub(crate) fn ask_and_choose(
     ensures { CarriesOut (PassesIn (question_view plan.now.filters))
         (map binary_view plan.now.asked.items) (shown lister.old) result (shown lister.new) }
 {
-    let mut ids = ids(alloc, &plan.asked)?;
+    let ids = ids(alloc, &plan.asked)?;
     let infos = infos(alloc, &plan.asked)?;
-    match ask_each(alloc, &infos, lister) {
+    let listings = ask_each(alloc, &infos, lister);
+    choose_from(alloc, plan, ids, listings)
+}
+
+/// What `ask_and_choose` comes to by a lister over these listings, which are taken over. A binary is
+/// blamed only if none is its.
+pub(crate) fn take_and_choose(
+    alloc: Global,
+    plan: &Plan<'_>,
+    mut listings: BTreeMap<String, Listing>,
+) -> Result<Selection, SelectError>
+    requires apart { IsStrictlySortedBy text_cmp (ids_of (map binary_view plan.now.asked.items)) }
+    ensures carries { (after : Shown) × CarriesOut (PassesIn (question_view plan.now.filters))
+        (map binary_view plan.now.asked.items) (unasked listings) result after }
+    ensures missing { BlamesUnlisted listings result }
+{
+    let ids = ids(alloc, &plan.asked)?;
+    let taken = take_each(alloc, &ids, &mut listings);
+    choose_from(alloc, plan, ids, taken)
+}
+
+/// The selection from the listings of the planned binaries, which have these ids; or the failure, with
+/// the id of the binary that is blamed.
+fn choose_from(
+    alloc: Global,
+    plan: &Plan<'_>,
+    mut ids: Vec<String>,
+    listings: Result<Vec<Listing>, AskError>,
+) -> Result<Selection, SelectError>
+    requires ids { texts ids.items ≡ ids_of (map binary_view plan.now.asked.items) }
+    requires listed { (old : Shown) × (new : Shown) × ListsEach old (texts ids.items) listings new }
+    ensures carries { (old : Shown) → (new : Shown) → ListsEach old (texts ids.items) listings new
+        → CarriesOut (PassesIn (question_view plan.now.filters))
+        (map binary_view plan.now.asked.items) old result new }
+    ensures blames { BlamesAt (texts ids.items) listings result }
+{
+    match listings {
         Ok(listings) => Ok(Selection::new(choose(alloc, plan, listings)?, ids)),
         Err(AskError::Lister(place)) => Err(SelectError::Lister(ids.swap_remove(place))),
         Err(AskError::BadListing(place, fault)) => {
@@ -111,6 +154,9 @@ fn passing_names<'f>(
     let mut passing = Vec::new(alloc);
     for name in names {
         push_if_passing(ready, searchers, name, &mut passing)?;
+    }
+    if names_ascend(&passing) {
+        return Ok(passing);
     }
     passing.sort()?;
     Ok(passing)

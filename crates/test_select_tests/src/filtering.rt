@@ -21,7 +21,7 @@ use crate::scope::LinkScope;
 use guppy_package_graph::{PackageGraph, PackageId};
 use nextest_filtering::errors::FiltersetError;
 use nextest_filtering::{CompiledExpr, FiltersetKind, FiltersetLeaf, KnownGroups, ParseContext};
-use std::alloc::{AllocError, Global};
+use std::alloc::Global;
 use test_select_checks::{
     CheckedRecord, RecordFilters, SelectError, compiled_text, filter_context, known_groups,
     record_filters,
@@ -134,18 +134,11 @@ fn text_filters(
     ensures { CompilesTexts cx.now groups.now (map (λ t. t.now) texts.now) result }
 {
     if texts.is_empty() {
-        return Ok(all_tests(alloc)?);
+        let mut all = Vec::new(alloc);
+        all.push(CompiledExpr::Set(FiltersetLeaf::All))?;
+        return Ok(all);
     }
     given_filters(alloc, cx, groups, texts)
-}
-
-/// The filter of all tests alone.
-fn all_tests(alloc: Global) -> Result<Vec<CompiledExpr>, AllocError>
-    ensures { IfOk result (λ v. map compiled_of v.items ≡ leaf compiled.All ∷ []) }
-{
-    let mut filters = Vec::new(alloc);
-    filters.push(CompiledExpr::Set(FiltersetLeaf::All))?;
-    Ok(filters)
 }
 
 fn given_filters(

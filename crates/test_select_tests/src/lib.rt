@@ -4,12 +4,12 @@
 //!
 //! The plan (`plan.rt`) asks nobody; its clause `Plans` says of each part what the question says
 //! (`proofs/PlanFacts.antt`; `proofs/PassFacts.antt`: compiled filters and filters as they were read
-//! say the same). Carrying it out (`asking.rt`) asks for each planned binary by `ask_each`, and
-//! keeps the names of which some filter is true; its clause `CarriesOut` speaks of the plan alone.
-//! `proofs/SelectingFacts.antt` joins the two to `Answers`, which speaks of no table of the code. A
-//! reason (`explaining.rt`) takes the same way up to the filters, finds the binary and what it lacks
-//! (`finding.rt`), and asks one filter after another (`holding.rt`) for one test, or asks what is
-//! known of the binary.
+//! say the same). Carrying it out (`asking.rt`) asks for each planned binary by `ask_each`, or takes
+//! its listing over by `take_each`, and keeps the names of which some filter is true; its clause
+//! `CarriesOut` speaks of the plan alone. `proofs/SelectingFacts.antt` joins the two to `Answers`,
+//! which speaks of no table of the code. A reason (`explaining.rt`) takes the same way up to the
+//! filters, finds the binary and what it lacks (`finding.rt`), and asks one filter after another
+//! (`holding.rt`) for one test, or asks what is known of the binary.
 //!
 //! Begin with `specs/Selecting.antt` and `specs/Questions.antt`, then `selecting.rt`. How a plan is
 //! made and carried out (`plan.rt`, `asking.rt`) is private; `select`, `why` and their clauses are what
@@ -53,5 +53,5 @@ pub use crate::question_filters::QuestionFilters;
 pub use crate::reason::{BinaryReason, Reason, TestReason};
 pub use crate::report::write_report;
 pub use crate::scope::LinkScope;
-pub use crate::selecting::{select, select_plain, select_shared};
+pub use crate::selecting::{select, select_listed, select_plain};
 pub use crate::selection::Selection;

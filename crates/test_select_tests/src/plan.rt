@@ -7,9 +7,7 @@ ghost use Rattle.test_select_rules.specs.BinaryView.{binary_view};
 ghost use Rattle.test_select_rules.specs.declared.test_binary.TestBinary.{TestBinary};
 ghost use Rattle.test_select_tests.specs.Kept.{AreThose};
 ghost use Rattle.test_select_tests.specs.Plans.{MayMatch, Plans};
-ghost use Rattle.test_select_rules.specs.Asked.{binary_asked};
-ghost use Rattle.test_select_tests.specs.QuestionFilters.{MayPass, question_view};
-ghost use Rattle.test_select_tests.specs.Questions.{WantedIn};
+ghost use Rattle.test_select_tests.specs.QuestionFilters.{question_view};
 
 use crate::asked_binaries::AskedBinaries;
 use crate::byte_names::{feature_names_are_bytes, record_names_are_bytes};
@@ -138,6 +136,7 @@ fn binaries_that_may_match<'r>(
     Ok(kept)
 }
 
+/// Whether the binary is available and wanted.
 fn may_match(
     alloc: Global,
     on: &FeaturesOn,
@@ -153,36 +152,10 @@ fn may_match(
     if !is_available(on, row.id.as_str(), target) {
         return Ok(false);
     }
-    is_wanted(alloc, filters, asks, binary)
-}
-
-/// Whether the binary is wanted, if it is available.
-fn is_wanted(
-    alloc: Global,
-    filters: &QuestionFilters,
-    asks: AskedBinaries,
-    binary: &TestBinary<'_>,
-) -> Result<bool, AllocError>
-    ensures { IfOk result (λ r. IsTrue r
-        ↔ WantedIn asks (MayPass (question_view filters.now)
-        (binary_asked (binary_view binary.now)))) }
-{
     match asks {
         AskedBinaries::Available => Ok(true),
-        AskedBinaries::LetThrough => may_pass_there(alloc, filters, binary),
+        AskedBinaries::LetThrough => may_pass(alloc, filters, &binary.query()),
     }
-}
-
-/// Whether some answers about its tests let the binary through the filters.
-fn may_pass_there(
-    alloc: Global,
-    filters: &QuestionFilters,
-    binary: &TestBinary<'_>,
-) -> Result<bool, AllocError>
-    ensures { IfOk result (λ r. IsTrue r
-        ↔ MayPass (question_view filters.now) (binary_asked (binary_view binary.now))) }
-{
-    may_pass(alloc, filters, &binary.query())
 }
 
 fn sorted_binaries(mut all: Vec<TestBinary<'_>>) -> Result<Vec<TestBinary<'_>>, AllocError>

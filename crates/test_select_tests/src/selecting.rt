@@ -1,16 +1,19 @@
 //! The selection of tests.
 
 ghost use Rattle.std.specs.Prelude.{map};
+ghost use Rattle.nextest_binaries.specs.Listers.{Shown, unasked};
+ghost use Rattle.test_select_tests.specs.Choosing.{BlamesUnlisted};
 ghost use Rattle.test_select_tests.specs.Selecting.{Answers};
 ghost use Rattle.test_select_tests.specs.declared.asked_binaries.AskedBinaries.TheVariants.{Available, LetThrough};
 
 use crate::asked_binaries::AskedBinaries;
-use crate::asking::ask_and_choose;
+use crate::asking::{ask_and_choose, take_and_choose};
 use crate::plan::{make_plan, make_shared_plan};
 use crate::scope::LinkScope;
 use crate::selection::Selection;
-use nextest_binaries::TestLister;
+use nextest_binaries::{Listing, TestLister};
 use std::alloc::Global;
+use std::collections::BTreeMap;
 use std::rc::Rc;
 use test_select_checks::SelectError;
 use workspace_record::{FeatureChoice, PlatformTable, WorkspaceRecord};
@@ -73,9 +76,10 @@ pub fn select_plain(
     ask_and_choose(alloc, &plan, lister)
 }
 
-/// The same tests of a record that is shared, of whose rows no copy is made, by a lister that is asked
-/// for these binaries.
-pub fn select_shared(
+/// The same tests of a record that is shared, of whose rows no copy is made, where a lister over these
+/// listings is asked for these binaries. The listings are taken over, and no name is copied. A binary is
+/// blamed only if none of them is its.
+pub fn select_listed(
     alloc: Global,
     record: &Rc<WorkspaceRecord>,
     choice: &FeatureChoice,
@@ -83,9 +87,9 @@ pub fn select_shared(
     scope: LinkScope,
     texts: &[&str],
     asks: AskedBinaries,
-    lister: &mut dyn TestLister,
+    listings: BTreeMap<String, Listing>,
 ) -> Result<Selection, SelectError>
-    ensures answers { Answers (record {
+    ensures answers { (after : Shown) × Answers (record {
       workspace = «record».now.value;
       choice = choice.now;
       table = table.now;
@@ -93,8 +97,9 @@ pub fn select_shared(
       texts = map (λ t. t.now) texts.now;
       asks = asks;
     })
-        (shown lister.old) result (shown lister.new) }
+        (unasked listings) result after }
+    ensures missing { BlamesUnlisted listings result }
 {
     let plan = make_shared_plan(alloc, record, choice, table, scope, texts, asks)?;
-    ask_and_choose(alloc, &plan, lister)
+    take_and_choose(alloc, &plan, listings)
 }

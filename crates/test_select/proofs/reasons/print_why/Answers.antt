@@ -1,4 +1,4 @@
-use Rattle.std.proofs.Common.{◌≡◌, ◌∙◌, ap, not, refl, rules, string_bytes, sym}
+use Rattle.std.proofs.Common.{◌≡◌, ◌∙◌, ap, not, rules, string_bytes, sym}
 use Rattle.clap.specs.Words.{found_of, rows_of}
 use Rattle.test_select.specs.Selections.{PrintsWhy, ReadsTests, SaysWhy, reason_line, says_no}
 use Rattle.test_select.proofs.PrintingFacts.{beginning_prints, denial_prints, memory_prints, refusal_prints, text_prints}

@@ -1,19 +1,9 @@
-use borrow.Pointer.Hide.{carried_sameᵐ}
-use mir.Syntax.{Dict}
-use Rattle.std.proofs.Common.{◌∙◌}
 use Rattle.clap.specs.Words.{found_of, rows_of}
-use Rattle.nextest_binaries.specs.Listers.{Shown}
-use Rattle.test_select.proofs.SelectionFacts.{memory_selects, selected_by}
-use Rattle.test_select.proofs.selections.selection_in.Object-1.{Members}
-use Rattle.test_select.proofs.selections.selection_in.OwnLists as own
+use Rattle.test_select.proofs.SelectionFacts.{selected_by}
 use Rattle.test_select.proofs.selections.selection_in.Goals as goal
-
-pub returns-in_err-lister : goal.returns-in_err-lister
-returns-in_err-lister c = record { selects = memory_selects (rows_of (found_of c.args.asked.now)) c.args.question.now c.args.listings c.from_residual.result c.from_residual.ensures.1 }
 
 pub returns : goal.returns
 returns c =
-    let coerced = carried_sameᵐ Members Dict own.entry-1-1 _ own.same-1-1 Shown (λ j y. j.1.shown y.now) _ in
     record {
-      selects = selected_by (rows_of (found_of c.args.asked.now)) c.args.question.now c.args.listings c.select_shared.result _ _ _ _ _ c.link_scope-scope.ensures.scope c.values_of-texts.ensures.values c.asked_binaries-asks.ensures.asks (coerced ∙ c.in_ok-lister.ensures.unasked) c.select_shared.ensures.answers;
+      selects = selected_by (rows_of (found_of c.args.asked.now)) c.args.question.now c.args.listings c.select_listed.result _ _ _ c.select_listed.ensures.answers.0 c.link_scope-scope.ensures.scope c.values_of-texts.ensures.values c.asked_binaries-asks.ensures.asks c.select_listed.ensures.answers.1 c.select_listed.ensures.missing;
     }

@@ -20,6 +20,15 @@ loop-name-preserved c =
       added = λ q b is. one_name_more q b c.loop-name.yielded c.in-Some.name [] (texts c.loop-name.passing.items) (texts c.push_if_passing.new.passing.items) (was.added q b is) (c.in_ok-push_if_passing.ensures.added q b (subst (λ ps. IsReadyFor ps q b (ready_view c.args.ready.now)) (sym was.same) is));
     }
 
+pub returns-then-names_ascend-clause-passing : goal.returns-then-names_ascend-clause-passing
+returns-then-names_ascend-clause-passing c q b is =
+    let size : c.into_iter-name-iterator.result.rest.len ≡ length c.args.names.items = cc in
+    let first : c.into_iter-name-iterator.result.rest.items ≡ c.args.names.items = cc in
+    let end = YieldsList-end (YieldsList-from_vec {s = c.into_iter-name-iterator.result} c.args.names.items first size) c.loop-name.yielded c.loop-name.name-iterator c.loop-name.yielded_by c.next.result c.next.new.self c.in-None.is c.next.ensures.steps in
+    let all : c.loop-name.yielded ≡ c.args.names.items = sym (map-id c.loop-name.yielded) ∙ end.0 in
+    let before = texts c.loop-name.passing.items in
+    passing_in_order q b (texts c.args.names.items) before before (subst (λ ns. Adds (IsPassing q b (texts ns)) [] before) all (c.loop-name.invariant.added q b is)) (λ x. (λ h. h, λ h. h))
+
 pub returns-clause-passing : goal.returns-clause-passing
 returns-clause-passing c q b is =
     let size : c.into_iter-name-iterator.result.rest.len ≡ length c.args.names.items = cc in
