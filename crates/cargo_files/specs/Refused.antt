@@ -103,11 +103,6 @@ RefusesPrinted id printed _ = ⊥
 abbrev pub IsRepeated : List Text → Text → Type 0
 IsRepeated tests name = (place : ℕ) × (first_repeat bytes_eq tests ≡ Some place) × (name ≡ get_or tests place [])
 
--- the refusal names the binary, and the name
-abbrev pub NamesRepeated : Text → Text → Refusal → Type 0
-NamesRepeated id name (Repeated named again) = (string_bytes named ≡ id) × (string_bytes again ≡ name)
-NamesRepeated id name _ = ⊥
-
 -- a binary has no tests where it should, or two of one name; either names the binary
 abbrev pub RefusesTests : Text → Option (List Text) → Bool → Refusal → Type 0
 RefusesTests id tests built (NoList named) = (string_bytes named ≡ id) × (tests ≡ None) × (built ≡ false)

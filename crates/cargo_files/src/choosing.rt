@@ -37,20 +37,14 @@ pub fn choice_of(
 {
     let index = RecordIndex::of(alloc, record)?;
     let extras = extras_of(alloc, &index, words.features)?;
-    let standard = standard_of(words.all_features, words.no_default_features);
-    Ok(FeatureChoice { standard, extras })
-}
-
-fn standard_of(all: bool, none: bool) -> Standard
-    ensures { result ≡ standard_of all none }
-{
-    if all {
+    let standard = if words.all_features {
         Standard::All
-    } else if none {
+    } else if words.no_default_features {
         Standard::None
     } else {
         Standard::Default
-    }
+    };
+    Ok(FeatureChoice { standard, extras })
 }
 
 /// The features that the words mean.

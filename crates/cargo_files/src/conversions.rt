@@ -1,11 +1,11 @@
 //! Records, tables and choices.
 
-ghost use Rattle.std.specs.Prelude.{◌≡◌, IfErr, IfOk, IfSome, find, option_copied, option_map, string_bytes};
+ghost use Rattle.std.specs.Prelude.{◌≡◌, IfErr, IfOk, IfSome, find, option_copied, string_bytes};
 ghost use Rattle.cargo_files.specs.Printed.{AreSettings};
 ghost use Rattle.cargo_files.specs.TableAnswers.{IsRefusal, specs_of};
 ghost use Rattle.cargo_files.specs.Choices.{IsChoiceFile, IsChoiceOf};
 ghost use Rattle.cargo_files.specs.Made.{IsRecordFile, IsTableFile};
-ghost use Rattle.cargo_files.specs.Refused.{RefusesChoice, RefusesLinks, RefusesMetadata, RefusesPlatform, RefusesTable, RefusesWords, has_spec, is_spec};
+ghost use Rattle.cargo_files.specs.Refused.{RefusesChoice, RefusesLinks, RefusesMetadata, RefusesPlatform, RefusesTable, RefusesWords, has_spec};
 
 use crate::cfg_table::{TableError, table_of};
 use crate::choosing::{FeatureWords, choice_of};
@@ -107,16 +107,9 @@ fn names_with(
     ensures { IfOk result (λ names. IfSome (find (has_spec spec.now) links.now)
         (λ l. (string_bytes names.0 ≡ l.from) × (string_bytes names.1 ≡ l.name))) }
 {
-    match link_with(links, spec) {
-        Some(link) => names_of(alloc, link),
-        None => Ok((String::new(alloc), String::new(alloc))),
-    }
-}
-
-fn names_of(alloc: Global, link: &LinkRecord) -> Result<(String, String), AllocError>
-    ensures { IfOk result (λ names. (string_bytes names.0 ≡ link.now.from)
-        × (string_bytes names.1 ≡ link.now.name)) }
-{
+    let Some(link) = link_with(links, spec) else {
+        return Ok((String::new(alloc), String::new(alloc)));
+    };
     let from = String::from_str(alloc, link.from.as_str())?;
     let name = String::from_str(alloc, link.name.as_str())?;
     Ok((from, name))
@@ -132,16 +125,10 @@ fn link_with<'a>(links: &'a [LinkRecord], spec: &str) -> Option<&'a LinkRecord>
 fn has_spec(link: &LinkRecord, spec: &str) -> bool
     ensures { result ≡ has_spec spec.now link.now }
 {
-    link.lines.iter().any(|line| is_spec(&line.spec, spec))
-}
-
-fn is_spec(text: &Option<String>, spec: &str) -> bool
-    ensures { result ≡ is_spec spec.now (option_map string_bytes text.now) }
-{
-    match text {
+    link.lines.iter().any(|line| match &line.spec {
         Some(other) => other.as_str() == spec,
         None => false,
-    }
+    })
 }
 
 /// The choice that Cargo's words mean for a record. Each `--features` gives words that commas or

@@ -1,6 +1,6 @@
 //! Listings of the test binaries of a record.
 
-ghost use Rattle.std.specs.Prelude.{◌≡◌, ◌++◌, [], IfErr, IfOk, OnErr, OnOk, bytes_eq, get_or, map, option_map, string_bytes};
+ghost use Rattle.std.specs.Prelude.{◌≡◌, ◌++◌, IfErr, IfOk, OnErr, OnOk, bytes_eq, map, option_map, string_bytes};
 ghost use Rattle.serde_json.specs.View.{view};
 ghost use Rattle.guppy_package_rules.specs.Places.{first_repeat};
 ghost use Rattle.test_select_rules.specs.Binaries.{binaries};
@@ -8,7 +8,7 @@ ghost use Rattle.record_writing.specs.Files.{ReadAsListings};
 ghost use Rattle.cargo_files.specs.Nextest.{suite_tests};
 ghost use Rattle.cargo_files.specs.Added.{IsAdded, listing};
 ghost use Rattle.cargo_files.specs.Listed.{AreIdsIn, AreListed, ArePrinted, AreSuites, HasSuites, MayStand, suite_listing};
-ghost use Rattle.cargo_files.specs.Refused.{NamesRepeated, RefusesFile, RefusesNextest, RefusesPrinted, RefusesSuites, RefusesTests};
+ghost use Rattle.cargo_files.specs.Refused.{RefusesFile, RefusesNextest, RefusesPrinted, RefusesSuites, RefusesTests};
 ghost use Rattle.cargo_files.specs.declared.refusal.Refusal.TheVariants.{Memory};
 
 use crate::nextest::nextest_tests;
@@ -70,7 +70,9 @@ pub fn add_listing(
         };
     };
     if let Some(place) = first_repeated(alloc, &tests)? {
-        return Err(repeated(alloc, id, name_at(&tests, place))?);
+        let name = tests.get(place).map_or("", String::as_str);
+        let id = String::from_str(alloc, id)?;
+        return Err(Refusal::Repeated(id, String::from_str(alloc, name)?));
     }
     listings.push((String::from_str(alloc, id)?, tests))?;
     Ok(())
@@ -85,15 +87,6 @@ fn first_repeated(alloc: Global, names: &[String]) -> Result<Option<usize>, Allo
         lent.push(name.as_str())?;
     }
     first_repeated_text(alloc, &lent)
-}
-
-fn name_at(names: &[String], place: usize) -> &str
-    ensures { result.now ≡ get_or (map string_bytes names.entry.now) place [] }
-{
-    match names.get(place) {
-        Some(name) => name.as_str(),
-        None => "",
-    }
 }
 
 /// The tests of these binaries that `cargo nextest list --message-format json` printed.
@@ -160,29 +153,15 @@ pub fn tests_printed(alloc: Global, id: &str, printed: &[u8]) -> Result<Vec<Stri
     ensures refused { IfErr result (RefusesPrinted id.now printed.now) }
 {
     match str::from_utf8(printed) {
-        Ok(text) => tests_listed(alloc, id, text),
+        Ok(text) => match terse_tests(alloc, text) {
+            Ok(tests) => Ok(tests),
+            Err(TerseFault::NoTest(place)) => {
+                Err(Refusal::StrayLine(String::from_str(alloc, id)?, place))
+            }
+            Err(TerseFault::Memory) => Err(Refusal::Memory),
+        },
         Err(_) => Err(Refusal::UnreadList(String::from_str(alloc, id)?)),
     }
-}
-
-fn tests_listed(alloc: Global, id: &str, text: &str) -> Result<Vec<String>, Refusal>
-    ensures listed { IfOk result (λ v. ArePrinted text.now (map string_bytes v.items)) }
-    ensures refused { IfErr result (RefusesPrinted id.now text.now) }
-{
-    match terse_tests(alloc, text) {
-        Ok(tests) => Ok(tests),
-        Err(TerseFault::NoTest(place)) => {
-            Err(Refusal::StrayLine(String::from_str(alloc, id)?, place))
-        }
-        Err(TerseFault::Memory) => Err(Refusal::Memory),
-    }
-}
-
-fn repeated(alloc: Global, id: &str, name: &str) -> Result<Refusal, AllocError>
-    ensures { IfOk result (λ r. NamesRepeated id.now name.now r) }
-{
-    let id = String::from_str(alloc, id)?;
-    Ok(Refusal::Repeated(id, String::from_str(alloc, name)?))
 }
 
 /// The file of listings.

@@ -19,7 +19,13 @@ pub(crate) fn meant_by_word(
 {
     match word_of(word) {
         Word::OfEach(name) => features_among(alloc, index, index.packages(), name),
-        Word::OfMember(owner, name) => meant_of_member(alloc, index, owner, name),
+        Word::OfMember(owner, name) => {
+            let mut features = Vec::new(alloc);
+            if let Some(package) = member_named(index, owner) {
+                push_own_feature(alloc, &mut features, package, name)?;
+            }
+            Ok(features)
+        }
     }
 }
 
@@ -69,21 +75,6 @@ fn push_own_feature(
         features.push(Feature::named(alloc, package.row().id.as_str(), name)?)?;
     }
     Ok(())
-}
-
-fn meant_of_member(
-    alloc: Global,
-    index: &RecordIndex<'_>,
-    owner: &str,
-    name: &str,
-) -> Result<Vec<Feature>, AllocError>
-    ensures { IfOk result (λ v. v.items ≡ meant index.now (OfMember owner.now name.now)) }
-{
-    let mut features = Vec::new(alloc);
-    if let Some(package) = member_named(index, owner) {
-        push_own_feature(alloc, &mut features, package, name)?;
-    }
-    Ok(features)
 }
 
 /// The first member of this name.

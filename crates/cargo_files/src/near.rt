@@ -16,10 +16,18 @@ impl<'a> NearNames<'a> {
         NearNames { wanted, text }
     }
 
-    /// Takes up a name that is known, if it is near.
+    /// Takes up a name that is known, if two changes, or one part, make the one name of the other.
     pub(crate) fn offer(&mut self, alloc: Global, known: &str) -> Result<(), AllocError> {
-        if is_near(alloc, self.wanted, known)? {
-            push_name(&mut self.text, known)?;
+        let is_part = !self.wanted.is_empty() && known.contains(self.wanted);
+        if is_part || levenshtein(alloc, self.wanted, known)? <= 2 {
+            let text = &mut self.text;
+            text.push_str(if text.is_empty() {
+                ": did you mean `"
+            } else {
+                ", or `"
+            })?;
+            text.push_str(known)?;
+            text.push_str("`")?;
         }
         Ok(())
     }
@@ -27,23 +35,4 @@ impl<'a> NearNames<'a> {
     pub(crate) fn into_text(self) -> String {
         self.text
     }
-}
-
-fn push_name(text: &mut String, known: &str) -> Result<(), AllocError> {
-    text.push_str(if text.is_empty() {
-        ": did you mean `"
-    } else {
-        ", or `"
-    })?;
-    text.push_str(known)?;
-    text.push_str("`")?;
-    Ok(())
-}
-
-/// Whether two changes, or one part, make the one name of the other.
-fn is_near(alloc: Global, wanted: &str, known: &str) -> Result<bool, AllocError> {
-    if !wanted.is_empty() && known.contains(wanted) {
-        return Ok(true);
-    }
-    Ok(levenshtein(alloc, wanted, known)? <= 2)
 }

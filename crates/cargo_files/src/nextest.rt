@@ -2,7 +2,7 @@
 
 ghost use Rattle.std.specs.Prelude.{◌≡◌, IfOk, map, option_map, string_bytes};
 ghost use Rattle.serde_json.specs.View.{members_view, view};
-ghost use Rattle.cargo_files.specs.Nextest.{member_names, suite_tests, testcases};
+ghost use Rattle.cargo_files.specs.Nextest.{member_names, suite_tests};
 
 use serde_json::{Map, Value};
 use std::alloc::{AllocError, Global};
@@ -17,20 +17,12 @@ pub fn nextest_tests(
     ensures tests { IfOk result (λ o. option_map (λ v. map string_bytes v.items) o
         ≡ suite_tests (view list.now) id.now) }
 {
-    match testcases_of(list, id) {
+    let suites = list.get("rust-suites");
+    let testcases = suites.and_then(|suites| suites.get(id)?.get("testcases"));
+    match testcases.and_then(Value::as_object) {
         Some(members) => Ok(Some(names_of(alloc, members)?)),
         None => Ok(None),
     }
-}
-
-fn testcases_of<'a>(list: &'a Value, id: &str) -> Option<&'a Map<String, Value>>
-    ensures { option_map (λ m. members_view m.now.entries) result
-        ≡ testcases (view list.entry.now) id.now }
-{
-    list.get("rust-suites")?
-        .get(id)?
-        .get("testcases")?
-        .as_object()
 }
 
 fn names_of(alloc: Global, members: &Map<String, Value>) -> Result<Vec<String>, AllocError>

@@ -1,7 +1,7 @@
 //! The faults of words that mean no feature.
 
-ghost use Rattle.std.specs.Prelude.{◌≡◌, IfOk};
-ghost use Rattle.cargo_files.specs.Faults.{MissesFeature, MissesMember};
+ghost use Rattle.std.specs.Prelude.{IfOk};
+ghost use Rattle.cargo_files.specs.Faults.{MissesFeature};
 ghost use Rattle.cargo_files.specs.Meaning.{Tells};
 
 use crate::choice_fault::ChoiceFault;
@@ -22,8 +22,22 @@ pub(crate) fn refused(
     match word_of(word) {
         Word::OfEach(_) => no_feature(alloc, index, word),
         Word::OfMember(owner, name) => match member_named(index, owner) {
-            Some(package) => no_own_feature(alloc, package, word, name),
-            None => no_member(alloc, index, word, owner),
+            Some(package) => {
+                let mut near = NearNames::of(alloc, name);
+                offer_features(alloc, &mut near, package)?;
+                let word = String::from_str(alloc, word)?;
+                Ok(ChoiceFault::NoFeature(word, near.into_text()))
+            }
+            None => {
+                let mut near = NearNames::of(alloc, owner);
+                for package in index.packages() {
+                    if is_member(index, package) {
+                        near.offer(alloc, package.row().name.as_str())?;
+                    }
+                }
+                let word = String::from_str(alloc, word)?;
+                Ok(ChoiceFault::NoMember(word, near.into_text()))
+            }
         },
     }
 }
@@ -40,40 +54,6 @@ fn no_feature(alloc: Global, index: &RecordIndex<'_>, name: &str) -> Result<Choi
     }
     let word = String::from_str(alloc, name)?;
     Ok(ChoiceFault::NoFeature(word, near.into_text()))
-}
-
-/// The fault of a feature that its member does not have, with the features that are near it.
-fn no_own_feature(
-    alloc: Global,
-    package: &PackageIndex<'_>,
-    word: &str,
-    name: &str,
-) -> Result<ChoiceFault, AllocError>
-    ensures { IfOk result (MissesFeature word.now) }
-{
-    let mut near = NearNames::of(alloc, name);
-    offer_features(alloc, &mut near, package)?;
-    let word = String::from_str(alloc, word)?;
-    Ok(ChoiceFault::NoFeature(word, near.into_text()))
-}
-
-/// The fault of a package that is no member, with the members that are near it.
-fn no_member(
-    alloc: Global,
-    index: &RecordIndex<'_>,
-    word: &str,
-    owner: &str,
-) -> Result<ChoiceFault, AllocError>
-    ensures { IfOk result (MissesMember word.now) }
-{
-    let mut near = NearNames::of(alloc, owner);
-    for package in index.packages() {
-        if is_member(index, package) {
-            near.offer(alloc, package.row().name.as_str())?;
-        }
-    }
-    let word = String::from_str(alloc, word)?;
-    Ok(ChoiceFault::NoMember(word, near.into_text()))
 }
 
 fn offer_features(

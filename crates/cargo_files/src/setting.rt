@@ -20,16 +20,6 @@ impl Model for CfgSetting {
     ghost view = { λ s. record { name = string_bytes s.name; value = option_map string_bytes s.value } };
 }
 
-/// Whether the setting has this name and this value.
-fn is_pair(setting: &CfgSetting, name: &[u8], value: &[u8]) -> bool
-    ensures { result ≡ spec.is_pair name.now value.now setting.now }
-{
-    match &setting.value {
-        Some(own) => own.as_bytes() == value && setting.name.as_bytes() == name,
-        None => false,
-    }
-}
-
 /// Whether the name is set, with no value.
 pub(crate) fn has_name(settings: &[CfgSetting], name: &[u8]) -> bool
     ensures { result ≡ list_any (spec.is_name name.now) settings.now }
@@ -41,5 +31,8 @@ pub(crate) fn has_name(settings: &[CfgSetting], name: &[u8]) -> bool
 pub(crate) fn has_pair(settings: &[CfgSetting], name: &[u8], value: &[u8]) -> bool
     ensures { result ≡ list_any (spec.is_pair name.now value.now) settings.now }
 {
-    settings.iter().any(|setting| is_pair(setting, name, value))
+    settings.iter().any(|setting| match &setting.value {
+        Some(own) => own.as_bytes() == value && setting.name.as_bytes() == name,
+        None => false,
+    })
 }

@@ -2,7 +2,7 @@
 
 ghost use Rattle.std.specs.Prelude.{◌≡◌, ◌++◌, ◌∷◌, [], IfOk, OnOk, List, filter, map};
 ghost use Rattle.workspace_record.specs.Records.{Text};
-ghost use Rattle.cargo_files.specs.Parting.{AreWords, AreWordsOf, is_word, parts_words};
+ghost use Rattle.cargo_files.specs.Parting.{AreWords, AreWordsOf, is_word};
 
 use std::alloc::{AllocError, Global};
 
@@ -18,12 +18,12 @@ pub fn feature_words<'a>(alloc: Global, lists: &[&'a str]) -> Result<Vec<&'a str
     Ok(words)
 }
 
-/// Adds the words of a list.
+/// Adds the words of a list: what stands between commas and blanks.
 fn push_words<'a>(words: &mut Vec<&'a str>, list: &'a str) -> Result<(), AllocError>
     ensures { OnOk result ((own : List Text) × AreWords list.entry.now own
         × (map (λ t. t.now) words.new.items ≡ map (λ t. t.now) words.old.items ++ own)) }
 {
-    for piece in list.split(|c: char| parts_words(c)) {
+    for piece in list.split(|c: char| c == ',' || c.is_whitespace()) {
         push_word(words, piece)?;
     }
     Ok(())
@@ -38,11 +38,4 @@ fn push_word<'a>(words: &mut Vec<&'a str>, piece: &'a str) -> Result<(), AllocEr
         words.push(piece)?;
     }
     Ok(())
-}
-
-/// Whether the character is a comma or a blank.
-fn parts_words(c: char) -> bool
-    ensures { result ≡ parts_words c }
-{
-    c == ',' || c.is_whitespace()
 }

@@ -3,8 +3,6 @@ use Rattle.std.specs.Prelude.{◌≡◌, ℕ, List, Some, None, Result, Ok, Err,
 use Rattle.std.specs.Str.{IsUtf8}
 use Rattle.serde_json.specs.Data.{Data}
 use Rattle.serde_json.specs.Read.{read}
-use Rattle.serde_json.specs.View.{view}
-use Rattle.serde_json.specs.declared.value.Value.{Value}
 use Rattle.cargo_metadata.specs.declared.error.MetadataError.{MetadataError}
 use Rattle.cargo_metadata.specs.declared.error.MetadataError.TheVariants.{BadJson, BadShape, BadPackage, UnknownKind, Memory}
 use Rattle.cargo_metadata.specs.Faults.{Fault, at_key, at_key_of, unknown_kind}
@@ -26,12 +24,3 @@ ReadsFile shows format bytes (Err (UnknownKind owner target kind)) =
     Reads format bytes (Err (unknown_kind (string_bytes owner) (string_bytes target) (string_bytes kind)))
 ReadsFile shows format bytes (Err BadJson) = IsUtf8 bytes → read bytes ≡ None
 ReadsFile shows format bytes (Err Memory) = Unit {0}
-
--- the bytes were read as JSON, or are not JSON
-abbrev pub Parses : List ℕ → Result Value MetadataError → Type 0
-Parses bytes (Ok v) = IsUtf8 bytes × (read bytes ≡ Some (view v))
-Parses bytes (Err (BadShape key)) = ⊥
-Parses bytes (Err (BadPackage owner key)) = ⊥
-Parses bytes (Err (UnknownKind owner target kind)) = ⊥
-Parses bytes (Err BadJson) = IsUtf8 bytes → read bytes ≡ None
-Parses bytes (Err Memory) = Unit {0}

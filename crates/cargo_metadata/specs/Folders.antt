@@ -1,5 +1,5 @@
 -- Folders of manifests.
-use Rattle.std.specs.Prelude.{ℕ, ◌-◌, Bool, List, length, take, drop, bytes_eq, codes, if◌then◌else◌, Option, Some, None}
+use Rattle.std.specs.Prelude.{◌-◌, Bool, length, take, drop, bytes_eq, codes, if◌then◌else◌, Option, Some, None}
 use Rattle.workspace_record.specs.Records.{Text}
 
 -- the text ends as the path of a manifest

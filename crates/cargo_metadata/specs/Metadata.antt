@@ -1,5 +1,5 @@
 -- What `cargo metadata` says of a workspace.
-use Rattle.std.specs.Prelude.{ℕ, List, Option, Some, codes, option_and_then, Result, Ok}
+use Rattle.std.specs.Prelude.{ℕ, List, Option, codes, option_and_then, Result, Ok}
 use Rattle.serde_json.specs.Data.{Data}
 use Rattle.serde_json.specs.Find.{get, as_number, as_u64}
 use Rattle.workspace_record.specs.Records.{Text}

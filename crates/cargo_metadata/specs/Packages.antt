@@ -1,13 +1,11 @@
 -- The packages that Cargo lists.
-use Rattle.std.specs.Prelude.{◌≡◌, List, [], ◌∷◌, ◌++◌, Bool, ◌||◌, ◌&&◌, not, bytes_eq, codes, if◌then◌else◌, Option, Some, None, ok_or, Result, Ok, Err, string_bytes}
+use Rattle.std.specs.Prelude.{List, [], ◌∷◌, ◌++◌, Bool, ◌||◌, ◌&&◌, not, bytes_eq, codes, if◌then◌else◌, Option, Some, None, ok_or, Result, Ok, Err}
 use Rattle.std.specs.List.{list_any}
 use Rattle.serde_json.specs.Data.{Data, Members, no_members, member}
 use Rattle.workspace_record.specs.Records.{Text, FeatureEntry, Target, Package}
 use Rattle.workspace_record.specs.declared.kinds.TargetKind.{TargetKind}
 use Rattle.workspace_record.specs.declared.kinds.TargetKind.TheVariants.{Lib, ProcMacro, Test, Bench, Bin, Example, BuildScript}
 use Rattle.cargo_metadata.specs.Faults.{Fault, at_key, unknown_kind}
-use Rattle.cargo_metadata.specs.declared.error.MetadataError.{MetadataError}
-use Rattle.cargo_metadata.specs.declared.error.MetadataError.TheVariants.{BadJson, BadShape, UnknownKind, Memory}
 use Rattle.cargo_metadata.specs.declared.key.Key.{Key}
 use Rattle.cargo_metadata.specs.declared.key.Key.TheVariants as key
 use Rattle.cargo_metadata.specs.Outcomes.{◌>>=◌}
@@ -35,12 +33,6 @@ first_kind owner target (kind ∷ more) = ok_or (target_kind kind) (unknown_kind
 -- the kind of a package's target
 unfoldable pub kind_at : Text → Text → Data → Result TargetKind Fault
 kind_at owner target d = texts_at key.Kind d >>= first_kind owner target
-
--- the error of a target of an unknown kind
-abbrev pub IsUnknownKind : Text → Text → Text → MetadataError → Type 0
-IsUnknownKind owner target kind (UnknownKind o t k) =
-    (string_bytes o ≡ owner) × (string_bytes t ≡ target) × (string_bytes k ≡ kind)
-IsUnknownKind owner target kind _ = ⊥
 
 -- a target of a package
 unfoldable pub target_of : Text → Data → Result Target Fault

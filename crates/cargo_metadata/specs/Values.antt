@@ -1,6 +1,6 @@
 -- What a value gives where a text, a flag or a list is wanted, and what an object gives at a key.
 use Rattle.std.specs.Prelude.{List, [], ◌∷◌, Bool, true, ◌&&◌, if◌then◌else◌, Option, Some, None, is_some, option_map, option_and_then, ok_or, Result, Ok, Err}
-use Rattle.serde_json.specs.Data.{Data, null, boolean, number, string, array, object, Items, no_items, item, Members, no_members, member}
+use Rattle.serde_json.specs.Data.{Data, null, boolean, number, string, array, object, Items, no_items, item, Members}
 use Rattle.serde_json.specs.Find.{get, as_bool, as_str, as_array, as_object}
 use Rattle.workspace_record.specs.Records.{Text}
 use Rattle.cargo_metadata.specs.Faults.{Fault, at_key}

@@ -2,7 +2,7 @@ ghost use Rattle.std.specs.Prelude.{◌≡◌};
 ghost use Rattle.serde_json.specs.View.{view};
 ghost use Rattle.cargo_metadata.specs.declared.key.Key.TheVariants as key;
 ghost use Rattle.cargo_metadata.specs.Dependencies as spec;
-ghost use Rattle.cargo_metadata.specs.Dependencies.{line_kind_at, line_of};
+ghost use Rattle.cargo_metadata.specs.Dependencies.{line_kind_at};
 ghost use Rattle.cargo_metadata.specs.Outcomes.{Gives};
 
 use crate::error::MetadataError;
@@ -60,7 +60,7 @@ impl FromValue for Dependency {
 
     ghost read = { dependency_of };
 
-    #[tactic(auto, unfolding(crate::specs::Dependencies::dependency_of))]
+    #[tactic(auto, unfolding(crate::specs::Dependencies::dependency_of, crate::specs::Dependencies::line_of))]
     fn from_value(alloc: Global, value: &Value) -> Result<Dependency, MetadataError> {
         let package_name = text_at(alloc, value, Key::Name)?;
         let rename = optional_text_at(alloc, value, Key::Rename)?;
@@ -68,7 +68,11 @@ impl FromValue for Dependency {
         let requirement = text_at(alloc, value, Key::Requirement)?;
         let registry = optional_text_at(alloc, value, Key::Registry)?;
         let path = optional_text_at(alloc, value, Key::Path)?;
-        let line = line_of(alloc, value)?;
+        let kind = line_kind_at(value)?;
+        let optional = flag_at(value, Key::Optional)?;
+        let default_features = flag_at(value, Key::UsesDefaultFeatures)?;
+        let features = texts_at(alloc, value, Key::Features)?;
+        let spec = optional_text_at(alloc, value, Key::Target)?;
         Ok(Dependency {
             package_name,
             rename,
@@ -76,27 +80,15 @@ impl FromValue for Dependency {
             requirement,
             registry,
             path,
-            line,
+            line: LineRecord {
+                kind,
+                optional,
+                default_features,
+                features,
+                spec,
+            },
         })
     }
-}
-
-#[tactic(auto, unfolding(crate::specs::Dependencies::line_of))]
-fn line_of(alloc: Global, value: &Value) -> Result<LineRecord, MetadataError>
-    ensures { Gives (λ l. l) result (line_of (view value.now)) }
-{
-    let kind = line_kind_at(value)?;
-    let optional = flag_at(value, Key::Optional)?;
-    let default_features = flag_at(value, Key::UsesDefaultFeatures)?;
-    let features = texts_at(alloc, value, Key::Features)?;
-    let spec = optional_text_at(alloc, value, Key::Target)?;
-    Ok(LineRecord {
-        kind,
-        optional,
-        default_features,
-        features,
-        spec,
-    })
 }
 
 /// The section of a dependency; absent is the normal one.

@@ -9,7 +9,6 @@ mod called;
 mod dependency;
 mod details;
 mod error;
-mod file;
 mod folder;
 mod key;
 mod metadata;

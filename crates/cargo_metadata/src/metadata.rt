@@ -1,14 +1,13 @@
 ghost use Rattle.std.specs.Prelude.{option_map};
 ghost use Rattle.serde_json.specs.View.{view};
 ghost use Rattle.cargo_metadata.specs.Files.{ReadsFile};
-ghost use Rattle.cargo_metadata.specs.Metadata.{metadata_file, metadata_of, nodes_at, workspace_of};
+ghost use Rattle.cargo_metadata.specs.Metadata.{metadata_file, metadata_of, nodes_at};
 ghost use Rattle.cargo_metadata.specs.Outcomes.{Gives};
 
 use crate::error::MetadataError;
-use crate::file::value_of;
 use crate::key::Key;
 use crate::object::{
-    each_of, given, object_of, objects_at, optional_text_at, optional_texts_at, text_at, texts_at,
+    each_of, given, objects_at, optional_text_at, optional_texts_at, text_at, texts_at,
 };
 use crate::package::DeclaringPackage;
 use crate::resolved::ResolvedPackage;
@@ -63,41 +62,37 @@ impl Model for WorkspaceNames {
 pub fn read_metadata(alloc: Global, bytes: &[u8]) -> Result<Metadata, MetadataError>
     ensures reads { ReadsFile (λ m. m) metadata_file bytes.now result }
 {
-    let value = value_of(alloc, bytes)?;
-    metadata_of(alloc, object_of(&value, Key::File)?)
+    match Value::from_slice(alloc, bytes) {
+        Ok(value) if value.is_object() => metadata_of(alloc, &value),
+        Ok(_) => Err(MetadataError::at(Key::File)),
+        Err(error) if error.is_memory() => Err(MetadataError::Memory),
+        Err(_) => Err(MetadataError::BadJson),
+    }
 }
 
-#[tactic(auto, unfolding(crate::specs::Metadata::metadata_of))]
+#[tactic(auto, unfolding(crate::specs::Metadata::metadata_of, crate::specs::Metadata::workspace_of))]
 fn metadata_of(alloc: Global, value: &Value) -> Result<Metadata, MetadataError>
     ensures { Gives (λ m. m) result (metadata_of (view value.now)) }
 {
     let format = value.get("version").and_then(Value::as_u64);
-    let workspace = workspace_of(alloc, value)?;
+    let root = text_at(alloc, value, Key::WorkspaceRoot)?;
+    let target_directory = text_at(alloc, value, Key::TargetDirectory)?;
+    let build_directory = optional_text_at(alloc, value, Key::BuildDirectory)?;
+    let members = texts_at(alloc, value, Key::WorkspaceMembers)?;
+    let default_members = optional_texts_at(alloc, value, Key::WorkspaceDefaultMembers)?;
     let nodes = nodes_at(alloc, value)?;
     let packages = each_of::<DeclaringPackage>(alloc, objects_at(value, Key::Packages)?)?;
     Ok(Metadata {
         format,
         packages,
         nodes,
-        workspace,
-    })
-}
-
-#[tactic(auto, unfolding(crate::specs::Metadata::workspace_of))]
-fn workspace_of(alloc: Global, value: &Value) -> Result<WorkspaceNames, MetadataError>
-    ensures { Gives (λ w. w) result (workspace_of (view value.now)) }
-{
-    let root = text_at(alloc, value, Key::WorkspaceRoot)?;
-    let target_directory = text_at(alloc, value, Key::TargetDirectory)?;
-    let build_directory = optional_text_at(alloc, value, Key::BuildDirectory)?;
-    let members = texts_at(alloc, value, Key::WorkspaceMembers)?;
-    let default_members = optional_texts_at(alloc, value, Key::WorkspaceDefaultMembers)?;
-    Ok(WorkspaceNames {
-        root,
-        target_directory,
-        build_directory,
-        members,
-        default_members,
+        workspace: WorkspaceNames {
+            root,
+            target_directory,
+            build_directory,
+            members,
+            default_members,
+        },
     })
 }
 

@@ -7,7 +7,7 @@ ghost use Rattle.serde_json.specs.Find.{as_object};
 ghost use Rattle.serde_json.specs.View.{view, items_view};
 ghost use Rattle.cargo_metadata.specs.Faults.{Fault};
 ghost use Rattle.cargo_metadata.specs.Outcomes.{Gives};
-ghost use Rattle.cargo_metadata.specs.Values.{each, given, text_of, as_texts, text_at, optional_text_at, texts_of, texts_at, texts_or_none, optional_texts_at, flag_at, object_of, objects_at};
+ghost use Rattle.cargo_metadata.specs.Values.{each, given, text_of, as_texts, text_at, optional_text_at, texts_of, texts_at, texts_or_none, optional_texts_at, flag_at, objects_at};
 
 use crate::error::MetadataError;
 use crate::key::Key;
@@ -122,17 +122,6 @@ pub(crate) fn optional_texts_at(
     match given(value, key) {
         None => Ok(None),
         Some(value) => Ok(Some(texts_of(alloc, value, key)?)),
-    }
-}
-
-/// The value itself, if it is an object.
-pub(crate) fn object_of(value: &Value, key: Key) -> Result<&Value, MetadataError>
-    ensures { Gives (λ v. view v.now) result (object_of key (view value.entry.now)) }
-{
-    if value.is_object() {
-        Ok(value)
-    } else {
-        Err(MetadataError::at(key))
     }
 }
 

@@ -1,14 +1,14 @@
-ghost use Rattle.std.specs.Prelude.{◌≡◌, IfOk};
+ghost use Rattle.std.specs.Prelude.{◌≡◌};
 ghost use Rattle.serde_json.specs.View.{view, items_view};
 ghost use Rattle.cargo_metadata.specs.Outcomes.{Gives};
 ghost use Rattle.cargo_metadata.specs.Values.{each};
-ghost use Rattle.cargo_metadata.specs.Packages.{IsUnknownKind, kind_at, target_kind, target_of};
+ghost use Rattle.cargo_metadata.specs.Packages.{kind_at, target_kind, target_of};
 
 use crate::error::MetadataError;
 use crate::key::Key;
 use crate::object::{flag_at, text_at, texts_at, texts_or_none};
 use serde_json::Value;
-use std::alloc::{AllocError, Global};
+use std::alloc::Global;
 use workspace_record::{TargetInfo, TargetKind, TargetRecord};
 
 /// The targets of a package.
@@ -71,22 +71,13 @@ fn kind_at(
     };
     match target_kind(kind.as_str()) {
         Some(known) => Ok(known),
-        None => Err(unknown_kind(alloc, package, target, kind.as_str())?),
+        None => {
+            let package = String::from_str(alloc, package)?;
+            let target = String::from_str(alloc, target)?;
+            let kind = String::from_str(alloc, kind.as_str())?;
+            Err(MetadataError::UnknownKind(package, target, kind))
+        }
     }
-}
-
-fn unknown_kind(
-    alloc: Global,
-    package: &str,
-    target: &str,
-    kind: &str,
-) -> Result<MetadataError, AllocError>
-    ensures { IfOk result (λ e. IsUnknownKind «package».now target.now kind.now e) }
-{
-    let package = String::from_str(alloc, package)?;
-    let target = String::from_str(alloc, target)?;
-    let kind = String::from_str(alloc, kind)?;
-    Ok(MetadataError::UnknownKind(package, target, kind))
 }
 
 fn target_kind(name: &str) -> Option<TargetKind>

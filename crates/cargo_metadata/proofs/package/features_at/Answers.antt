@@ -1,4 +1,4 @@
-use Rattle.std.proofs.Common.{◌≡◌, ◌∷◌, ◌∙◌, ap, string_bytes}
+use Rattle.std.proofs.Common.{◌≡◌, ◌∷◌, ◌∙◌, string_bytes}
 use Rattle.serde_json.specs.View.{view, members_view}
 use Rattle.cargo_metadata.proofs.Lists.{feature_step}
 use Rattle.cargo_metadata.proofs.package.features_at.Goals as goal
