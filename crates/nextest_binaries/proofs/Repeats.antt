@@ -1,8 +1,9 @@
 -- Texts seen one after another, until one was seen before.
-use Rattle.std.proofs.Common.{◌≡◌, ◌≢◌, ℕ, ◌+◌, ◌<◌, Bool, true, false, List, [], ◌∷◌, ◌++◌, length, get_or, take, map, refl, sym, ◌∙◌, ap, subst, ◌⊎◌, ⊎_elim, arith, Contains, cond, length-take, get_or-take, not, String, Global, string_bytes, Bor}
+use Rattle.std.proofs.Common.{◌≡◌, ◌≢◌, ℕ, ◌+◌, ◌<◌, Bool, true, false, List, [], ◌∷◌, ◌++◌, length, get_or, take, map, refl, sym, ◌∙◌, ap, subst, ◌⊎◌, ⊎_elim, arith, Contains, cond, length-take, get_or-take, not, String, Global, string_bytes, Bor, is_ge, true≢false}
 use Rattle.std.specs.List.{list_any}
 use Rattle.std.specs.List.Sorted.{IsStrictlySortedBy}
 use Rattle.std.specs.Str.{bytes_eq}
+use Rattle.std.specs.String.{string_cmp}
 use Rattle.std.specs.declared.cmp.Ordering.TheVariants.{Less}
 use Rattle.std.proofs.lemmas.List.{get_or_append_left, get_or_push, get_or_default, length_push, length-map, take-map, get_or-map, map-append}
 use Rattle.std.proofs.lemmas.Slice.Eq.{bytes_eq-Decides}
@@ -23,6 +24,13 @@ ascending_names (n ∷ ns) h =
     sorted_from_all_adjacent text_total (texts (n ∷ ns)) [] (λ k lt.
     let within : k + 1 < length (n ∷ ns) = subst (λ m. k + 1 < m) (length-map (n ∷ ns) string_bytes) lt in
     rw (get_or-map string_bytes (n ∷ ns) k n [] (omega (arith, within)), get_or-map string_bytes (n ∷ ns) (k + 1) n [] within) (h k n within))
+
+-- names of which one is not below the next do not ascend
+pub descending_names : (names : List (String Global)) (k : ℕ) (d e : String Global) → k + 1 < length names → is_ge (string_cmp (get_or names k d) (get_or names (k + 1) e)) ≡ true → ¬ (IsStrictlySortedBy text_cmp (texts names))
+descending_names names k d e within falls ascending =
+    let less : text_cmp (get_or (texts names) k []) (get_or (texts names) (k + 1) []) ≡ Less = Less-from_sorted text_cmp (texts names) k (k + 1) [] ascending (omega arith) (omega (arith, within, length-map names string_bytes)) in
+    let here : string_cmp (get_or names k d) (get_or names (k + 1) e) ≡ Less = subst (λ x. text_cmp x (string_bytes (get_or names (k + 1) e)) ≡ Less) (get_or-map string_bytes names k d [] (omega (arith, within))) (subst (λ x. text_cmp (get_or (texts names) k []) x ≡ Less) (get_or-map string_bytes names (k + 1) e [] within) less) in
+    absurd (true≢false (sym falls ∙ ap is_ge here))
 
 -- texts that ascend stand apart
 pub ascending_apart : (xs : List (List ℕ)) (i j : ℕ) → IsStrictlySortedBy text_cmp xs → i < j → j < length xs → get_or xs i [] ≢ get_or xs j []

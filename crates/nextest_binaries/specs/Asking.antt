@@ -1,9 +1,9 @@
 -- What it is to ask for several listings, one after another.
-use Rattle.std.specs.Prelude.{◌≡◌, ◌≢◌, ℕ, ◌+◌, ◌<◌, ◌≤◌, List, length, take, map, All, slice_index_or, [], Some, None, Result, Ok, Err, Vec, String}
-use Rattle.std.specs.BTreeMap.{BTreeMap}
+use Rattle.std.specs.Prelude.{◌≡◌, ◌≢◌, ℕ, ◌+◌, ◌<◌, ◌≤◌, List, length, take, map, All, slice_index_or, [], Contains, IsOk, Some, None, Result, Ok, Err, Vec, String}
+use Rattle.std.specs.BTreeMap.{get_by_text}
 use Rattle.std.specs.Global.{Global}
 use Rattle.list_facts.specs.Texts.{texts}
-use Rattle.nextest_binaries.specs.Listers.{Shown, Asked, Failed, largest, listing_in, unasked}
+use Rattle.nextest_binaries.specs.Listers.{Shown, Asked, Failed, HeldListings, largest, listing_in, unasked}
 use Rattle.nextest_binaries.specs.Listings.{IsWellFormed, HasFault}
 use Rattle.nextest_binaries.specs.declared.fault.ListingFault.{ListingFault}
 use Rattle.nextest_binaries.specs.declared.fault.AskError.{AskError}
@@ -57,8 +57,10 @@ ListsEach old ids (Err Memory) new = AskedSome old ids new
 abbrev pub IsFirstAt : List (List ℕ) → ℕ → Type 0
 IsFirstAt ids i = (j : ℕ) → j < i → slice_index_or ids j [] ≢ slice_index_or ids i []
 
--- the listings of these ids are taken out of a map: what asking a lister over it comes to, which fails for an id alone that has no listing, or whose was taken before
-pub record TakesEach (listings : BTreeMap (String Global) (Vec (String Global) Global)) (ids : List (List ℕ)) (result : Result (Vec (Vec (String Global) Global) Global) AskError) : Type 0 where
+-- the listings of these ids are taken out of a map, which keeps all others: what asking a lister over it comes to, which fails for an id alone that has no listing, or whose was taken before
+pub record TakesEach (old : HeldListings) (ids : List (List ℕ)) (result : Result (Vec (Vec (String Global) Global) Global) AskError) (new : HeldListings) : Type 0 where
   pub after : Shown
-  pub lists : ListsEach (unasked listings) ids result after
-  pub missing : (i : ℕ) → result ≡ Err (Lister i) → IsFirstAt ids i → listing_in listings (slice_index_or ids i []) ≡ None
+  pub lists : ListsEach (unasked old) ids result after
+  pub missing : (i : ℕ) → result ≡ Err (Lister i) → IsFirstAt ids i → listing_in old (slice_index_or ids i []) ≡ None
+  pub gone : IsOk result → (id : List ℕ) → Contains ids id → get_by_text new id ≡ None
+  pub left : (id : List ℕ) → ¬ (Contains ids id) → get_by_text new id ≡ get_by_text old id

@@ -35,10 +35,14 @@ abbrev pub Lists : {E : Type 0} → Shown → List ℕ → Result (Vec (String G
 Lists old id (Ok listing) new = Asked old (id ∷ []) new × (old.failures < largest) × (old.listing_of id ≡ Some (texts listing.items))
 Lists old id (Err e) new = Failed old (id ∷ []) 0 new
 
+-- listings, by the id of their binary
+abbrev pub HeldListings : Type 0
+HeldListings = BTreeMap (String Global) (Vec (String Global) Global)
+
 -- the listing that a map holds for an id
-abbrev pub listing_in : BTreeMap (String Global) (Vec (String Global) Global) → List ℕ → Option (List (List ℕ))
+abbrev pub listing_in : HeldListings → List ℕ → Option (List (List ℕ))
 listing_in listings id = option_map (λ listing. texts listing.items) (get_by_text listings id)
 
 -- a lister that was asked nothing yet and holds these listings
-abbrev pub unasked : BTreeMap (String Global) (Vec (String Global) Global) → Shown
+abbrev pub unasked : HeldListings → Shown
 unasked listings = record { asked = []; failures = 0; listing_of = listing_in listings }

@@ -42,7 +42,7 @@ pub fn take_each(
     ids: &[String],
     listings: &mut BTreeMap<String, Listing>,
 ) -> Result<Vec<Listing>, AskError>
-    ensures { TakesEach listings.old (texts ids.now) result }
+    ensures { TakesEach listings.old (texts ids.now) result listings.new }
 {
     let mut taken = Vec::with_capacity(alloc, ids.len())?;
     for (place, id) in ids.iter().enumerate() {

@@ -58,7 +58,7 @@ fn finds_repeat<'a>(seen: &mut IndexSet<&'a str>, names: &'a [String]) -> Result
 /// Whether each name is below the next, byte by byte, as test harnesses list them. No such name stands
 /// twice.
 pub fn names_ascend(names: &[String]) -> bool
-    ensures ascending { result ≡ true → IsStrictlySortedBy text_cmp (texts names.now) }
+    ensures ascending { IsTrue result ↔ IsStrictlySortedBy text_cmp (texts names.now) }
 {
     for place in 1..names.len() {
         if names[place - 1] >= names[place] {

@@ -23,8 +23,8 @@ returns c =
     let ids = texts c.in_ok-ids.ids.items in
     let same : ids ≡ ids_of (map binary_view c.args.plan.now.asked.items) = c.in_ok-ids.ensures ∙ ap (λ bs. ids_of (map binary_view bs)) c.deref.ensures.value in
     let ascending : IsStrictlySortedBy text_cmp ids = subst (IsStrictlySortedBy text_cmp) (sym same) c.requires.apart in
-    let takes : TakesEach listings ids c.take_each-taken.result = subst (λ ns. TakesEach listings (texts ns) c.take_each-taken.result) c.deref-2.ensures.value c.take_each-taken.ensures in
+    let takes : TakesEach listings ids c.take_each-taken.result c.take_each-taken.new.listings = subst (λ ns. TakesEach listings (texts ns) c.take_each-taken.result c.take_each-taken.new.listings) c.deref-2.ensures.value c.take_each-taken.ensures in
     record {
       carries = (takes.after, c.choose_from.ensures.carries (unasked listings) takes.after takes.lists);
-      missing = blames_unlisted listings ids c.take_each-taken.result c.choose_from.result ascending takes c.choose_from.ensures.blames;
+      missing = blames_unlisted listings ids c.take_each-taken.result _ c.choose_from.result ascending takes c.choose_from.ensures.blames;
     }
