@@ -5,7 +5,7 @@ use feature_account_making::account_of;
 use guppy_feature_graph::{
     FeatureGraph, FeatureGraphData, FeatureId, FeatureLabel, FeatureQuery, FeatureSet,
 };
-use guppy_package_graph::{Error, LinkRow, PackageGraph, PackageGraphError, PackageId};
+use guppy_package_graph::{Error, PackageGraph, PackageGraphError, PackageId};
 use row_program::{Answers, Question, add_feature};
 use std::alloc::{AllocError, Global};
 use test_select_feature_laws::LineVerdict;
@@ -24,7 +24,11 @@ pub(crate) fn tell_switching(
 ) {
     match features_on(alloc, rules) {
         Ok(on) => {
-            tell_on(on.as_slice(), answers);
+            answers.begin("on");
+            for feature in on.as_slice() {
+                answers.part(" ", &"");
+                add_feature(feature, answers);
+            }
             match graph_of(alloc, question.record) {
                 Ok(graph) => tell_graph(alloc, &graph, question.table, rules, &on, answers),
                 Err(error) => answers.show("refused", &error),
@@ -37,29 +41,13 @@ pub(crate) fn tell_switching(
 /// What the account of what is on concludes.
 fn features_on(alloc: Global, rules: &[Rule]) -> Result<FeaturesOn, AllocError> {
     let account = account_of(alloc, rules)?;
-    FeaturesOn::of(conclusions(alloc, rules, &account.rules)?)
-}
-
-fn conclusions(
-    alloc: Global,
-    rules: &[Rule],
-    account: &[usize],
-) -> Result<Vec<Feature>, AllocError> {
     let mut features = Vec::new(alloc);
-    for number in account {
+    for number in &account.rules {
         if let Some(rule) = rules.get(*number) {
             features.push(rule.conclusion.copy(alloc)?)?;
         }
     }
-    Ok(features)
-}
-
-fn tell_on(on: &[Feature], answers: &mut Answers) {
-    answers.begin("on");
-    for feature in on {
-        answers.part(" ", &"");
-        add_feature(feature, answers);
-    }
+    FeaturesOn::of(features)
 }
 
 fn graph_of(alloc: Global, record: &WorkspaceRecord) -> Result<PackageGraph, PackageGraphError> {
@@ -81,24 +69,21 @@ fn tell_graph(
     answers: &mut Answers,
 ) {
     match switched_on(alloc, graph, on, table) {
-        Ok(switched) => tell_links(switched.link_rows(), answers),
+        Ok(switched) => {
+            answers.begin("switched");
+            for link in switched.link_rows() {
+                answers.part("; ", &link.from);
+                answers.part(" ", &link.name);
+                answers.part(" ", &link.to);
+                answers.part(": ", &link.lines.len());
+            }
+        }
         Err(refused) => answers.keep("switched", Err(refused)),
     }
     answers.list("order", dependency_order(alloc, graph, on, table));
     match FeatureGraphData::build(alloc, graph) {
         Ok(data) => tell_features(alloc, &data, table, rules, on.as_slice(), answers),
         Err(refused) => answers.keep("resolved", Err(refused)),
-    }
-}
-
-/// Tells each link with the number of its lines.
-fn tell_links(links: &[LinkRow], answers: &mut Answers) {
-    answers.begin("switched");
-    for link in links {
-        answers.part("; ", &link.from);
-        answers.part(" ", &link.name);
-        answers.part(" ", &link.to);
-        answers.part(": ", &link.lines.len());
     }
 }
 
@@ -112,22 +97,12 @@ fn tell_features(
 ) {
     match start_ids(alloc, rules) {
         Ok(ids) => match query_from(alloc, FeatureGraph::of(data), rules, &ids) {
-            Ok(query) => tell_reached(alloc, query, table, on, answers),
+            Ok(query) => match resolved_by(alloc, query, table) {
+                Ok(included) => tell_included(alloc, on, &included, answers),
+                Err(refused) => answers.keep("resolved", Err(refused)),
+            },
             Err(error) => answers.show("resolved", &error),
         },
-        Err(refused) => answers.keep("resolved", Err(refused)),
-    }
-}
-
-fn tell_reached(
-    alloc: Global,
-    query: FeatureQuery<'_>,
-    table: &PlatformTable,
-    on: &[Feature],
-    answers: &mut Answers,
-) {
-    match resolved_by(alloc, query, table) {
-        Ok(included) => tell_included(alloc, on, &included, answers),
         Err(refused) => answers.keep("resolved", Err(refused)),
     }
 }

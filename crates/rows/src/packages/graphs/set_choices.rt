@@ -6,8 +6,7 @@ use guppy_package_parts::DependencyDirection;
 use row_program::{Answers, Row, RowFault};
 use std::alloc::Global;
 
-/// What is kept of the set: the packages under `wanted`, those that are not there, and of these those
-/// under `unwanted`.
+/// Tells what is kept of the set, its roots and its ids.
 pub(crate) fn tell_choices(
     alloc: Global,
     row: Row<'_>,
@@ -17,17 +16,18 @@ pub(crate) fn tell_choices(
     let wanted = row.texts(alloc, "wanted")?;
     let unwanted = row.texts(alloc, "unwanted")?;
     let direction = direction_in(row);
-    tell_wanted(alloc, set, direction, &wanted, answers);
-    tell_of_three(alloc, set, direction, &wanted, &unwanted, answers);
+    tell_kept(alloc, set, direction, &wanted, &unwanted, answers);
     tell_roots(alloc, set, direction, answers);
     Ok(())
 }
 
-fn tell_wanted(
+/// Tells the packages that are wanted, those that are not, and of these those that are unwanted.
+fn tell_kept(
     alloc: Global,
     set: &PackageSet<'_>,
     direction: DependencyDirection,
     wanted: &[&str],
+    unwanted: &[&str],
     answers: &mut Answers,
 ) {
     let accepted = set.filter(alloc, direction, |package: PackageMetadata<'_>| -> bool {
@@ -38,17 +38,7 @@ fn tell_wanted(
         wanted.contains(&package.name())
     });
     tell_parts(alloc, "parts", parts, answers);
-}
-
-fn tell_of_three(
-    alloc: Global,
-    set: &PackageSet<'_>,
-    direction: DependencyDirection,
-    wanted: &[&str],
-    unwanted: &[&str],
-    answers: &mut Answers,
-) {
-    let parts = set.filter_partition(
+    let of_three = set.filter_partition(
         alloc,
         direction,
         |package: PackageMetadata<'_>| -> Option<bool> {
@@ -61,7 +51,7 @@ fn tell_of_three(
             }
         },
     );
-    tell_parts(alloc, "of_three", parts, answers);
+    tell_parts(alloc, "of_three", of_three, answers);
 }
 
 fn tell_roots(
