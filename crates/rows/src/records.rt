@@ -1,7 +1,7 @@
-//! Graphs of the records that rows are run on, and files that stand in rows.
+//! Graphs of the records that rows are run on.
 
 use guppy_package_graph::{PackageGraph, PackageGraphError};
-use row_program::{Row, RowFault, file_text, record_under};
+use row_program::{Row, RowFault, record_under};
 use std::alloc::Global;
 
 /// The package graph of the record under `record`, or why there is none.
@@ -12,16 +12,4 @@ pub(crate) fn graph_under(
     let record = record_under(alloc, row)?;
     let (packages, links, workspace) = (record.packages, record.links, record.workspace);
     Ok(PackageGraph::from_records(alloc, packages, links, workspace))
-}
-
-/// The file under a key: a text as it stands, and else the JSON.
-pub(crate) fn file_under(
-    alloc: Global,
-    row: Row<'_>,
-    key: &'static str,
-) -> Result<String, RowFault> {
-    match row.get(key) {
-        Some(value) => Ok(file_text(alloc, value)?),
-        None => Err(RowFault::Key(key)),
-    }
 }

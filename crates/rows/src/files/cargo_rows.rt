@@ -1,5 +1,4 @@
 use crate::files::made::{tell_made, tell_refused, tell_whole};
-use crate::records::file_under;
 use cargo_files::{
     FeatureWords, Refusal, add_listing, choice_file, listings_file, nextest_listings, record_file,
     settings_file, spec_holds, table_file, tests_printed,
@@ -7,7 +6,7 @@ use cargo_files::{
 use cargo_record::RequestedMembers;
 use record_files::read_record;
 use record_writing::record_text;
-use row_program::{Answers, Row, RowFault, RowRunner};
+use row_program::{Answers, Row, RowFault, RowRunner, file_text};
 use std::alloc::Global;
 
 /// Rows of conversions. A row's `kind` says what is made: `spec`, `table`, `record`, `choice`, or the
@@ -69,7 +68,7 @@ fn tell_spec(alloc: Global, row: Row<'_>, answers: &mut Answers) -> Result<(), R
 
 fn tell_table(alloc: Global, row: Row<'_>, answers: &mut Answers) -> Result<(), RowFault> {
     let (triple, printed) = (row.text("triple")?, row.text("cfg")?);
-    let record = file_under(alloc, row, "record")?;
+    let record = file_in(alloc, row, "record")?;
     match settings_file(alloc, printed.as_bytes()) {
         Ok(settings) => {
             let table = table_file(alloc, record.as_bytes(), triple, &settings);
@@ -83,20 +82,11 @@ fn tell_table(alloc: Global, row: Row<'_>, answers: &mut Answers) -> Result<(), 
 /// The record, which has to be read as one of which just this file is made.
 fn tell_record(alloc: Global, row: Row<'_>, answers: &mut Answers) -> Result<(), RowFault> {
     let names = row.texts(alloc, "packages")?;
-    let metadata = file_under(alloc, row, "metadata")?;
-    let wanted = if row.get("workspace").is_some() {
-        RequestedMembers::Workspace
-    } else if names.is_empty() {
-        RequestedMembers::Default
-    } else {
-        RequestedMembers::Named(&names)
-    };
+    let metadata = file_in(alloc, row, "metadata")?;
+    let wanted = wanted_by(row.get("workspace").is_some(), &names);
     let made = record_file(alloc, metadata.as_bytes(), wanted);
     let is_kept = match &made {
-        Ok(text) => match read_record(alloc, text.as_bytes()) {
-            Ok(record) => record_text(alloc, &record).is_ok_and(|again| again == *text),
-            Err(_) => false,
-        },
+        Ok(text) => reads_back(alloc, text.as_str()),
         Err(_) => true,
     };
     tell_made("metadata.json", made, answers);
@@ -107,12 +97,29 @@ fn tell_record(alloc: Global, row: Row<'_>, answers: &mut Answers) -> Result<(),
     }
 }
 
+fn reads_back(alloc: Global, text: &str) -> bool {
+    match read_record(alloc, text.as_bytes()) {
+        Ok(record) => record_text(alloc, &record).is_ok_and(|again| again.as_str() == text),
+        Err(_) => false,
+    }
+}
+
+fn wanted_by<'m>(workspace: bool, names: &'m [&'m str]) -> RequestedMembers<'m> {
+    if workspace {
+        RequestedMembers::Workspace
+    } else if names.is_empty() {
+        RequestedMembers::Default
+    } else {
+        RequestedMembers::Named(names)
+    }
+}
+
 fn tell_choice(alloc: Global, row: Row<'_>, answers: &mut Answers) -> Result<(), RowFault> {
     let flags = row.texts(alloc, "flags")?;
     let no_default_features = flags.contains(&"no-default-features");
     let all_features = flags.contains(&"all-features");
     let features = row.texts(alloc, "features")?;
-    let record = file_under(alloc, row, "record")?;
+    let record = file_in(alloc, row, "record")?;
     let words = FeatureWords {
         features: &features,
         no_default_features,
@@ -154,7 +161,7 @@ fn terse_file(
 fn tell_nextest(alloc: Global, row: Row<'_>, answers: &mut Answers) -> Result<(), RowFault> {
     let id = row.text("id")?;
     let built = row.get("built").is_some();
-    let list = file_under(alloc, row, "list")?;
+    let list = file_in(alloc, row, "list")?;
     let file = nextest_file(alloc, id, list.as_bytes(), built);
     tell_made("nextest.json", file, answers);
     Ok(())
@@ -164,4 +171,12 @@ fn nextest_file(alloc: Global, id: &str, printed: &[u8], built: bool) -> Result<
     let ids = [String::from_str(alloc, id)?];
     let listings = nextest_listings(alloc, printed, &ids, built)?;
     listings_file(alloc, &listings)
+}
+
+/// The file under a key: a text as it stands, and else the JSON.
+fn file_in(alloc: Global, row: Row<'_>, key: &'static str) -> Result<String, RowFault> {
+    match row.get(key) {
+        Some(value) => Ok(file_text(alloc, value)?),
+        None => Err(RowFault::Key(key)),
+    }
 }

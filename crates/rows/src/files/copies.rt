@@ -5,11 +5,9 @@ use std::alloc::{AllocError, Global};
 use std::collections::BTreeMap;
 use workspace_record::{FeatureChoice, PlatformTable, WorkspaceRecord};
 
-/// What can be compared with its copy, where it has one.
+/// What can be compared with its copy.
 pub(crate) trait Copied {
-    fn is_its_copy(&self, _alloc: Global) -> Result<bool, AllocError> {
-        Ok(true)
-    }
+    fn is_its_copy(&self, alloc: Global) -> Result<bool, AllocError>;
 }
 
 impl Copied for WorkspaceRecord {
@@ -31,7 +29,15 @@ impl Copied for PlatformTable {
 }
 
 /// Accounts have no copy of their own.
-impl Copied for AccountFile {}
+impl Copied for AccountFile {
+    fn is_its_copy(&self, _alloc: Global) -> Result<bool, AllocError> {
+        Ok(true)
+    }
+}
 
 /// Listings have no copy of their own.
-impl Copied for BTreeMap<String, Vec<String>> {}
+impl Copied for BTreeMap<String, Vec<String>> {
+    fn is_its_copy(&self, _alloc: Global) -> Result<bool, AllocError> {
+        Ok(true)
+    }
+}

@@ -1,7 +1,7 @@
 use crate::files::copies::Copied;
 use record_files::{ReadError, read_account, read_choice, read_listings, read_record, read_table};
 use row_program::{Answers, Row, RowFault, RowRunner, file_text};
-use std::alloc::Global;
+use std::alloc::{AllocError, Global};
 use std::fmt::Debug;
 
 /// Rows of files. A row's `kind` is that of its `file`: `record`, `choice`, `table`, `account` or
@@ -74,12 +74,7 @@ fn tell<T: Debug + Copied + Drop>(
 ) {
     match read {
         Ok(value) if whole => {
-            let text = match value.is_its_copy(alloc) {
-                Ok(true) => format!(in alloc; "{value:?}"),
-                Ok(false) => String::from_str(alloc, "its copy differs"),
-                Err(refused) => Err(refused),
-            };
-            answers.keep("value", text);
+            answers.keep("value", value_text(alloc, &value));
             answers.show("refused", &"");
         }
         Err(error) if whole => {
@@ -89,4 +84,11 @@ fn tell<T: Debug + Copied + Drop>(
         Ok(_) => answers.show("beginnings", &"read"),
         Err(error) => answers.show("beginnings", &error),
     }
+}
+
+fn value_text<T: Debug + Copied>(alloc: Global, value: &T) -> Result<String, AllocError> {
+    if !value.is_its_copy(alloc)? {
+        return String::from_str(alloc, "its copy differs");
+    }
+    format!(in alloc; "{value:?}")
 }

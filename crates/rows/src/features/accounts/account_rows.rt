@@ -1,10 +1,9 @@
-use crate::features::accounts::rule_texts::tell_rules;
+use crate::features::accounts::rule_texts::{tell_conclusions, tell_rules};
 use crate::features::accounts::switching::tell_switching;
-use feature_account::{check_account, check_explanation, rules};
-use row_program::{
-    Answers, Question, Row, RowFault, RowRunner, account_in, add_feature, question_in,
-};
-use std::alloc::Global;
+use feature_account::{Verdict, check_account, check_explanation, rules};
+use record_files::AccountFile;
+use row_program::{Answers, Question, Row, RowFault, RowRunner, account_in, question_in};
+use std::alloc::{AllocError, Global};
 
 /// Rows of rules, accounts and explanations. A row's `files` are `record.json`, and where it has them
 /// `choice.json`, `table.json` and `account.json`; its `account` is a list of numbers. What comes is
@@ -39,24 +38,14 @@ fn tell_question(
     let numbers = row.numbers(alloc, "account")?;
     tell_listed(alloc, question, &numbers, answers);
     let account = account_in(alloc, row)?;
-    let Question {
-        record,
-        choice,
-        table,
-    } = question;
-    let verdict = match &account.goal {
-        None => check_account(alloc, record, choice, table, &account.rules),
-        Some(goal) => check_explanation(alloc, record, choice, table, goal, &account.rules),
-    };
-    match verdict {
+    match verdict_on(alloc, question, &account) {
         Ok(verdict) => answers.keep("verdict", format!(in alloc; "{verdict:?}")),
         Err(refused) => answers.keep("verdict", Err(refused)),
     }
     Ok(())
 }
 
-/// Tells the rules, what is on by them, and what those of the account conclude, parted by spaces. A number
-/// that no rule has concludes `?`.
+/// Tells the rules, what is on by them, and what those of the account conclude.
 fn tell_listed(alloc: Global, question: Question<'_>, account: &[usize], answers: &mut Answers) {
     let Question {
         record,
@@ -67,17 +56,24 @@ fn tell_listed(alloc: Global, question: Question<'_>, account: &[usize], answers
         Ok(rules) => {
             tell_rules(&rules, answers);
             tell_switching(alloc, question, &rules, answers);
-            answers.begin("concludes");
-            for number in account {
-                match rules.get(*number) {
-                    Some(rule) => {
-                        answers.part(" ", &"");
-                        add_feature(&rule.conclusion, answers);
-                    }
-                    None => answers.part(" ", &"?"),
-                }
-            }
+            tell_conclusions(&rules, account, answers);
         }
         Err(refused) => answers.keep("rules", Err(refused)),
+    }
+}
+
+fn verdict_on(
+    alloc: Global,
+    question: Question<'_>,
+    account: &AccountFile,
+) -> Result<Verdict, AllocError> {
+    let Question {
+        record,
+        choice,
+        table,
+    } = question;
+    match &account.goal {
+        None => check_account(alloc, record, choice, table, &account.rules),
+        Some(goal) => check_explanation(alloc, record, choice, table, goal, &account.rules),
     }
 }

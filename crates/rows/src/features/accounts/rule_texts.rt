@@ -7,21 +7,40 @@ use row_program::{Answers, add_feature};
 pub(crate) fn tell_rules(rules: &[Rule], answers: &mut Answers) {
     answers.begin("rules");
     for rule in rules {
-        match &rule.premises {
-            Premises::None => {}
-            Premises::One(premise) => {
-                add_feature(premise, answers);
-                answers.add(&" ");
-            }
-            Premises::Two(first, second) => {
-                add_feature(first, answers);
-                answers.add(&" & ");
-                add_feature(second, answers);
-                answers.add(&" ");
-            }
-        }
+        add_premises(&rule.premises, answers);
         answers.add(&"-> ");
         add_feature(&rule.conclusion, answers);
         answers.add(&"\n");
+    }
+}
+
+fn add_premises(premises: &Premises, answers: &mut Answers) {
+    match premises {
+        Premises::None => {}
+        Premises::One(premise) => {
+            add_feature(premise, answers);
+            answers.add(&" ");
+        }
+        Premises::Two(first, second) => {
+            add_feature(first, answers);
+            answers.add(&" & ");
+            add_feature(second, answers);
+            answers.add(&" ");
+        }
+    }
+}
+
+/// Tells what the rules with these numbers conclude, parted by spaces. A number that no rule has concludes
+/// `?`.
+pub(crate) fn tell_conclusions(rules: &[Rule], account: &[usize], answers: &mut Answers) {
+    answers.begin("concludes");
+    for number in account {
+        match rules.get(*number) {
+            Some(rule) => {
+                answers.part(" ", &"");
+                add_feature(&rule.conclusion, answers);
+            }
+            None => answers.part(" ", &"?"),
+        }
     }
 }

@@ -5,7 +5,7 @@ use feature_account_making::account_of;
 use guppy_feature_graph::{
     FeatureGraph, FeatureGraphData, FeatureId, FeatureLabel, FeatureQuery, FeatureSet,
 };
-use guppy_package_graph::{Error, PackageGraph, PackageGraphError, PackageId};
+use guppy_package_graph::{Error, LinkRow, PackageGraph, PackageGraphError, PackageId};
 use row_program::{Answers, Question, add_feature};
 use std::alloc::{AllocError, Global};
 use test_select_feature_laws::LineVerdict;
@@ -24,11 +24,7 @@ pub(crate) fn tell_switching(
 ) {
     match features_on(alloc, rules) {
         Ok(on) => {
-            answers.begin("on");
-            for feature in on.as_slice() {
-                answers.part(" ", &"");
-                add_feature(feature, answers);
-            }
+            tell_on(on.as_slice(), answers);
             match graph_of(alloc, question.record) {
                 Ok(graph) => tell_graph(alloc, &graph, question.table, rules, &on, answers),
                 Err(error) => answers.show("refused", &error),
@@ -41,13 +37,29 @@ pub(crate) fn tell_switching(
 /// What the account of what is on concludes.
 fn features_on(alloc: Global, rules: &[Rule]) -> Result<FeaturesOn, AllocError> {
     let account = account_of(alloc, rules)?;
+    FeaturesOn::of(conclusions(alloc, rules, &account.rules)?)
+}
+
+fn conclusions(
+    alloc: Global,
+    rules: &[Rule],
+    account: &[usize],
+) -> Result<Vec<Feature>, AllocError> {
     let mut features = Vec::new(alloc);
-    for number in &account.rules {
+    for number in account {
         if let Some(rule) = rules.get(*number) {
             features.push(rule.conclusion.copy(alloc)?)?;
         }
     }
-    FeaturesOn::of(features)
+    Ok(features)
+}
+
+fn tell_on(on: &[Feature], answers: &mut Answers) {
+    answers.begin("on");
+    for feature in on {
+        answers.part(" ", &"");
+        add_feature(feature, answers);
+    }
 }
 
 fn graph_of(alloc: Global, record: &WorkspaceRecord) -> Result<PackageGraph, PackageGraphError> {
@@ -69,21 +81,24 @@ fn tell_graph(
     answers: &mut Answers,
 ) {
     match switched_on(alloc, graph, on, table) {
-        Ok(switched) => {
-            answers.begin("switched");
-            for link in switched.link_rows() {
-                answers.part("; ", &link.from);
-                answers.part(" ", &link.name);
-                answers.part(" ", &link.to);
-                answers.part(": ", &link.lines.len());
-            }
-        }
+        Ok(switched) => tell_links(switched.link_rows(), answers),
         Err(refused) => answers.keep("switched", Err(refused)),
     }
     answers.list("order", dependency_order(alloc, graph, on, table));
     match FeatureGraphData::build(alloc, graph) {
         Ok(data) => tell_features(alloc, &data, table, rules, on.as_slice(), answers),
         Err(refused) => answers.keep("resolved", Err(refused)),
+    }
+}
+
+/// Tells each link with the number of its lines.
+fn tell_links(links: &[LinkRow], answers: &mut Answers) {
+    answers.begin("switched");
+    for link in links {
+        answers.part("; ", &link.from);
+        answers.part(" ", &link.name);
+        answers.part(" ", &link.to);
+        answers.part(": ", &link.lines.len());
     }
 }
 
@@ -97,12 +112,22 @@ fn tell_features(
 ) {
     match start_ids(alloc, rules) {
         Ok(ids) => match query_from(alloc, FeatureGraph::of(data), rules, &ids) {
-            Ok(query) => match resolved_by(alloc, query, table) {
-                Ok(included) => tell_included(alloc, on, &included, answers),
-                Err(refused) => answers.keep("resolved", Err(refused)),
-            },
+            Ok(query) => tell_reached(alloc, query, table, on, answers),
             Err(error) => answers.show("resolved", &error),
         },
+        Err(refused) => answers.keep("resolved", Err(refused)),
+    }
+}
+
+fn tell_reached(
+    alloc: Global,
+    query: FeatureQuery<'_>,
+    table: &PlatformTable,
+    on: &[Feature],
+    answers: &mut Answers,
+) {
+    match resolved_by(alloc, query, table) {
+        Ok(included) => tell_included(alloc, on, &included, answers),
         Err(refused) => answers.keep("resolved", Err(refused)),
     }
 }

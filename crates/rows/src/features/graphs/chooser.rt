@@ -39,6 +39,20 @@ impl Rule {
             _ => None,
         }
     }
+
+    fn accepts(self, asked: usize, link: ConditionalLink<'_>) -> bool {
+        match self {
+            Rule::All => true,
+            Rule::Nothing => false,
+            Rule::Once => asked == 0,
+            Rule::Alternate => asked % 2 == 0,
+            Rule::Required => link.declarations().includes_required(),
+            Rule::Optional => link.declarations().includes_optional(),
+            Rule::Normal => link.normal().is_present(),
+            Rule::Build => link.build().is_present(),
+            Rule::Dev => link.dev().is_present(),
+        }
+    }
 }
 
 /// Answers by a rule, and keeps what each link says.
@@ -68,17 +82,7 @@ impl Chooser {
         cx: &FeatureLinkContext<'_>,
         link: ConditionalLink<'_>,
     ) -> bool {
-        let accepted = match self.rule {
-            Rule::All => true,
-            Rule::Nothing => false,
-            Rule::Once => self.asked == 0,
-            Rule::Alternate => self.asked % 2 == 0,
-            Rule::Required => link.declarations().includes_required(),
-            Rule::Optional => link.declarations().includes_optional(),
-            Rule::Normal => link.normal().is_present(),
-            Rule::Build => link.build().is_present(),
-            Rule::Dev => link.dev().is_present(),
-        };
+        let accepted = self.rule.accepts(self.asked, link);
         self.asked = self.asked.saturating_add(1);
         if self.texts.push(link_text(self.alloc, cx, link)).is_err() {
             self.lost = true;

@@ -71,12 +71,20 @@ pub(crate) fn tell_members<E: Display + Drop>(
     answers: &mut Answers,
 ) {
     match set {
-        Ok(set) => {
-            answers.begin(key);
-            add_members(&set, features, answers);
-        }
+        Ok(set) => tell_set(key, &set, features, answers),
         Err(error) => answers.show(key, &error),
     }
+}
+
+/// Tells those of these features that are in a set.
+pub(crate) fn tell_set(
+    key: &'static str,
+    set: &FeatureSet<'_>,
+    features: &[FeatureId<'_>],
+    answers: &mut Answers,
+) {
+    answers.begin(key);
+    add_members(set, features, answers);
 }
 
 /// Adds those of these features that are in a set, parted by spaces.

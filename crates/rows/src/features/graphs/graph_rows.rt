@@ -3,7 +3,8 @@ use crate::features::graphs::lists::tell_lists;
 use crate::features::graphs::resolves::tell_resolves;
 use crate::features::graphs::sets::tell_sets;
 use crate::records::graph_under;
-use guppy_feature_graph::{FeatureGraph, FeatureGraphData, FeatureId};
+use guppy_feature_graph::{FeatureGraph, FeatureGraphData, FeatureId, FeatureMetadata};
+use guppy_package_graph::PackageGraph;
 use row_program::{Answers, Row, RowFault, RowRunner};
 use serde_json::Value;
 use std::alloc::{AllocError, Global};
@@ -35,10 +36,7 @@ impl RowRunner for GraphRows {
         answers: &mut Answers,
     ) -> Result<(), RowFault> {
         match graph_under(alloc, row)? {
-            Ok(graph) => {
-                let data = FeatureGraphData::build(alloc, &graph)?;
-                tell_graph(alloc, row, &data, answers)
-            }
+            Ok(graph) => tell_graph(alloc, row, &graph, answers),
             Err(error) => {
                 answers.show("refused", &error);
                 Ok(())
@@ -50,20 +48,22 @@ impl RowRunner for GraphRows {
 fn tell_graph(
     alloc: Global,
     row: Row<'_>,
+    graph: &PackageGraph,
+    answers: &mut Answers,
+) -> Result<(), RowFault> {
+    let data = FeatureGraphData::build(alloc, graph)?;
+    tell_data(alloc, row, &data, answers)
+}
+
+fn tell_data(
+    alloc: Global,
+    row: Row<'_>,
     data: &FeatureGraphData<'_>,
     answers: &mut Answers,
 ) -> Result<(), RowFault> {
     let graph = FeatureGraph::of(data);
     let features = features_of(alloc, data)?;
-    let packages = graph.package_graph().package_count();
-    let (nodes, links) = (graph.feature_count(), graph.link_count());
-    let warnings = graph.build_warnings().len();
-    answers.keep(
-        "counts",
-        format!(in alloc;
-            "{packages} packages, {nodes} features, {links} links, {warnings} warnings"
-        ),
-    );
+    tell_counts(alloc, graph, answers);
     let asked = Asked {
         graph,
         features: &features,
@@ -81,6 +81,18 @@ fn features_of<'g>(
         features.push(data.feature_at(node))?;
     }
     Ok(features)
+}
+
+fn tell_counts(alloc: Global, graph: FeatureGraph<'_>, answers: &mut Answers) {
+    let packages = graph.package_graph().package_count();
+    let (features, links) = (graph.feature_count(), graph.link_count());
+    let warnings = graph.build_warnings().len();
+    answers.keep(
+        "counts",
+        format!(in alloc;
+            "{packages} packages, {features} features, {links} links, {warnings} warnings"
+        ),
+    );
 }
 
 fn tell_asked(
@@ -108,14 +120,16 @@ fn tell_found(
         let named = read_feature(alloc, text)?;
         answers.show("found", &graph.contains(named.id()));
         match graph.metadata(named.id()) {
-            Ok(feature) => {
-                answers.part(", ", &feature.feature_id());
-                answers.part(" is ", &feature.label());
-                answers.part(" of ", feature.package_id());
-                answers.part(", called ", &feature.package().name());
-            }
+            Ok(feature) => add_feature(feature, answers),
             Err(error) => answers.part(", ", &error),
         }
     }
     Ok(())
+}
+
+fn add_feature(feature: FeatureMetadata<'_>, answers: &mut Answers) {
+    answers.part(", ", &feature.feature_id());
+    answers.part(" is ", &feature.label());
+    answers.part(" of ", feature.package_id());
+    answers.part(", called ", &feature.package().name());
 }

@@ -12,19 +12,18 @@ pub(crate) fn link_text(
 ) -> Result<String, AllocError> {
     let (from, to) = link.endpoints();
     let (from, to) = (from.feature_id(), to.feature_id());
-    let declared = match link.declarations() {
+    let declared = declared_text(link.declarations());
+    let kinds = kinds_text(alloc, link)?;
+    let start = start_text(cx, link);
+    format!(in alloc; "{from} > {to} {declared}: {kinds}{start}")
+}
+
+fn declared_text(declarations: LinkDeclarations) -> &'static str {
+    match declarations {
         LinkDeclarations::Unsplit => "whole",
         LinkDeclarations::Required => "required",
         LinkDeclarations::Optional => "optional",
-    };
-    let is_forward = cx.direction() == DependencyDirection::Forward;
-    let start = match (cx.starts_from_initial(&link), is_forward) {
-        (true, true) => ", leaves an initial",
-        (true, false) => ", enters an initial",
-        (false, _) => "",
-    };
-    let kinds = kinds_text(alloc, link)?;
-    format!(in alloc; "{from} > {to} {declared}: {kinds}{start}")
+    }
 }
 
 fn kinds_text(alloc: Global, link: ConditionalLink<'_>) -> Result<String, AllocError> {
@@ -57,4 +56,13 @@ fn push_status(
         }
     }
     Ok(())
+}
+
+fn start_text(cx: &FeatureLinkContext<'_>, link: ConditionalLink<'_>) -> &'static str {
+    let is_forward = cx.direction() == DependencyDirection::Forward;
+    match (cx.starts_from_initial(&link), is_forward) {
+        (true, true) => ", leaves an initial",
+        (true, false) => ", enters an initial",
+        (false, _) => "",
+    }
 }

@@ -2,7 +2,7 @@
 
 use crate::features::graphs::features::{Asked, add_answer, add_members, shown_text, tell_members};
 use guppy_feature_graph::{
-    FeatureFilter, FeatureGraph, FeatureId, StandardFeatures, default_feature_id,
+    FeatureFilter, FeatureGraph, FeatureId, FeatureList, StandardFeatures, default_feature_id,
     package_to_feature_set,
 };
 use guppy_package_graph::PackageId;
@@ -21,14 +21,10 @@ pub(crate) fn tell_lists(
         let id = PackageId::new(String::from_str(alloc, text)?);
         tell_package(alloc, asked, starts, &id, answers);
     }
-    answers.begin("defaults");
-    for id in asked.features {
-        if let Ok(true) = asked.graph.is_default_feature(*id) {
-            answers.part(" ", id);
-        }
-    }
+    tell_defaults(asked, answers);
     tell_cycles(alloc, asked.graph, answers);
     tell_workspace(alloc, asked, answers);
+    tell_standard(alloc, asked.graph, answers);
     answers.show("verified", &asked.graph.verify().is_ok());
     if let [a, b, ..] = starts {
         tell_pair(alloc, asked.graph, *a, *b, answers);
@@ -46,18 +42,22 @@ fn tell_package(
 ) {
     match asked.graph.all_features_for(alloc, id) {
         Ok(list) => {
-            answers.keep("features", shown_text(alloc, &list));
-            answers.show("default", &default_feature_id(list.package()));
-            match asked.graph.package_graph().metadata(list.package().id()) {
-                Ok(package) => {
-                    let own = package_to_feature_set(alloc, &asked.graph, &package);
-                    tell_members("own", own, asked.features, answers);
-                }
-                Err(error) => answers.show("own", &error),
-            }
+            tell_list(alloc, asked, &list, answers);
             tell_kept(alloc, asked.graph, starts, id, answers);
         }
         Err(error) => answers.show("features", &error),
+    }
+}
+
+fn tell_list(alloc: Global, asked: Asked<'_, '_>, list: &FeatureList<'_>, answers: &mut Answers) {
+    answers.keep("features", shown_text(alloc, list));
+    answers.show("default", &default_feature_id(list.package()));
+    match asked.graph.package_graph().metadata(list.package().id()) {
+        Ok(package) => {
+            let own = package_to_feature_set(alloc, &asked.graph, &package);
+            tell_members("own", own, asked.features, answers);
+        }
+        Err(error) => answers.show("own", &error),
     }
 }
 
@@ -79,6 +79,15 @@ fn tell_kept(
             }
         }
         Err(error) => answers.add(&error),
+    }
+}
+
+fn tell_defaults(asked: Asked<'_, '_>, answers: &mut Answers) {
+    answers.begin("defaults");
+    for id in asked.features {
+        if let Ok(true) = asked.graph.is_default_feature(*id) {
+            answers.part(" ", id);
+        }
     }
 }
 
@@ -118,8 +127,7 @@ impl FeatureFilter for Counter {
     }
 }
 
-/// Tells how often a filter is asked, what is taken, and how many features of the workspace each standard
-/// choice takes.
+/// Tells how often a filter is asked, and what is taken.
 fn tell_workspace(alloc: Global, asked: Asked<'_, '_>, answers: &mut Answers) {
     let mut counter = Counter { calls: 0 };
     match asked.graph.query_workspace(alloc, &mut counter) {
@@ -130,10 +138,14 @@ fn tell_workspace(alloc: Global, asked: Asked<'_, '_>, answers: &mut Answers) {
         }
         Err(refused) => answers.keep("workspace", Err(refused)),
     }
+}
+
+/// Tells how many features of the workspace each standard choice takes.
+fn tell_standard(alloc: Global, graph: FeatureGraph<'_>, answers: &mut Answers) {
     answers.begin("standard");
     for standard in StandardFeatures::VALUES {
         let mut filter = *standard;
-        match asked.graph.query_workspace(alloc, &mut filter) {
+        match graph.query_workspace(alloc, &mut filter) {
             Ok(query) => answers.part(" ", &query.initials().len()),
             Err(refused) => answers.keep("standard", Err(refused)),
         }

@@ -6,7 +6,6 @@ use guppy_package_graph::{DependencyDirection, PackageId};
 use row_program::Answers;
 use std::alloc::Global;
 
-/// Tells the packages of the set, how many roots there are, whether the set has a feature, and its query.
 pub(crate) fn tell_packages(alloc: Global, one: &FeatureSet<'_>, answers: &mut Answers) {
     let forward = DependencyDirection::Forward;
     match one.packages_with_features(alloc, forward) {
@@ -18,17 +17,20 @@ pub(crate) fn tell_packages(alloc: Global, one: &FeatureSet<'_>, answers: &mut A
         Err(refused) => answers.keep("packages", Err(refused)),
     }
     match one.root_features(alloc, forward) {
-        Ok(roots) => {
-            let first = one.features(forward).next();
-            answers.show("root_count", &roots.len());
-            answers.part(", ", &first.is_some());
-        }
+        Ok(roots) => tell_root_count(roots.len(), one, answers),
         Err(refused) => answers.keep("root_count", Err(refused)),
     }
     match one.to_feature_query(alloc, forward) {
         Ok(query) => tell_query(alloc, &query, answers),
         Err(refused) => answers.keep("initial_packages", Err(refused)),
     }
+}
+
+/// Tells how many roots there are, and whether the set has a feature.
+fn tell_root_count(count: usize, one: &FeatureSet<'_>, answers: &mut Answers) {
+    let first = one.features(DependencyDirection::Forward).next();
+    answers.show("root_count", &count);
+    answers.part(", ", &first.is_some());
 }
 
 /// Tells the packages of a query, and whether it starts from a feature of the package `app`.
@@ -38,14 +40,15 @@ fn tell_query(alloc: Global, query: &FeatureQuery<'_>, answers: &mut Answers) {
         answers.part(" ", package.id());
     }
     match String::from_str(alloc, "app") {
-        Ok(app) => {
-            let app = PackageId::new(app);
-            match query.starts_from_package(&app) {
-                Ok(starts) => answers.show("starts_from_app", &starts),
-                Err(error) => answers.show("starts_from_app", &error),
-            }
-        }
+        Ok(app) => tell_starts(query, &PackageId::new(app), answers),
         Err(refused) => answers.keep("starts_from_app", Err(refused)),
+    }
+}
+
+fn tell_starts(query: &FeatureQuery<'_>, app: &PackageId, answers: &mut Answers) {
+    match query.starts_from_package(app) {
+        Ok(starts) => answers.show("starts_from_app", &starts),
+        Err(error) => answers.show("starts_from_app", &error),
     }
 }
 
@@ -56,13 +59,14 @@ fn tell_lists(alloc: Global, lists: &[FeatureList<'_>], answers: &mut Answers) {
         answers.part(" ", list.package().id());
         add_answer("(", shown_text(alloc, list), answers);
         answers.add(&if list.has_base() { ", base; " } else { "; " });
-        add_labels(list, answers);
+        add_names(list, answers);
+        answers.add(&"; ");
+        add_deps(list, answers);
         answers.add(&")");
     }
 }
 
-/// Adds the named features of a list, its optional dependencies, and a `?` for each label that it lacks.
-fn add_labels(list: &FeatureList<'_>, answers: &mut Answers) {
+fn add_names(list: &FeatureList<'_>, answers: &mut Answers) {
     let mut is_first = true;
     for name in list.named_features() {
         if list.has_named_feature(name) {
@@ -70,8 +74,10 @@ fn add_labels(list: &FeatureList<'_>, answers: &mut Answers) {
             is_first = false;
         }
     }
-    answers.add(&"; ");
-    is_first = true;
+}
+
+fn add_deps(list: &FeatureList<'_>, answers: &mut Answers) {
+    let mut is_first = true;
     for name in list.optional_deps() {
         if list.has_optional_dependency(name) {
             add_word(is_first, name, answers);

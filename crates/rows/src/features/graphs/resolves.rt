@@ -3,7 +3,7 @@
 ghost use Rattle.std.specs.Prelude.{◌≡◌, ◌<◌};
 
 use crate::features::graphs::chooser::{Chooser, Rule};
-use crate::features::graphs::features::{Asked, add_members, tell_members};
+use crate::features::graphs::features::{Asked, tell_members, tell_set};
 use guppy_feature_graph::{
     ConditionalLink, FeatureGraph, FeatureId, FeatureLinkContext, FeatureQuery, FeatureSet,
 };
@@ -22,11 +22,7 @@ pub(crate) fn tell_resolves(
     starts: &[FeatureId<'_>],
     answers: &mut Answers,
 ) -> Result<(), RowFault> {
-    let word = row.get("accepts").and_then(Value::as_str);
-    let rule = word.and_then(Rule::of);
-    if word.is_some() && rule.is_none() {
-        return Err(RowFault::Key("accepts"));
-    }
+    let rule = rule_in(row)?;
     match query_of(alloc, row, asked.graph, starts) {
         Ok(query) => tell_reach(alloc, asked, query, answers),
         Err(error) => answers.show("refused", &error),
@@ -34,10 +30,7 @@ pub(crate) fn tell_resolves(
     if let Some(rule) = rule {
         for way in [Way::Visitor, Way::Counted, Way::Closure] {
             if let Ok(query) = query_of(alloc, row, asked.graph, starts) {
-                let mut chooser = Chooser::new(alloc, rule);
-                let included = included_by(alloc, query, way, &mut chooser);
-                chooser.tell(answers);
-                tell_members("included", included, asked.features, answers);
+                tell_run(alloc, asked, query, way, rule, answers);
             }
         }
     }
@@ -45,8 +38,7 @@ pub(crate) fn tell_resolves(
 }
 
 fn tell_reach(alloc: Global, asked: Asked<'_, '_>, query: FeatureQuery<'_>, answers: &mut Answers) {
-    answers.begin("initials");
-    add_members(query.initials(), asked.features, answers);
+    tell_set("initials", query.initials(), asked.features, answers);
     let reached = query.resolve(alloc);
     if let Ok(reached) = &reached {
         answers.show("reached_count", &reached.len());
@@ -60,6 +52,21 @@ enum Way {
     Visitor,
     Counted,
     Closure,
+}
+
+/// Tells what a run offered, how many offers it made, and what it included.
+fn tell_run(
+    alloc: Global,
+    asked: Asked<'_, '_>,
+    query: FeatureQuery<'_>,
+    way: Way,
+    rule: Rule,
+    answers: &mut Answers,
+) {
+    let mut chooser = Chooser::new(alloc, rule);
+    let included = included_by(alloc, query, way, &mut chooser);
+    chooser.tell(answers);
+    tell_members("included", included, asked.features, answers);
 }
 
 fn included_by<'g>(
@@ -92,6 +99,16 @@ fn counted<'g, L: Ledger>(
 {
     let mut looks = Looks::<L>::new(blank);
     query.resolve_with_counted(alloc, chooser, &mut looks)
+}
+
+fn rule_in(row: Row<'_>) -> Result<Option<Rule>, RowFault> {
+    let Some(word) = row.get("accepts").and_then(Value::as_str) else {
+        return Ok(None);
+    };
+    match Rule::of(word) {
+        Some(rule) => Ok(Some(rule)),
+        None => Err(RowFault::Key("accepts")),
+    }
 }
 
 fn query_of<'g>(

@@ -36,11 +36,7 @@ fn tell_one(
         Ok(two) => tell_joined(alloc, one, &two, asked.features, answers),
         Err(error) => answers.show("unknown", &error),
     }
-    let (forward, reverse) = (DependencyDirection::Forward, DependencyDirection::Reverse);
-    tell_ids("listed", one, forward, answers);
-    tell_ids("reversed", one, reverse, answers);
-    answers.list("roots", one.root_ids(alloc, forward));
-    answers.list("ends", one.root_ids(alloc, reverse));
+    tell_listed(alloc, one, answers);
     tell_packages(alloc, one, answers);
     tell_links(alloc, one, answers);
     Ok(())
@@ -74,6 +70,14 @@ fn tell_joined(
     tell_members("difference", difference, features, answers);
     let either = one.symmetric_difference(alloc, two);
     tell_members("either", either, features, answers);
+}
+
+fn tell_listed(alloc: Global, one: &FeatureSet<'_>, answers: &mut Answers) {
+    let (forward, reverse) = (DependencyDirection::Forward, DependencyDirection::Reverse);
+    tell_ids("listed", one, forward, answers);
+    tell_ids("reversed", one, reverse, answers);
+    answers.list("roots", one.root_ids(alloc, forward));
+    answers.list("ends", one.root_ids(alloc, reverse));
 }
 
 fn tell_ids(

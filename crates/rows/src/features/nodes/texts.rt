@@ -4,23 +4,21 @@ use guppy_feature_nodes::{FeatureEdge, FeatureGraphData, SlashForm};
 use guppy_package_graph::{FeatureBuildStage, FeatureGraphWarning};
 use row_program::Answers;
 
+/// Tells the features, in the order of their numbers.
+pub(crate) fn tell_nodes(data: &FeatureGraphData<'_>, answers: &mut Answers) {
+    answers.begin("nodes");
+    for node in 0..data.feature_count() {
+        add_end("; ", data, node, answers);
+    }
+}
+
 /// Tells the edges: both ends, why, and the lines behind.
 pub(crate) fn tell_edges(data: &FeatureGraphData<'_>, answers: &mut Answers) {
     answers.begin("edges");
     for edge in data.edges() {
         add_end("; ", data, edge.from, answers);
         add_end(" > ", data, edge.to, answers);
-        match &edge.edge {
-            FeatureEdge::FeatureToBase => answers.add(&" to base"),
-            FeatureEdge::DependenciesSection(_) => answers.add(&" dependency"),
-            FeatureEdge::NamedFeature => answers.add(&" feature"),
-            FeatureEdge::NamedFeatureDepColon => answers.add(&" dep"),
-            FeatureEdge::NamedFeatureWithSlash(SlashForm::Strong(_)) => answers.add(&" strong"),
-            FeatureEdge::NamedFeatureWithSlash(SlashForm::Weak(weak)) => {
-                add_end(" weak (", data, weak.index().node(), answers);
-                answers.add(&")");
-            }
-        }
+        add_form(data, &edge.edge, answers);
         for (link, line) in edge.edge.lines() {
             answers.part(" ", link);
             answers.part(".", line);
@@ -28,17 +26,25 @@ pub(crate) fn tell_edges(data: &FeatureGraphData<'_>, answers: &mut Answers) {
     }
 }
 
-/// Adds the feature with this number.
-pub(crate) fn add_end(
-    between: &str,
-    data: &FeatureGraphData<'_>,
-    number: usize,
-    answers: &mut Answers,
-) {
+fn add_end(between: &str, data: &FeatureGraphData<'_>, number: usize, answers: &mut Answers) {
     if number < data.feature_count() {
         answers.part(between, &data.feature_at(number));
     } else {
         answers.part(between, &"nothing");
+    }
+}
+
+fn add_form(data: &FeatureGraphData<'_>, edge: &FeatureEdge, answers: &mut Answers) {
+    match edge {
+        FeatureEdge::FeatureToBase => answers.add(&" to base"),
+        FeatureEdge::DependenciesSection(_) => answers.add(&" dependency"),
+        FeatureEdge::NamedFeature => answers.add(&" feature"),
+        FeatureEdge::NamedFeatureDepColon => answers.add(&" dep"),
+        FeatureEdge::NamedFeatureWithSlash(SlashForm::Strong(_)) => answers.add(&" strong"),
+        FeatureEdge::NamedFeatureWithSlash(SlashForm::Weak(weak)) => {
+            add_end(" weak (", data, weak.index().node(), answers);
+            answers.add(&")");
+        }
     }
 }
 

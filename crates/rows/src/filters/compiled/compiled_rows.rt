@@ -2,12 +2,11 @@ ghost use Rattle.std.specs.Prelude.{◌≡◌, IfOk};
 ghost use Rattle.nextest_filter_tokens.specs.declared.filterset_kind.FiltersetKind.TheVariants as kinds;
 ghost use Rattle.nextest_filter_evaluation.specs.Groups.{AreKnown};
 
-use crate::filters::compiled::contexts::context_in;
+use crate::filters::compiled::contexts::{context_in, graph_in};
 use crate::filters::compiled::queries::tell_answers;
 use crate::filters::compiled::row_groups::known_groups;
-use crate::filters::compiled::surface::{is_group, tell_filter_calls};
+use crate::filters::compiled::surface::{tell_filter_calls, tell_groups};
 use crate::filters::spans::add_span;
-use crate::records::graph_under;
 use guppy_package_graph::PackageGraph;
 use nextest_filtering::errors::{FiltersetError, ParseSingleError};
 use nextest_filtering::{
@@ -58,10 +57,8 @@ impl RowRunner for CompiledRows {
         row: Row<'_>,
         answers: &mut Answers,
     ) -> Result<(), RowFault> {
-        match graph_under(alloc, row)? {
-            Ok(graph) => tell_graph(alloc, row, &graph, answers),
-            Err(error) => Err(RowFault::Refused(format!(in alloc; "{error}")?)),
-        }
+        let graph = graph_in(alloc, row)?;
+        tell_graph(alloc, row, &graph, answers)
     }
 }
 
@@ -71,19 +68,11 @@ fn tell_graph(
     graph: &PackageGraph,
     answers: &mut Answers,
 ) -> Result<(), RowFault> {
-    let kind = match row.get("kind").and_then(Value::as_str) {
-        Some("archive") => FiltersetKind::TestArchive,
-        Some("override") => FiltersetKind::OverrideFilter,
-        Some("default") => FiltersetKind::DefaultFilter,
-        _ => FiltersetKind::Test,
-    };
     let cx = context_in(alloc, row, graph)?;
+    let kind = kind_in(row);
     let groups = groups_in(alloc, row, kind)?;
     if let FiltersetKind::Test = kind {
-        // Whether a group is called what stands under `group_name`.
-        if let Some(name) = row.get("group_name").and_then(Value::as_str) {
-            answers.made("is_group", is_group(alloc, &groups, name));
-        }
+        tell_groups(alloc, row, &groups, answers);
     }
     match row.get("default").and_then(Value::as_str) {
         Some(text) => tell_with_default(alloc, row, &cx, kind, &groups, text, answers),
@@ -138,18 +127,35 @@ fn tell_filter(
     };
     let input = String::from_str(alloc, row.text("text")?)?;
     match Filterset::parse(alloc, input, cx, kind, groups) {
-        Ok(filter) => {
-            // What a copy of the filter says.
-            let copied = filter.copy(alloc)?;
-            answers.begin("faults");
-            tell_filter_calls(row, &copied, answers);
-            tell_answers(alloc, row, &copied, &eval, answers)
-        }
+        Ok(filter) => tell_parsed(alloc, row, &filter, &eval, answers),
         Err(FiltersetError::Parse(refused)) => {
             tell_faults(&refused.errors, answers);
             Ok(())
         }
         Err(FiltersetError::Memory) => Err(RowFault::Memory),
+    }
+}
+
+/// Tells what a copy of the filter says.
+fn tell_parsed(
+    alloc: Global,
+    row: Row<'_>,
+    filter: &Filterset,
+    eval: &EvalContext<'_>,
+    answers: &mut Answers,
+) -> Result<(), RowFault> {
+    let filter = filter.copy(alloc)?;
+    answers.begin("faults");
+    tell_filter_calls(row, &filter, answers);
+    tell_answers(alloc, row, &filter, eval, answers)
+}
+
+fn kind_in(row: Row<'_>) -> FiltersetKind {
+    match row.get("kind").and_then(Value::as_str) {
+        Some("archive") => FiltersetKind::TestArchive,
+        Some("override") => FiltersetKind::OverrideFilter,
+        Some("default") => FiltersetKind::DefaultFilter,
+        _ => FiltersetKind::Test,
     }
 }
 

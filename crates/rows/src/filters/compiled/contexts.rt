@@ -1,10 +1,19 @@
-//! Contexts, as rows tell of them.
+//! Graphs and contexts, as rows tell of them.
 
 use crate::ids::{ids_in, lent};
+use crate::records::graph_under;
 use guppy_package_graph::{PackageGraph, PackageId};
 use nextest_filtering::ParseContext;
 use row_program::{Row, RowFault};
 use std::alloc::Global;
+
+/// The graph of the record under `record`.
+pub(crate) fn graph_in(alloc: Global, row: Row<'_>) -> Result<PackageGraph, RowFault> {
+    match graph_under(alloc, row)? {
+        Ok(graph) => Ok(graph),
+        Err(error) => Err(RowFault::Refused(format!(in alloc; "{error}")?)),
+    }
+}
 
 /// The context of the packages under `context`, in which the features under `on` are said to be on; of
 /// the members where there are no packages.

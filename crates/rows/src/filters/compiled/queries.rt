@@ -42,29 +42,32 @@ pub(crate) fn tell_answers(
 ) -> Result<(), RowFault> {
     let asked = asked_in(alloc, row)?;
     let group = text_or(row, "member_of", "@global");
-    let groups = OneGroup { alloc, group };
+    tell_holds(&asked, &OneGroup { alloc, group }, filter, cx, answers);
+    if !filter.compiled.has_group_matchers() {
+        tell_alone(alloc, &asked, filter, cx, answers);
+    }
+    tell_known(alloc, &asked, filter, cx, answers);
+    Ok(())
+}
+
+/// Tells whether the filter holds of each test, which is in the group.
+fn tell_holds(
+    asked: &[Asked<'_>],
+    group: &OneGroup<'_>,
+    filter: &Filterset,
+    cx: &EvalContext<'_>,
+    answers: &mut Answers,
+) {
     answers.begin("holds");
-    for one in &asked {
-        match filter.matches_test_with_groups(alloc, &one.test(), cx, &groups) {
+    for one in asked {
+        match filter.matches_test_with_groups(group.alloc, &one.test(), cx, group) {
             Ok(holds) => answers.part(" ", &holds),
             Err(refused) => answers.keep("holds", Err(refused)),
         }
     }
-    if !filter.compiled.has_group_matchers() {
-        tell_alone(alloc, &asked, filter, cx, answers);
-    }
-    answers.begin("known");
-    for one in &asked {
-        match filter.matches_binary(alloc, &one.binary(), cx) {
-            Ok(Some(holds)) => answers.part(" ", &holds),
-            Ok(None) => answers.part(" ", &"unknown"),
-            Err(refused) => answers.keep("known", Err(refused)),
-        }
-    }
-    Ok(())
 }
 
-/// Tells whether the filter holds of each test, asked without groups.
+/// The same, asked without groups.
 fn tell_alone(
     alloc: Global,
     asked: &[Asked<'_>],
@@ -79,6 +82,24 @@ fn tell_alone(
         match filter.matches_test(alloc, &one.test(), cx) {
             Ok(holds) => answers.part(" ", &holds),
             Err(refused) => answers.keep("alone", Err(refused)),
+        }
+    }
+}
+
+/// Tells what is known of each binary.
+fn tell_known(
+    alloc: Global,
+    asked: &[Asked<'_>],
+    filter: &Filterset,
+    cx: &EvalContext<'_>,
+    answers: &mut Answers,
+) {
+    answers.begin("known");
+    for one in asked {
+        match filter.matches_binary(alloc, &one.binary(), cx) {
+            Ok(Some(holds)) => answers.part(" ", &holds),
+            Ok(None) => answers.part(" ", &"unknown"),
+            Err(refused) => answers.keep("known", Err(refused)),
         }
     }
 }
@@ -101,13 +122,7 @@ const LISTS: [&str; 5] = [
 ];
 
 fn questions_in<'a>(alloc: Global, row: Row<'a>) -> Result<Vec<Question<'a>>, RowFault> {
-    let base = Question {
-        owner: text_or(row, "owner", "crate_a"),
-        name: text_or(row, "binary_name", "my-binary"),
-        kind: text_or(row, "binary_kind", "lib"),
-        platform: text_or(row, "built_for", "target"),
-        test_name: text_or(row, "test_name", "test_something"),
-    };
+    let base = question_in(row);
     let mut questions = Vec::new(alloc);
     for key in LISTS {
         for value in row.list(key)? {
@@ -121,6 +136,16 @@ fn questions_in<'a>(alloc: Global, row: Row<'a>) -> Result<Vec<Question<'a>>, Ro
         questions.push(base)?;
     }
     Ok(questions)
+}
+
+fn question_in<'a>(row: Row<'a>) -> Question<'a> {
+    Question {
+        owner: text_or(row, "owner", "crate_a"),
+        name: text_or(row, "binary_name", "my-binary"),
+        kind: text_or(row, "binary_kind", "lib"),
+        platform: text_or(row, "built_for", "target"),
+        test_name: text_or(row, "test_name", "test_something"),
+    }
 }
 
 impl<'a> Question<'a> {
@@ -171,17 +196,12 @@ impl Asked<'_> {
     }
 
     fn binary(&self) -> BinaryQuery<'_> {
-        let platform = if self.question.platform == "host" {
-            BuildPlatform::Host
-        } else {
-            BuildPlatform::Target
-        };
         BinaryQuery {
             package_id: &self.package_id,
             binary_id: &self.binary_id,
             binary_name: self.question.name,
             kind: &self.kind,
-            platform,
+            platform: platform_of(self.question.platform),
         }
     }
 
@@ -191,4 +211,11 @@ impl Asked<'_> {
             test_name: &self.test_name,
         }
     }
+}
+
+fn platform_of(text: &str) -> BuildPlatform {
+    if text == "host" {
+        return BuildPlatform::Host;
+    }
+    BuildPlatform::Target
 }

@@ -1,6 +1,6 @@
 use crate::filters::spans::add_span;
 use nextest_filter_syntax::{
-    ParseExprError, ParseSingleError, ParsedExpr, ParsedLeaf, parse_with_faults,
+    ParseExprError, ParseSingleError, ParsedExpr, ParsedLeaf, SourceSpan, parse_with_faults,
 };
 use row_program::{Answers, Row, RowFault, RowRunner};
 use std::alloc::{AllocError, Global};
@@ -21,30 +21,31 @@ impl RowRunner for FilterRows {
         answers: &mut Answers,
     ) -> Result<(), RowFault> {
         let text = row.text("text")?;
-        // The printed copy of the text's tree, or why there is none.
-        match ParsedExpr::parse(alloc, text) {
-            Ok(tree) => answers.made("printed", tree.copy(alloc)),
-            Err(ParseExprError::Faults(faults)) => {
-                answers.show("printed", &"faults: ");
-                answers.add(&faults.len());
-            }
-            Err(ParseExprError::Memory) => answers.keep("printed", Err(AllocError)),
-        }
+        tell_printed(alloc, text, answers);
         let (tree, faults) = parse_with_faults(alloc, text)?;
         tell_faults(alloc, &faults, answers);
+        tell_variants(&faults, answers);
         match &tree {
             Some(tree) => tell_tree(alloc, tree, answers),
-            None => {
-                answers.show("shape", &"spoiled");
-                answers.show("runtime", &"");
-                answers.show("spans", &"");
-            }
+            None => tell_spoiled(answers),
         }
         Ok(())
     }
 }
 
-/// Tells copies of the faults, with their places, and the variants of the faults.
+/// Tells the printed copy of a text's tree, or why there is none.
+fn tell_printed(alloc: Global, text: &str, answers: &mut Answers) {
+    match ParsedExpr::parse(alloc, text) {
+        Ok(tree) => answers.made("printed", tree.copy(alloc)),
+        Err(ParseExprError::Faults(faults)) => {
+            answers.show("printed", &"faults: ");
+            answers.add(&faults.len());
+        }
+        Err(ParseExprError::Memory) => answers.keep("printed", Err(AllocError)),
+    }
+}
+
+/// Tells copies of the faults, with their places.
 fn tell_faults(alloc: Global, faults: &[ParseSingleError], answers: &mut Answers) {
     answers.begin("faults");
     for fault in faults {
@@ -53,6 +54,10 @@ fn tell_faults(alloc: Global, faults: &[ParseSingleError], answers: &mut Answers
             Err(refused) => answers.keep("faults", Err(refused)),
         }
     }
+}
+
+/// Tells the variants of the faults.
+fn tell_variants(faults: &[ParseSingleError], answers: &mut Answers) {
     answers.begin("variants");
     for fault in faults {
         answers.part(" ", &variant_of(fault));
@@ -95,6 +100,12 @@ fn add_fault(fault: &ParseSingleError, answers: &mut Answers) {
     }
     answers.add(&" ");
     add_span(fault.span(), answers);
+}
+
+fn tell_spoiled(answers: &mut Answers) {
+    answers.show("shape", &"spoiled");
+    answers.show("runtime", &"");
+    answers.show("spans", &"");
 }
 
 /// Tells the tree's shape, its leaves that can be told only at run time, and the places of its leaves.
@@ -165,19 +176,27 @@ fn add_spans(tree: &ParsedExpr, answers: &mut Answers) {
             add_spans(x, answers);
             add_spans(y, answers);
         }
-        ParsedExpr::Set(leaf) => match leaf {
-            ParsedLeaf::Package(_, span)
-            | ParsedLeaf::Deps(_, span)
-            | ParsedLeaf::Rdeps(_, span)
-            | ParsedLeaf::Kind(_, span)
-            | ParsedLeaf::Binary(_, span)
-            | ParsedLeaf::BinaryId(_, span)
-            | ParsedLeaf::Platform(_, span)
-            | ParsedLeaf::Test(_, span)
-            | ParsedLeaf::Group(_, span)
-            | ParsedLeaf::Feature(_, span)
-            | ParsedLeaf::Default(span) => add_span(*span, answers),
-            ParsedLeaf::All | ParsedLeaf::None => {}
-        },
+        ParsedExpr::Set(leaf) => {
+            if let Some(span) = span_of(leaf) {
+                add_span(span, answers);
+            }
+        }
+    }
+}
+
+fn span_of(leaf: &ParsedLeaf) -> Option<SourceSpan> {
+    match leaf {
+        ParsedLeaf::Package(_, span)
+        | ParsedLeaf::Deps(_, span)
+        | ParsedLeaf::Rdeps(_, span)
+        | ParsedLeaf::Kind(_, span)
+        | ParsedLeaf::Binary(_, span)
+        | ParsedLeaf::BinaryId(_, span)
+        | ParsedLeaf::Platform(_, span)
+        | ParsedLeaf::Test(_, span)
+        | ParsedLeaf::Group(_, span)
+        | ParsedLeaf::Feature(_, span)
+        | ParsedLeaf::Default(span) => Some(*span),
+        ParsedLeaf::All | ParsedLeaf::None => None,
     }
 }

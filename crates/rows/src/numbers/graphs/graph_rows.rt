@@ -42,6 +42,14 @@ impl RowRunner for GraphRows {
 /// The graph of a row: `nodes`, and `links` as pairs of numbers.
 fn graph_in(alloc: Global, row: Row<'_>) -> Result<Graph, RowFault> {
     let nodes = node_count_in(row)?;
+    let links = links_in(alloc, row)?;
+    if !are_within(nodes, &links) {
+        return Err(RowFault::Key("links"));
+    }
+    Ok(Graph::new(alloc, nodes, links)?)
+}
+
+fn links_in(alloc: Global, row: Row<'_>) -> Result<Vec<Link>, RowFault> {
     let mut links = Vec::new(alloc);
     for pair in row.list("links")? {
         let (Some(from), Some(to)) = (
@@ -53,10 +61,7 @@ fn graph_in(alloc: Global, row: Row<'_>) -> Result<Graph, RowFault> {
         let (from, to) = (from as usize, to as usize);
         links.push(Link { from, to })?;
     }
-    if !are_within(nodes, &links) {
-        return Err(RowFault::Key("links"));
-    }
-    Ok(Graph::new(alloc, nodes, links)?)
+    Ok(links)
 }
 
 fn tell_graph(
@@ -136,14 +141,22 @@ fn tell_set(
     answers.keep("sizes", sizes_text(alloc, graph.node_count(), set.len()));
     let nodes = nodes_in(alloc, row, graph.node_count(), "other")?;
     let other = NodeSet::of(alloc, graph.node_count(), &nodes)?;
-    answers.list("union", members_of(alloc, set.union(alloc, &other)));
-    let intersection = set.intersection(alloc, &other);
-    answers.list("intersection", members_of(alloc, intersection));
-    let difference = set.difference(alloc, &other);
-    answers.list("difference", members_of(alloc, difference));
-    let symmetric = set.symmetric_difference(alloc, &other);
-    answers.list("symmetric_difference", members_of(alloc, symmetric));
+    tell_two(alloc, set, &other, answers);
     Ok(())
+}
+
+fn tell_two(alloc: Global, set: &NodeSet, other: &NodeSet, answers: &mut Answers)
+    requires sized { length other.now ≡ length set.now }
+{
+    answers.list("union", members_of(alloc, set.union(alloc, other)));
+    let intersection = set.intersection(alloc, other);
+    answers.list("intersection", members_of(alloc, intersection));
+    answers.list(
+        "difference",
+        members_of(alloc, set.difference(alloc, other)),
+    );
+    let symmetric = set.symmetric_difference(alloc, other);
+    answers.list("symmetric_difference", members_of(alloc, symmetric));
 }
 
 /// How many members a set has, of how many nodes, and how many there are in a set of none.

@@ -45,12 +45,13 @@ pub(crate) fn answer_to(manner: Manner<'_>, offer: Offer, before: usize) -> bool
         Manner::Alternate => before % 2 == 0,
         Manner::RequiredHalves => offer.kind != OfferKind::Optional,
         Manner::OptionalHalves => offer.kind != OfferKind::Required,
-        Manner::Table { others, halves } => {
-            let flags = match offer.kind {
-                OfferKind::Optional => halves,
-                OfferKind::Unsplit | OfferKind::Required => others,
-            };
-            offer.edge < flags.len() && flags[offer.edge]
-        }
+        Manner::Table { others, halves } => match offer.kind {
+            OfferKind::Optional => is_set(halves, offer.edge),
+            OfferKind::Unsplit | OfferKind::Required => is_set(others, offer.edge),
+        },
     }
+}
+
+fn is_set(flags: &[bool], place: usize) -> bool {
+    place < flags.len() && flags[place]
 }

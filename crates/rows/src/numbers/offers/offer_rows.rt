@@ -4,10 +4,10 @@ use crate::numbers::lists::{direction_in, flags_in, nodes_in};
 use crate::numbers::offers::edge_lists::graph_in;
 use crate::numbers::offers::manner::{Manner, manner_in};
 use crate::numbers::offers::walked::walk_in;
-use numbered_graph::Direction;
+use numbered_graph::{Direction, NodeSet};
 use numbered_offers::OfferGraph;
 use row_program::{Answers, Row, RowFault, RowRunner};
-use std::alloc::Global;
+use std::alloc::{AllocError, Global};
 
 /// Rows of graphs of offers. A row has `nodes`, `edges` and `starts`, and where they are asked for
 /// `direction`, `accepts` (the manner in which offers are answered), `refused` and `refused_halves`
@@ -75,7 +75,7 @@ fn tell_graph(
     Ok(())
 }
 
-/// Tells the offers of a walk with their answers, and what it reached, ascending, each under its key.
+/// Tells the offers of a walk with their answers, and what it reached, each under its key.
 fn tell_walk(
     alloc: Global,
     graph: &OfferGraph,
@@ -88,15 +88,21 @@ fn tell_walk(
     requires starts { All (λ v. v < graph.now.nodes) starts.now }
 {
     answers.begin(keys.0);
-    match walk_in(alloc, graph, starts, direction, manner, answers) {
+    let included = walk_in(alloc, graph, starts, direction, manner, answers);
+    tell_set(keys.1, included, answers);
+}
+
+/// The members of a set that was made, ascending.
+fn tell_set(key: &'static str, set: Result<NodeSet, AllocError>, answers: &mut Answers) {
+    match set {
         Ok(set) => {
-            answers.begin(keys.1);
+            answers.begin(key);
             for node in 0..set.node_count() {
                 if set.contains(node) {
                     answers.part(" ", &node);
                 }
             }
         }
-        Err(refused) => answers.keep(keys.1, Err(refused)),
+        Err(refused) => answers.keep(key, Err(refused)),
     }
 }

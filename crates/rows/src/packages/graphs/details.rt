@@ -2,7 +2,7 @@
 
 use crate::ids::id_in;
 use guppy_package_graph::{Error, PackageGraph, PackageLink, PackageMetadata};
-use guppy_package_parts::{BuildTarget, BuildTargetId};
+use guppy_package_parts::{BuildTarget, BuildTargetId, PackageSource};
 use guppy_package_table::PackageDetails;
 use row_program::{Answers, Row, RowFault};
 use std::alloc::Global;
@@ -19,16 +19,26 @@ pub(crate) fn tell_package(
     match graph.metadata(&id) {
         Ok(package) => {
             tell_found(alloc, package, answers);
-            // The first link from the package to the one under `target`, and the first back.
-            if let Some(target) = id_in(alloc, row, "target")? {
-                tell_link(alloc, "link_to", package.link_to(&target), answers);
-                tell_link(alloc, "link_from", package.link_from(&target), answers);
-            }
+            tell_links(alloc, row, package, answers)
         }
         Err(error) => {
             answers.show("found", &error);
             answers.show("link_to", &error);
+            Ok(())
         }
+    }
+}
+
+/// The first link from the package to the one under `target`, and the first back.
+fn tell_links(
+    alloc: Global,
+    row: Row<'_>,
+    package: PackageMetadata<'_>,
+    answers: &mut Answers,
+) -> Result<(), RowFault> {
+    if let Some(target) = id_in(alloc, row, "target")? {
+        tell_link(alloc, "link_to", package.link_to(&target), answers);
+        tell_link(alloc, "link_from", package.link_from(&target), answers);
     }
     Ok(())
 }
@@ -58,6 +68,13 @@ fn tell_found(alloc: Global, package: PackageMetadata<'_>, answers: &mut Answers
         "found",
         format!(in alloc; "{id}, {name} {version}, from {source}, member {is_member}"),
     );
+    tell_source(alloc, source, answers);
+    tell_texts(&package, answers);
+    tell_kinds(alloc, &package, answers);
+    tell_targets(alloc, &package, answers);
+}
+
+fn tell_source(alloc: Global, source: PackageSource<'_>, answers: &mut Answers) {
     let (is_workspace, is_path) = (source.is_workspace(), source.is_path());
     let in_workspace = source.workspace_path().unwrap_or("-");
     let local = source.local_path().unwrap_or("-");
@@ -65,18 +82,6 @@ fn tell_found(alloc: Global, package: PackageMetadata<'_>, answers: &mut Answers
         "source",
         format!(in alloc; "workspace {is_workspace} {in_workspace}, path {is_path}, local {local}"),
     );
-    tell_texts(&package, answers);
-    let is_proc_macro = package.is_proc_macro();
-    let has_build_script = package.has_build_script();
-    let has_default = package.has_default_feature();
-    let is_published = !package.publish().is_never();
-    answers.keep(
-        "kinds",
-        format!(in alloc;
-            "proc-macro {is_proc_macro}, build script {has_build_script}, default {has_default}, published {is_published}"
-        ),
-    );
-    tell_targets(alloc, &package, answers);
 }
 
 /// The texts that a manifest may leave out, in the order in which `cargo metadata` gives them, and the lists.
@@ -123,19 +128,7 @@ fn tell_targets(alloc: Global, package: &PackageDetails<'_>, answers: &mut Answe
     }
     let library = package.build_target(&BuildTargetId::Library);
     tell_target("library", library, answers);
-    match library {
-        // What Cargo does with the target where nothing else is said.
-        Some(target) => {
-            let is_documented = target.doc_by_default();
-            let has_doctests = target.doctest_by_default();
-            let is_tested = target.test_by_default();
-            answers.keep(
-                "library_defaults",
-                format!(in alloc; "doc {is_documented}, doctest {has_doctests}, test {is_tested}"),
-            );
-        }
-        None => answers.show("library_defaults", &"none"),
-    }
+    tell_defaults(alloc, library, answers);
     let binary = package.build_target(&BuildTargetId::Binary("x"));
     tell_target("binary_x", binary, answers);
 }
@@ -145,4 +138,31 @@ fn tell_target(key: &'static str, target: Option<BuildTarget<'_>>, answers: &mut
         Some(target) => answers.show(key, &target.name()),
         None => answers.show(key, &"none"),
     }
+}
+
+/// What Cargo does with the target where nothing else is said.
+fn tell_defaults(alloc: Global, target: Option<BuildTarget<'_>>, answers: &mut Answers) {
+    let Some(target) = target else {
+        return answers.show("library_defaults", &"none");
+    };
+    let is_documented = target.doc_by_default();
+    let has_doctests = target.doctest_by_default();
+    let is_tested = target.test_by_default();
+    answers.keep(
+        "library_defaults",
+        format!(in alloc; "doc {is_documented}, doctest {has_doctests}, test {is_tested}"),
+    );
+}
+
+fn tell_kinds(alloc: Global, package: &PackageDetails<'_>, answers: &mut Answers) {
+    let is_proc_macro = package.is_proc_macro();
+    let has_build_script = package.has_build_script();
+    let has_default = package.has_default_feature();
+    let is_published = !package.publish().is_never();
+    answers.keep(
+        "kinds",
+        format!(in alloc;
+            "proc-macro {is_proc_macro}, build script {has_build_script}, default {has_default}, published {is_published}"
+        ),
+    );
 }

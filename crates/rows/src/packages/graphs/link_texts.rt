@@ -10,18 +10,21 @@ pub(crate) fn link_text(
     cx: &PackageLinkContext<'_>,
     link: PackageLink<'_>,
 ) -> Result<String, AllocError> {
-    let (from, to) = link.endpoints();
-    let (from, to) = (from.id(), to.id());
-    let place = link.path().unwrap_or("no path");
-    let registry = link.registry().unwrap_or("no registry");
+    let ends = ends_text(alloc, link)?;
     let name = link.dep_name();
     let rust_name = link.resolved_name();
     let requirement = link.version_req();
     let kinds = kinds_text(alloc, link)?;
     let is_start = cx.starts_from_initial(link);
-    format!(in alloc;
-        "{from} to {to}, {place}, {registry}, {name} {rust_name} {requirement}, {kinds}, from initial {is_start}"
-    )
+    format!(in alloc; "{ends}, {name} {rust_name} {requirement}, {kinds}, from initial {is_start}")
+}
+
+fn ends_text(alloc: Global, link: PackageLink<'_>) -> Result<String, AllocError> {
+    let (from, to) = link.endpoints();
+    let (from, to) = (from.id(), to.id());
+    let place = link.path().unwrap_or("no path");
+    let registry = link.registry().unwrap_or("no registry");
+    format!(in alloc; "{from} to {to}, {place}, {registry}")
 }
 
 fn kinds_text(alloc: Global, link: PackageLink<'_>) -> Result<String, AllocError> {

@@ -12,6 +12,15 @@ pub(crate) fn tell_members(
     graph: &PackageGraph,
     answers: &mut Answers,
 ) -> Result<(), RowFault> {
+    let paths = row.texts(alloc, "paths")?;
+    let names = row.texts(alloc, "names")?;
+    tell_workspace(graph, answers);
+    tell_paths(alloc, graph, &paths, answers);
+    tell_names(alloc, graph, &names, answers);
+    Ok(())
+}
+
+fn tell_workspace(graph: &PackageGraph, answers: &mut Answers) {
     let workspace = graph.workspace();
     answers.show("member_count", &workspace.member_count());
     tell_ids("member_ids", workspace.member_ids(), answers);
@@ -28,9 +37,6 @@ pub(crate) fn tell_members(
     for (name, package) in workspace.iter_by_name() {
         add_pair(name, package, answers);
     }
-    tell_paths(alloc, graph, &row.texts(alloc, "paths")?, answers);
-    tell_names(alloc, graph, &row.texts(alloc, "names")?, answers);
-    Ok(())
 }
 
 fn tell_ids(key: &'static str, ids: PackageIdsAt<'_, '_>, answers: &mut Answers) {

@@ -6,7 +6,8 @@ use guppy_package_parts::DependencyDirection;
 use row_program::{Answers, Row, RowFault};
 use std::alloc::Global;
 
-/// Tells what is kept of the set, its roots and its ids.
+/// What is kept of the set: the packages under `wanted`, those that are not there, and of these those
+/// under `unwanted`.
 pub(crate) fn tell_choices(
     alloc: Global,
     row: Row<'_>,
@@ -16,18 +17,17 @@ pub(crate) fn tell_choices(
     let wanted = row.texts(alloc, "wanted")?;
     let unwanted = row.texts(alloc, "unwanted")?;
     let direction = direction_in(row);
-    tell_kept(alloc, set, direction, &wanted, &unwanted, answers);
+    tell_wanted(alloc, set, direction, &wanted, answers);
+    tell_of_three(alloc, set, direction, &wanted, &unwanted, answers);
     tell_roots(alloc, set, direction, answers);
     Ok(())
 }
 
-/// Tells the packages that are wanted, those that are not, and of these those that are unwanted.
-fn tell_kept(
+fn tell_wanted(
     alloc: Global,
     set: &PackageSet<'_>,
     direction: DependencyDirection,
     wanted: &[&str],
-    unwanted: &[&str],
     answers: &mut Answers,
 ) {
     let accepted = set.filter(alloc, direction, |package: PackageMetadata<'_>| -> bool {
@@ -38,7 +38,17 @@ fn tell_kept(
         wanted.contains(&package.name())
     });
     tell_parts(alloc, "parts", parts, answers);
-    let of_three = set.filter_partition(
+}
+
+fn tell_of_three(
+    alloc: Global,
+    set: &PackageSet<'_>,
+    direction: DependencyDirection,
+    wanted: &[&str],
+    unwanted: &[&str],
+    answers: &mut Answers,
+) {
+    let parts = set.filter_partition(
         alloc,
         direction,
         |package: PackageMetadata<'_>| -> Option<bool> {
@@ -51,7 +61,7 @@ fn tell_kept(
             }
         },
     );
-    tell_parts(alloc, "of_three", of_three, answers);
+    tell_parts(alloc, "of_three", parts, answers);
 }
 
 fn tell_roots(

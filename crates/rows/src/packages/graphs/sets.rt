@@ -31,15 +31,7 @@ fn tell_one(
     set: &PackageSet<'_>,
     answers: &mut Answers,
 ) -> Result<(), RowFault> {
-    // The packages of the set from both ends, in both directions.
-    let forward = set.packages(DependencyDirection::Forward);
-    let reverse = set.packages(DependencyDirection::Reverse);
-    answers.show("lengths", &forward.len());
-    answers.part(" of ", &set.len());
-    tell_packages("listed", forward, answers);
-    tell_packages_back("listed", reverse, answers);
-    tell_packages("listed_reverse", reverse, answers);
-    tell_packages_back("listed_reverse", forward, answers);
+    tell_listing(set, answers);
     if let Some(id) = id_in(alloc, row, "package")? {
         match set.contains(&id) {
             Ok(contained) => answers.show("contained", &contained),
@@ -58,17 +50,19 @@ fn tell_one(
 fn tell_whole_sets(alloc: Global, graph: &PackageGraph, answers: &mut Answers) {
     tell_set(alloc, "members", graph.resolve_workspace(alloc), answers);
     match graph.resolve_all(alloc) {
-        Ok(all) => {
-            tell_packages("all", all.packages(DependencyDirection::Forward), answers);
-            answers.begin("sizes");
-            add_size("", &all, answers);
-        }
+        Ok(all) => tell_all(&all, answers),
         Err(refused) => answers.keep("all", Err(refused)),
     }
     match graph.resolve_none(alloc) {
         Ok(none) => add_size(", ", &none, answers),
         Err(refused) => answers.keep("sizes", Err(refused)),
     }
+}
+
+fn tell_all(all: &PackageSet<'_>, answers: &mut Answers) {
+    tell_packages("all", all.packages(DependencyDirection::Forward), answers);
+    answers.begin("sizes");
+    add_size("", all, answers);
 }
 
 fn add_size(between: &str, set: &PackageSet<'_>, answers: &mut Answers) {
@@ -101,6 +95,18 @@ fn set_in<'g>(
     let ids = ids_in(alloc, row, key)?;
     let ids = lent(alloc, &ids)?;
     Ok(graph.resolve_ids(alloc, &ids))
+}
+
+/// The packages of the set from both ends, in both directions.
+fn tell_listing(set: &PackageSet<'_>, answers: &mut Answers) {
+    let forward = set.packages(DependencyDirection::Forward);
+    let reverse = set.packages(DependencyDirection::Reverse);
+    answers.show("lengths", &forward.len());
+    answers.part(" of ", &set.len());
+    tell_packages("listed", forward, answers);
+    tell_packages_back("listed", reverse, answers);
+    tell_packages("listed_reverse", reverse, answers);
+    tell_packages_back("listed_reverse", forward, answers);
 }
 
 fn tell_both(alloc: Global, set: &PackageSet<'_>, other: &PackageSet<'_>, answers: &mut Answers) {

@@ -18,6 +18,11 @@ pub(crate) fn tell_whole_graph(
         answers.part(" ", package.id());
     }
     let cycles = graph.cycles(alloc)?;
+    tell_cycles(alloc, &cycles, answers);
+    tell_between(alloc, row, graph, &cycles, answers)
+}
+
+fn tell_cycles(alloc: Global, cycles: &Cycles<'_>, answers: &mut Answers) {
     answers.begin("cycles");
     for cycle in cycles.all_cycles() {
         add_cycle(sorted_ids(alloc, cycle), answers);
@@ -26,7 +31,6 @@ pub(crate) fn tell_whole_graph(
     for cycle in cycles.all_cycles().rev() {
         add_cycle(sorted_ids(alloc, cycle), answers);
     }
-    tell_between(alloc, row, graph, &cycles, answers)
 }
 
 fn add_cycle(ids: Result<Vec<&PackageId>, AllocError>, answers: &mut Answers) {
@@ -72,15 +76,26 @@ fn tell_between(
         tell_links(alloc, package, direction_in(row), answers)?;
     }
     if let Some(b) = id_in(alloc, row, "target")? {
-        tell_answer("depends", graph.depends_on(alloc, &a, &b), answers);
-        tell_answer("directly", graph.directly_depends_on(&a, &b), answers);
-        tell_answer("cyclic", cycles.is_cyclic(&a, &b), answers);
-        // Asked twice, and of another package between.
-        let mut cache = graph.new_depends_cache(alloc)?;
-        tell_answer("depends", cache.depends_on(alloc, &a, &b), answers);
-        let _between = cache.depends_on(alloc, &b, &b);
-        tell_answer("depends", cache.depends_on(alloc, &a, &b), answers);
+        tell_two(alloc, graph, cycles, (&a, &b), answers)?;
     }
+    Ok(())
+}
+
+fn tell_two(
+    alloc: Global,
+    graph: &PackageGraph,
+    cycles: &Cycles<'_>,
+    (a, b): (&PackageId, &PackageId),
+    answers: &mut Answers,
+) -> Result<(), RowFault> {
+    tell_answer("depends", graph.depends_on(alloc, a, b), answers);
+    tell_answer("directly", graph.directly_depends_on(a, b), answers);
+    tell_answer("cyclic", cycles.is_cyclic(a, b), answers);
+    // Asked twice, and of another package between.
+    let mut cache = graph.new_depends_cache(alloc)?;
+    tell_answer("depends", cache.depends_on(alloc, a, b), answers);
+    let _between = cache.depends_on(alloc, b, b);
+    tell_answer("depends", cache.depends_on(alloc, a, b), answers);
     Ok(())
 }
 

@@ -2,7 +2,7 @@
 
 use guppy_package_parts::{
     BuildTarget, BuildTargetId, BuildTargetKind, EnabledStatus, ExternalSource, GitReq,
-    PlatformStatus,
+    PackagePublish, PlatformStatus,
 };
 use row_program::Answers;
 use std::alloc::{AllocError, Global};
@@ -22,31 +22,56 @@ pub(crate) fn source_text(
                 resolved,
             },
         ) => {
-            let (request, name) = match req {
-                GitReq::Branch(name) => ("branch ", name),
-                GitReq::Tag(name) => ("tag ", name),
-                GitReq::Rev(name) => ("rev ", name),
-                GitReq::Default => ("default", ""),
-            };
+            let (request, name) = request_words(req);
             format!(in alloc; "git {repository}, {request}{name}, at {resolved}")
         }
     }
 }
 
+fn request_words<'a>(req: GitReq<'a>) -> (&'static str, &'a str) {
+    match req {
+        GitReq::Branch(name) => ("branch ", name),
+        GitReq::Tag(name) => ("tag ", name),
+        GitReq::Rev(name) => ("rev ", name),
+        GitReq::Default => ("default", ""),
+    }
+}
+
+pub(crate) fn tell_publish(alloc: Global, publish: PackagePublish<'_>, answers: &mut Answers) {
+    let unrestricted = publish.is_unrestricted();
+    let never = publish.is_never();
+    let crates_io = publish.can_publish_to_crates_io();
+    let other = publish.can_publish_to("other");
+    answers.keep(
+        "publish",
+        format!(in alloc;
+            "unrestricted {unrestricted}, never {never}, crates-io {crates_io}, other {other}"
+        ),
+    );
+}
+
 /// Adds the line of a target.
 pub(crate) fn tell_target(target: BuildTarget<'_>, answers: &mut Answers) {
-    let sort = match target.id() {
+    answers.add(&sort_text(target.id()));
+    answers.part(" ", &target.id().name().unwrap_or("unnamed"));
+    answers.add(&" as");
+    add_kind(target.kind(), answers);
+    answers.add(&"\n");
+}
+
+fn sort_text(id: BuildTargetId<'_>) -> &'static str {
+    match id {
         BuildTargetId::Library => "library",
         BuildTargetId::BuildScript => "build script",
         BuildTargetId::Binary(_) => "binary",
         BuildTargetId::Example(_) => "example",
         BuildTargetId::Test(_) => "test",
         BuildTargetId::Benchmark(_) => "benchmark",
-    };
-    answers.add(&sort);
-    answers.part(" ", &target.id().name().unwrap_or("unnamed"));
-    answers.add(&" as");
-    match target.kind() {
+    }
+}
+
+fn add_kind(kind: BuildTargetKind<'_>, answers: &mut Answers) {
+    match kind {
         BuildTargetKind::ProcMacro => answers.part(" ", &"proc-macro"),
         BuildTargetKind::Binary => answers.part(" ", &"binary"),
         BuildTargetKind::LibraryOrExample(crate_types) => {
@@ -55,7 +80,6 @@ pub(crate) fn tell_target(target: BuildTarget<'_>, answers: &mut Answers) {
             }
         }
     }
-    answers.add(&"\n");
 }
 
 /// Tells both halves of a status.

@@ -1,7 +1,6 @@
 use crate::packages::rules::path_rows::tell_paths;
-use crate::records::file_under;
 use guppy_package_rules::{PackageGraphError, RecordRule, read_rows};
-use row_program::{Answers, Row, RowFault, RowRunner, record_from};
+use row_program::{Answers, Row, RowFault, RowRunner, file_text, record_from};
 use std::alloc::Global;
 use test_select_checks::{RecordError, check_record};
 use workspace_record::WorkspaceRecord;
@@ -22,22 +21,33 @@ impl RowRunner for RuleRows {
         answers: &mut Answers,
     ) -> Result<(), RowFault> {
         if row.get("paths").is_some() {
-            tell_paths(&row.texts(alloc, "paths")?, answers);
-            return Ok(());
+            return tell_path_row(alloc, row, answers);
         }
         let record = record_of(alloc, row)?;
         tell_broken(alloc, &record, answers)
     }
 }
 
+fn tell_path_row(alloc: Global, row: Row<'_>, answers: &mut Answers) -> Result<(), RowFault> {
+    tell_paths(&row.texts(alloc, "paths")?, answers);
+    Ok(())
+}
+
 fn record_of(alloc: Global, row: Row<'_>) -> Result<WorkspaceRecord, RowFault> {
-    let packages = file_under(alloc, row, "packages")?;
-    let links = file_under(alloc, row, "links")?;
-    let workspace = file_under(alloc, row, "workspace")?;
+    let packages = part_of(alloc, row, "packages")?;
+    let links = part_of(alloc, row, "links")?;
+    let workspace = part_of(alloc, row, "workspace")?;
     let text = format!(in alloc;
         "{{\"packages\":{packages},\"links\":{links},\"workspace\":{workspace}}}"
     )?;
     record_from(alloc, text.as_str(), "record")
+}
+
+fn part_of(alloc: Global, row: Row<'_>, key: &'static str) -> Result<String, RowFault> {
+    match row.get(key) {
+        Some(value) => Ok(file_text(alloc, value)?),
+        None => Err(RowFault::Key(key)),
+    }
 }
 
 /// The first broken rule of the packages, links and members, and what the check of the whole record says of
