@@ -42,10 +42,14 @@ pub fn choice_in(alloc: Global, row: Row<'_>) -> Result<FeatureChoice, RowFault>
 /// The table of the row, without a file one that has no answers and lets unknown ones count.
 pub fn table_in(alloc: Global, row: Row<'_>) -> Result<PlatformTable, RowFault> {
     let text = file_or_empty(alloc, row, "table.json")?;
-    match read_table(alloc, text.as_bytes()) {
+    match table_of(alloc, &text) {
         Ok(table) => Ok(table),
         Err(error) => Err(unread(alloc, "table.json", error)),
     }
+}
+
+fn table_of(alloc: Global, text: &String) -> Result<PlatformTable, ReadError> {
+    read_table(alloc, text.as_bytes())
 }
 
 /// The account or explanation of the row: of its file, or else the numbers of its `account`.

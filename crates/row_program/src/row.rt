@@ -2,14 +2,34 @@ use crate::fault::RowFault;
 use serde_json::Value;
 use std::alloc::{AllocError, Global};
 
-/// A row of a file, and the group that it stands in, if it does.
+/// A row of a file, and the group that it stands in.
 #[derive(Clone, Copy)]
 pub struct Row<'a> {
-    pub(crate) own: &'a Value,
-    pub(crate) group: Option<&'a Value>,
+    own: &'a Value,
+    group: Option<&'a Value>,
 }
 
 impl<'a> Row<'a> {
+    /// A row that stands in no group.
+    pub(crate) fn alone(own: &'a Value) -> Row<'a> {
+        Row { own, group: None }
+    }
+
+    /// A row of a group.
+    pub(crate) fn of_group(own: &'a Value, group: &'a Value) -> Row<'a> {
+        let group = Some(group);
+        Row { own, group }
+    }
+
+    /// The row itself, and then its group.
+    pub(crate) fn own(&self) -> &'a Value {
+        self.own
+    }
+
+    pub(crate) fn group(&self) -> Option<&'a Value> {
+        self.group
+    }
+
     /// What the row says under this key, or else its group.
     pub fn get(&self, key: &str) -> Option<&'a Value> {
         match self.own.get(key) {

@@ -91,14 +91,10 @@ fn rows_of<'a>(alloc: Global, values: &'a [Value]) -> io::Result<Vec<Row<'a>>> {
     let mut rows = Vec::new(alloc);
     for value in values {
         match value.get("rows").and_then(Value::as_array) {
-            None => {
-                let (own, group) = (value, None);
-                rows.push(Row { own, group })?;
-            }
+            None => rows.push(Row::alone(value))?,
             Some(inner) => {
-                let group = Some(value);
                 for own in inner.as_slice() {
-                    rows.push(Row { own, group })?;
+                    rows.push(Row::of_group(own, value))?;
                 }
             }
         }
@@ -171,8 +167,8 @@ fn keys_are_known(
     answers: &[Answer],
     report: &mut Report<'_>,
 ) -> bool {
-    let own = are_known(row.own, inputs, answers, report);
-    match row.group {
+    let own = are_known(row.own(), inputs, answers, report);
+    match row.group() {
         Some(group) => are_known(group, inputs, answers, report) && own,
         None => own,
     }

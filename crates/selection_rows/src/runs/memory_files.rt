@@ -21,6 +21,13 @@ impl<'a> MemoryFiles<'a> {
     pub(crate) fn into_asked(self) -> String {
         self.asked
     }
+
+    fn keep(&mut self, name: &str) -> Result<(), FileFault> {
+        if self.asked.push_str(name).is_err() || self.asked.push(' ').is_err() {
+            return Err(FileFault::Memory);
+        }
+        Ok(())
+    }
 }
 
 impl FileSource for MemoryFiles<'_> {
@@ -31,9 +38,7 @@ impl FileSource for MemoryFiles<'_> {
     ghost answers = { λ _ _ _ _ _. Unit {0} };
 
     fn read(&mut self, alloc: Global, name: &str) -> Result<Vec<u8>, FileFault> {
-        if self.asked.push_str(name).is_err() || self.asked.push(' ').is_err() {
-            return Err(FileFault::Memory);
-        }
+        self.keep(name)?;
         match self.row.file_value(name) {
             None => Err(FileFault::CannotRead),
             Some(value) if value.is_null() => Err(FileFault::Memory),

@@ -5,7 +5,8 @@ use row_program::{Answers, Question, Row, RowFault, add_feature, record_in};
 use std::alloc::Global;
 use std::fmt::Display;
 use test_select::{
-    FeaturesOn, PlatformTable, WorkspaceRecord, declared_graph, features_on, switched_on,
+    FeaturesOn, LinkRecord, PlatformTable, WorkspaceRecord, declared_graph, features_on,
+    switched_on,
 };
 use test_select_rules::availability::is_available;
 
@@ -82,14 +83,16 @@ fn tell_links_of(
         Ok(switched) => {
             answers.begin("links");
             for link in graph.link_rows() {
-                let is_on = switched.link_rows().iter().any(|it| {
-                    it.from == link.from && it.to == link.to && it.name == link.name
-                });
+                let is_on = has_link(switched.link_rows(), link);
                 add_line(&link.from, &link.name, is_on, answers);
             }
         }
         Err(refused) => answers.keep("links", Err(refused)),
     }
+}
+
+fn has_link(links: &[LinkRecord], link: &LinkRecord) -> bool {
+    links.iter().any(|it| it.from == link.from && it.to == link.to && it.name == link.name)
 }
 
 fn tell_targets(record: &WorkspaceRecord, on: &FeaturesOn, answers: &mut Answers) {
