@@ -19,5 +19,3 @@ mod runs;
 mod selections;
 #[cfg(test)]
 mod workspace;
-#[cfg(test)]
-mod writers;

@@ -1,9 +1,7 @@
-//! Two members with a library and a test each, all of which are available under the choice; and calls that
-//! tests of several parts make.
+//! Two members with a library and a test each, all of which are available under the choice.
 
-use guppy_package_graph::{PackageGraph, PackageGraphError, PackageId};
 use std::alloc::Global;
-use std::fmt::{Debug, Display};
+use std::fmt::Debug;
 use std::process::Abort;
 use test_select::{
     Feature, FeatureChoice, Label, LinkScope, PlatformTable, SelectError, Selection, TestLister,
@@ -105,25 +103,6 @@ pub(crate) fn selected(
     select(alloc, record, choice, table, scope, texts, lister)
 }
 
-/// The graph of the packages of a record.
-pub(crate) fn graph_of(rt: &impl Abort, alloc: Global, record: &[u8]) -> PackageGraph {
-    let record = read_record(alloc, record).expect(rt, "a record");
-    built_graph(alloc, record).expect(rt, "a graph")
-}
-
-/// The graph of a record's rows.
-pub(crate) fn built_graph(
-    alloc: Global,
-    record: WorkspaceRecord,
-) -> Result<PackageGraph, PackageGraphError> {
-    let (packages, links, workspace) = (record.packages, record.links, record.workspace);
-    PackageGraph::from_records(alloc, packages, links, workspace)
-}
-
-pub(crate) fn id_of(rt: &impl Abort, alloc: Global, text: &str) -> PackageId {
-    PackageId::new(String::from_str(alloc, text).expect(rt, "memory"))
-}
-
 /// The feature `simd` of util.
 pub(crate) fn simd(rt: &impl Abort, alloc: Global) -> Feature {
     let package = String::from_str(alloc, "util").expect(rt, "memory");
@@ -134,10 +113,4 @@ pub(crate) fn simd(rt: &impl Abort, alloc: Global) -> Feature {
 /// What `Debug` prints of a value.
 pub(crate) fn debugged<T: Debug>(rt: &impl Abort, alloc: Global, value: &T) -> String {
     format!(in alloc; "{value:?}").expect(rt, "memory")
-}
-
-/// Asserts what a value prints.
-pub(crate) fn expect_printed<T: Display>(rt: &impl Abort, alloc: Global, value: &T, want: &str) {
-    let printed = format!(in alloc; "{value}").expect(rt, "memory");
-    assert_eq!(rt; printed.as_str(), want);
 }

@@ -1,13 +1,15 @@
 //! Feature graphs, their resolves and their filters.
 
+use crate::refusals::packages::{id_of, packages};
 use crate::refusals::turns::{AllocatingCall, Refusal, answered, refuse_in_turn};
-use crate::workspace::{RECORD, debugged, graph_of, id_of};
+use crate::workspace::debugged;
 use guppy_feature_graph::{
     ConditionalLink, FeatureGraph, FeatureGraphData, FeatureId, FeatureLinkContext,
     FeatureLinkVisitor, FeatureMetadata, FeatureSet,
 };
 use guppy_package_graph::{DependencyDirection, Error, PackageGraph, PackageId};
 use std::alloc::{AllocError, Global};
+use std::process::Abort;
 
 /// The ids of a set, each package's in the order of the graph, with a space after each.
 fn ids_text(alloc: Global, set: &FeatureSet<'_>) -> Result<String, AllocError> {
@@ -34,7 +36,7 @@ impl AllocatingCall for Builds<'_> {
 /// The graph of packages is afterwards what it was before.
 #[test]
 fn build(rt: HostRuntime) {
-    let packages = &graph_of(&rt, rt.alloc(), RECORD);
+    let packages = &packages(&rt, rt.alloc());
     let before = debugged(&rt, rt.alloc(), packages);
     refuse_in_turn(&rt, rt.alloc(), &mut Builds { packages }, "6");
     assert_eq!(rt;
@@ -91,17 +93,21 @@ impl AllocatingCall for Resolves<'_, '_> {
 
 const ALL: &str = "app/full app/fast app/dep:util app/[base] util/simd util/[base] ";
 
+fn expect_resolved(rt: &impl Abort, alloc: Global, data: &FeatureGraphData<'_>, app: &PackageId) {
+    let graph = &FeatureGraph::of(data);
+    refuse_in_turn(rt, alloc, &mut Resolves { graph, app }, ALL);
+    let all = graph.resolve_all(alloc).expect(rt, "memory");
+    let same = ids_text(alloc, &all).expect(rt, "memory");
+    assert_eq!(rt; same.as_str(), ALL);
+}
+
 /// The graph has afterwards the features that it had before.
 #[test]
 fn resolve_with(rt: HostRuntime) {
-    let packages = graph_of(&rt, rt.alloc(), RECORD);
-    let app = &id_of(&rt, rt.alloc(), "app");
+    let packages = packages(&rt, rt.alloc());
+    let app = id_of(rt.alloc(), "app").expect(&rt, "memory");
     let data = FeatureGraphData::build(rt.alloc(), &packages).expect(&rt, "memory");
-    let graph = &FeatureGraph::of(&data);
-    refuse_in_turn(&rt, rt.alloc(), &mut Resolves { graph, app }, ALL);
-    let all = graph.resolve_all(rt.alloc()).expect(&rt, "memory");
-    let same = ids_text(rt.alloc(), &all).expect(&rt, "memory");
-    assert_eq!(rt; same.as_str(), ALL);
+    expect_resolved(&rt, rt.alloc(), &data, &app);
 }
 
 /// Filters all features by what they are called.
@@ -121,14 +127,19 @@ impl AllocatingCall for Filters<'_, '_> {
     }
 }
 
+fn expect_filtered(rt: &impl Abort, alloc: Global, data: &FeatureGraphData<'_>) {
+    let all = &FeatureGraph::of(data)
+        .resolve_all(alloc)
+        .expect(rt, "memory");
+    let named = "app/full app/fast util/simd ";
+    refuse_in_turn(rt, alloc, &mut Filters { all }, named);
+    let same = ids_text(alloc, all).expect(rt, "memory");
+    assert_eq!(rt; same.as_str(), ALL);
+}
+
 #[test]
 fn filter(rt: HostRuntime) {
-    let packages = graph_of(&rt, rt.alloc(), RECORD);
+    let packages = packages(&rt, rt.alloc());
     let data = FeatureGraphData::build(rt.alloc(), &packages).expect(&rt, "memory");
-    let all = FeatureGraph::of(&data).resolve_all(rt.alloc());
-    let all = &all.expect(&rt, "memory");
-    let named = "app/full app/fast util/simd ";
-    refuse_in_turn(&rt, rt.alloc(), &mut Filters { all }, named);
-    let same = ids_text(rt.alloc(), all).expect(&rt, "memory");
-    assert_eq!(rt; same.as_str(), ALL);
+    expect_filtered(&rt, rt.alloc(), &data);
 }

@@ -1,7 +1,8 @@
 //! Filters that are parsed, compiled and asked.
 
+use crate::refusals::packages::{id_of, packages};
 use crate::refusals::turns::{AllocatingCall, Refusal, printed, refuse_in_turn};
-use crate::workspace::{RECORD, debugged, graph_of};
+use crate::workspace::debugged;
 use guppy_package_graph::{PackageGraph, PackageId};
 use nextest_filtering::errors::{FiltersetError, ParseExprError};
 use nextest_filtering::{
@@ -9,6 +10,7 @@ use nextest_filtering::{
     ParseContext, ParsedExpr, RustBinaryId, RustTestBinaryKind, TestCaseName, TestQuery,
 };
 use std::alloc::{AllocError, Global};
+use std::process::Abort;
 
 const FILTER: &str = r"test(/^o[a-z]+\d?$/) & (package(ap*) + deps(=app) - kind(bench))";
 
@@ -45,7 +47,7 @@ impl AllocatingCall for Knows<'_> {
 
 #[test]
 fn with_packages(rt: HostRuntime) {
-    let graph = &graph_of(&rt, rt.alloc(), RECORD);
+    let graph = &packages(&rt, rt.alloc());
     refuse_in_turn(&rt, rt.alloc(), &mut Knows { graph }, "2");
 }
 
@@ -86,7 +88,7 @@ fn compile_filter(alloc: Global, cx: &ParseContext<'_>) -> Result<Compiled, Refu
 
 #[test]
 fn filterset(rt: HostRuntime) {
-    let graph = graph_of(&rt, rt.alloc(), RECORD);
+    let graph = packages(&rt, rt.alloc());
     let cx = &ParseContext::new(rt.alloc(), &graph).expect(&rt, "memory");
     refuse_in_turn(&rt, rt.alloc(), &mut Compiles { cx }, FILTER);
 }
@@ -106,7 +108,7 @@ impl Parts {
         let binary_id = RustBinaryId::from_parts(alloc, "app", &kind, "app")?;
         let test_name = TestCaseName::new(String::from_str(alloc, test)?);
         Ok(Parts {
-            package_id: PackageId::new(String::from_str(alloc, "app")?),
+            package_id: id_of(alloc, "app")?,
             kind,
             binary_id,
             test_name,
@@ -149,25 +151,24 @@ impl AllocatingCall for Asks<'_, '_> {
     }
 }
 
-/// The trees are afterwards what they were before.
-#[test]
-fn evaluators(rt: HostRuntime) {
-    let graph = graph_of(&rt, rt.alloc(), RECORD);
-    let cx = ParseContext::new(rt.alloc(), &graph).expect(&rt, "memory");
-    let compiled = compile_filter(rt.alloc(), &cx).expect(&rt, "a filter");
-    let parts = &Parts::new(rt.alloc(), "one1").expect(&rt, "memory");
-    let before = debugged(&rt, rt.alloc(), &compiled.filter);
-    let filter = &compiled.filter.compiled;
+fn expect_answers(rt: &impl Abort, alloc: Global, filter: &CompiledExpr, parts: &Parts) {
     let all = CompiledExpr::ALL;
     let cx = &EvalContext {
         default_filter: &all,
     };
-    refuse_in_turn(
-        &rt,
-        rt.alloc(),
-        &mut Asks { filter, parts, cx },
-        "None true",
-    );
-    let after = debugged(&rt, rt.alloc(), &compiled.filter);
-    assert_eq!(rt; after.as_str(), before.as_str());
+    let mut run = Asks { filter, parts, cx };
+    refuse_in_turn(rt, alloc, &mut run, "None true");
+}
+
+/// The trees are afterwards what they were before.
+#[test]
+fn evaluators(rt: HostRuntime) {
+    let graph = packages(&rt, rt.alloc());
+    let cx = ParseContext::new(rt.alloc(), &graph).expect(&rt, "memory");
+    let compiled = compile_filter(rt.alloc(), &cx).expect(&rt, "a filter");
+    let parts = Parts::new(rt.alloc(), "one1").expect(&rt, "memory");
+    let filter = &compiled.filter;
+    let before = debugged(&rt, rt.alloc(), filter);
+    expect_answers(&rt, rt.alloc(), &filter.compiled, &parts);
+    assert_eq!(rt; debugged(&rt, rt.alloc(), filter).as_str(), before.as_str());
 }

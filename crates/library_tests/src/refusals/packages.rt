@@ -4,20 +4,35 @@ ghost use Rattle.std.specs.Prelude.{◌≡◌};
 ghost use Rattle.guppy_package_table.specs.Tables.{ids_of};
 
 use crate::refusals::turns::{AllocatingCall, Refusal, answered, refuse_in_turn};
-use crate::workspace::{CHOICE, RECORD, built_graph, debugged, graph_of, id_of, question_of};
+use crate::workspace::{CHOICE, RECORD, debugged, question_of};
 use guppy_package_graph::{
     DependencyDirection, Error, PackageGraph, PackageGraphError, PackageId, PackageLink,
     PackageLinkContext, PackageLinkVisitor, PackageMetadata, PackageSet,
 };
 use std::alloc::{AllocError, Global};
-use test_select::WorkspaceRecord;
+use std::process::Abort;
+use test_select::{WorkspaceRecord, read_record};
 
-const FORWARD: DependencyDirection = DependencyDirection::Forward;
+/// The graph of the packages.
+pub(crate) fn packages(rt: &impl Abort, alloc: Global) -> PackageGraph {
+    let record = read_record(alloc, RECORD).expect(rt, "a record");
+    graph_of(alloc, record).expect(rt, "a graph")
+}
+
+/// The graph of a record's rows.
+fn graph_of(alloc: Global, record: WorkspaceRecord) -> Result<PackageGraph, PackageGraphError> {
+    let (packages, links, workspace) = (record.packages, record.links, record.workspace);
+    PackageGraph::from_records(alloc, packages, links, workspace)
+}
+
+pub(crate) fn id_of(alloc: Global, text: &str) -> Result<PackageId, AllocError> {
+    Ok(PackageId::new(String::from_str(alloc, text)?))
+}
 
 /// The ids of a set, dependents first, with a space after each.
 fn ids_text(alloc: Global, set: &PackageSet<'_>) -> Result<String, AllocError> {
     let mut text = String::new(alloc);
-    for id in set.package_ids(FORWARD) {
+    for id in set.package_ids(DependencyDirection::Forward) {
         write!(text, "{} ", id.repr())?;
     }
     Ok(text)
@@ -32,7 +47,7 @@ struct Builds<'r> {
 impl AllocatingCall for Builds<'_> {
     fn answer(&mut self, alloc: Global) -> Result<String, Refusal> {
         let copy = self.record.copy(alloc)?;
-        let graph = answered(built_graph(alloc, copy), PackageGraphError::Memory)?;
+        let graph = answered(graph_of(alloc, copy), PackageGraphError::Memory)?;
         Ok(set_told(alloc, graph.resolve_all(alloc))?)
     }
 }
@@ -90,17 +105,20 @@ fn made_text(
         Made::Intersection => set_told(alloc, all.intersection(alloc, one)),
         Made::Difference => set_told(alloc, all.difference(alloc, one)),
         Made::SymmetricDifference => set_told(alloc, all.symmetric_difference(alloc, one)),
-        Made::Filter => {
-            let app = all.filter(alloc, FORWARD, |package: PackageMetadata<'_>| -> bool {
-                package.id().repr() == "app"
-            });
-            set_told(alloc, app)
-        }
+        Made::Filter => set_told(alloc, filtered(alloc, all)),
         Made::Links => length_told(alloc, all.links(alloc)),
-        Made::Roots => length_told(alloc, all.root_ids(alloc, FORWARD)),
+        Made::Roots => length_told(alloc, all.root_ids(alloc, DependencyDirection::Forward)),
         Made::First => ids_text(alloc, all),
         Made::Second => ids_text(alloc, one),
     }
+}
+
+fn filtered<'g>(alloc: Global, all: &PackageSet<'g>) -> Result<PackageSet<'g>, AllocError> {
+    all.filter(
+        alloc,
+        DependencyDirection::Forward,
+        |package: PackageMetadata<'_>| -> bool { package.id().repr() == "app" },
+    )
 }
 
 fn set_told(alloc: Global, set: Result<PackageSet<'_>, AllocError>) -> Result<String, AllocError> {
@@ -129,8 +147,8 @@ const SETS: [(Made, &str); 9] = [
 
 #[test]
 fn sets(rt: HostRuntime) {
-    let graph = graph_of(&rt, rt.alloc(), RECORD);
-    let util = id_of(&rt, rt.alloc(), "util");
+    let graph = packages(&rt, rt.alloc());
+    let util = id_of(rt.alloc(), "util").expect(&rt, "memory");
     let all = &graph.resolve_all(rt.alloc()).expect(&rt, "memory");
     let one = &graph.resolve_ids(rt.alloc(), &[&util]).expect(&rt, "a set");
     for (made, wanted) in SETS {
@@ -181,7 +199,7 @@ impl AllocatingCall for Resolves<'_> {
 
 #[test]
 fn resolve_with(rt: HostRuntime) {
-    let graph = &graph_of(&rt, rt.alloc(), RECORD);
-    let start = &id_of(&rt, rt.alloc(), "app");
+    let graph = &packages(&rt, rt.alloc());
+    let start = &id_of(rt.alloc(), "app").expect(&rt, "memory");
     refuse_in_turn(&rt, rt.alloc(), &mut Resolves { graph, start }, "app util ");
 }

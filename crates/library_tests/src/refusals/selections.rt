@@ -1,9 +1,8 @@
 //! Selections, and graphs that are switched on.
 
+use crate::refusals::packages::packages;
 use crate::refusals::turns::{AllocatingCall, Refusal, answered, refuse_in_turn};
-use crate::workspace::{
-    CHOICE, IDS, LISTINGS, Question, RECORD, debugged, graph_of, question_of, selected,
-};
+use crate::workspace::{CHOICE, IDS, LISTINGS, Question, RECORD, debugged, question_of, selected};
 use guppy_package_graph::PackageGraph;
 use std::alloc::{AllocError, Global};
 use test_select::{
@@ -31,7 +30,7 @@ fn switched_on_graphs(rt: HostRuntime) {
     let question = question_of(&rt, rt.alloc(), RECORD, CHOICE);
     let (record, choice, table) = (&question.record, &question.choice, &question.table);
     let on = &features_on(rt.alloc(), record, choice, table).expect(&rt, "what is on");
-    let graph = &graph_of(&rt, rt.alloc(), RECORD);
+    let graph = &packages(&rt, rt.alloc());
     refuse_in_turn(&rt, rt.alloc(), &mut Switches { graph, on, table }, "1");
 }
 
@@ -49,21 +48,25 @@ impl AllocatingCall for Selects<'_> {
     fn answer(&mut self, alloc: Global) -> Result<String, Refusal> {
         let listings = answered(read_listings(alloc, LISTINGS), ReadError::Memory)?;
         let mut lister = FileLister::new(alloc, listings)?;
-        match selected(alloc, self.question, self.plain, &TEXTS, &mut lister) {
-            Ok(selection) => report(alloc, &selection).map_err(Refusal::from),
-            Err(error) => Err(refusal(lister.asked(), &error)),
-        }
+        let answer = selected(alloc, self.question, self.plain, &TEXTS, &mut lister);
+        reported(alloc, answer, lister.asked())
     }
 }
 
-/// A lister names the id that was asked last, or the next one, where there was no room to keep it.
+fn reported(
+    alloc: Global,
+    answer: Result<Selection, SelectError>,
+    asked: &[String],
+) -> Result<String, Refusal> {
+    match answer {
+        Ok(selection) => Ok(report(alloc, &selection)?),
+        Err(error) => Err(refusal(asked, &error)),
+    }
+}
+
 fn refusal(asked: &[String], error: &SelectError) -> Refusal {
-    let places = [asked.len().saturating_sub(1), asked.len()];
     let refused = match error {
-        SelectError::Lister(id) => {
-            let mut last = places.iter().filter_map(|place| IDS.get(*place));
-            last.any(|wanted| *wanted == id.as_str())
-        }
+        SelectError::Lister(id) => is_last_asked(asked, id.as_str()),
         SelectError::Memory => true,
         _ => false,
     };
@@ -73,6 +76,12 @@ fn refusal(asked: &[String], error: &SelectError) -> Refusal {
     } else {
         Refusal::Other
     }
+}
+
+/// Whether the id is the last that was asked, or the next one, where there was no room to keep it.
+fn is_last_asked(asked: &[String], id: &str) -> bool {
+    let before = asked.len().saturating_sub(1);
+    [before, asked.len()].iter().any(|place| IDS.get(*place).is_some_and(|wanted| *wanted == id))
 }
 
 fn report(alloc: Global, selection: &Selection) -> Result<String, AllocError> {

@@ -1,33 +1,30 @@
 //! Runs whose streams fail.
 
 use crate::files::Files;
+use crate::runs::streams::{FailingStream, UnflushedStream};
 use crate::runs::words::{RUNS, TESTS};
-use crate::writers::{SlowWriter, UnflushedStream};
 use std::alloc::Global;
-use std::io::ErrorKind;
 use std::process::Abort;
 use test_select::run;
 
 /// How many writes an output takes at most before a run here is whole.
 const WRITES: usize = 100;
 
-const BROKEN: ErrorKind = ErrorKind::BrokenPipe;
-
 /// Asserts that a run whose output takes any smaller number of writes says that it cannot write, and
 /// that what was taken is a beginning of what the whole run prints.
 fn expect_each_cut(rt: &impl Abort, alloc: Global, words: &[&str], whole: &[u8]) {
     for left in 0..WRITES {
-        let mut out = SlowWriter::new(alloc, usize::MAX, left, BROKEN);
+        let mut out = FailingStream::new(alloc, left);
         let mut err = Vec::new(alloc);
         let status = run(alloc, words, &mut Files, &mut out, &mut err);
         if status == 0 {
-            assert_eq!(rt; out.taken.as_slice(), whole);
+            assert_eq!(rt; out.taken(), whole);
             assert!(rt; left > 0);
             return;
         }
         assert_eq!(rt; status, 1);
         assert_eq!(rt; err.as_slice(), b"cannot write\n".as_slice());
-        assert!(rt; whole.starts_with(&out.taken));
+        assert!(rt; whole.starts_with(out.taken()));
     }
     assert!(rt; false, "no run was whole");
 }
@@ -63,8 +60,8 @@ const STATUSES: [(&[&str], usize, u8); 5] = [
 fn a_standard_error_that_fails(rt: HostRuntime) {
     let alloc = rt.alloc();
     for (words, left, want) in STATUSES {
-        let mut out = SlowWriter::new(alloc, usize::MAX, left, BROKEN);
-        let mut err = SlowWriter::new(alloc, usize::MAX, 0, BROKEN);
+        let mut out = FailingStream::new(alloc, left);
+        let mut err = FailingStream::new(alloc, 0);
         let status = run(alloc, words, &mut Files, &mut out, &mut err);
         assert_eq!(rt; status, want);
     }

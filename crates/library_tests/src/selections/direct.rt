@@ -146,13 +146,17 @@ fn copies_of_rules(rt: HostRuntime) {
 fn copies_of_leaves(rt: HostRuntime) {
     for text in ["package(a*)", "test(/o+/)", "platform(host)", "default()"] {
         let parsed = ParsedExpr::parse(rt.alloc(), text).expect(&rt, "a filter");
-        match &parsed {
-            ParsedExpr::Set(leaf) => {
-                let copy: ParsedLeaf = leaf.copy(rt.alloc()).expect(&rt, "memory");
-                assert!(rt; copy == *leaf);
-            }
-            _ => assert!(rt; false, "a leaf"),
+        expect_leaf(&rt, rt.alloc(), &parsed);
+    }
+}
+
+fn expect_leaf(rt: &impl Abort, alloc: Global, parsed: &ParsedExpr) {
+    match parsed {
+        ParsedExpr::Set(leaf) => {
+            let copy: ParsedLeaf = leaf.copy(alloc).expect(rt, "memory");
+            assert!(rt; copy == *leaf);
         }
+        _ => assert!(rt; false, "a leaf"),
     }
 }
 

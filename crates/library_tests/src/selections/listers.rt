@@ -31,18 +31,23 @@ impl TestLister for FailingLister {
 
     fn list(&mut self, binary: &BinaryInfo<'_>) -> Result<Listing, ListFault> {
         let (alloc, failures, fails_at) = (self.alloc, self.failures, self.fails_at);
-        let (id, package_id, name) = (binary.id, binary.package_id, binary.name);
-        let (kind, platform) = (binary.kind, binary.platform);
-        let _ = writeln!(
-            self.told,
-            "{id}, {package_id}, {name}, {kind:?}, {platform}"
-        );
-        let answer = one_test(alloc, &mut self.asked, failures, fails_at, id);
+        let _ = write_down(&mut self.told, binary);
+        let answer = one_test(alloc, &mut self.asked, failures, fails_at, binary.id);
         if answer.is_err() {
             self.failures = failures.saturating_add(1);
         }
         answer
     }
+}
+
+fn write_down(told: &mut String, binary: &BinaryInfo<'_>) -> std::fmt::Result {
+    let (id, package_id, name) = (binary.id, binary.package_id, binary.name);
+    writeln!(
+        told,
+        "{id}, {package_id}, {name}, {:?}, {}",
+        binary.kind, binary.platform
+    )?;
+    Ok(())
 }
 
 fn one_test(

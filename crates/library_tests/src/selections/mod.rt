@@ -5,4 +5,5 @@ mod direct;
 mod error_texts;
 mod listers;
 mod sorts;
+mod writers;
 mod written;

@@ -1,7 +1,7 @@
 //! Reports, orders, accounts, explanations and features into writers that take little or fail.
 
+use crate::selections::writers::SlowWriter;
 use crate::workspace::{question_of, selected, simd};
-use crate::writers::SlowWriter;
 use feature_account_making::write_features;
 use std::alloc::Global;
 use std::io::{self, ErrorKind};

@@ -17,6 +17,18 @@ fn chain(rt: &impl Abort, alloc: Global) -> Vec<Link> {
     links
 }
 
+/// Six links from each node, to nodes spread over all.
+fn spread(rt: &impl Abort, alloc: Global) -> Vec<Link> {
+    let mut links = Vec::new(alloc);
+    for from in 0..COUNT {
+        for step in 1..7 {
+            let to = (from * 48_271 + step * 7_919) % COUNT;
+            assert!(rt; links.push(Link { from, to }).is_ok());
+        }
+    }
+    links
+}
+
 /// The nodes as they are listed where all links are firm.
 fn listed(rt: &impl Abort, alloc: Global, graph: &Graph) -> Vec<usize> {
     let firm = vec![in alloc; true; graph.links().len()].expect(rt, "memory");
@@ -55,16 +67,9 @@ fn long_ring(rt: HostRuntime) {
     assert_eq!(rt; roots.expect(&rt, "memory").len(), COUNT);
 }
 
-/// Six links from each node, to nodes spread over all.
 #[test]
 fn many_links(rt: HostRuntime) {
-    let mut links = Vec::new(rt.alloc());
-    for from in 0..COUNT {
-        for step in 1..7 {
-            let to = (from * 48_271 + step * 7_919) % COUNT;
-            assert!(rt; links.push(Link { from, to }).is_ok());
-        }
-    }
+    let links = spread(&rt, rt.alloc());
     assert!(rt; are_within(COUNT, &links));
     let graph = Graph::new(rt.alloc(), COUNT, links).expect(&rt, "memory");
     assert_eq!(rt; listed(&rt, rt.alloc(), &graph).len(), COUNT);

@@ -1,8 +1,7 @@
 ghost use Rattle.std.specs.Prelude.{◌≡◌, ◌<◌};
 
-use crate::graphs::packages::graphs::{CHAIN, FOR_TESTS, TRIANGLE};
+use crate::graphs::packages::graphs::{CHAIN, FOR_TESTS, TRIANGLE, graph_of, id_of};
 use crate::graphs::packages::visitors::{Alternates, Follows, FollowsFirm};
-use crate::workspace::{graph_of, id_of};
 use guppy_package_graph::{
     PackageGraph, PackageLink, PackageLinkContext, PackageLinkVisitor, PackageQuery,
 };

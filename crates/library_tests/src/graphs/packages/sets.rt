@@ -1,11 +1,10 @@
-use crate::graphs::packages::graphs::{FEWER, TRIANGLE, TURNED};
-use crate::workspace::graph_of;
+use crate::graphs::packages::graphs::{FEWER, TRIANGLE, TURNED, graph_of};
 use std::alloc::Global;
 use std::process::Abort;
 
 /// How many packages are in the union of all packages of the one record's graph and none of the other's,
 /// where both have the same packages.
-fn union_size(rt: &impl Abort, alloc: Global, one: &[u8], other: &[u8]) -> Option<usize> {
+fn union_size(rt: &impl Abort, alloc: Global, one: &str, other: &str) -> Option<usize> {
     let graph = graph_of(rt, alloc, one);
     let other = graph_of(rt, alloc, other);
     let all = graph.resolve_all(alloc).expect(rt, "memory");

@@ -1,29 +1,32 @@
 ghost use Rattle.std.specs.Prelude.{◌↔◌, ◌<◌, All, IsTrue};
 
-use crate::workspace::expect_printed;
 use guppy_package_parts::{
     DependencyDirection, DependencyKind, EnabledTernary, Error, FeatureBuildStage,
     FeatureGraphWarning, LineChoice, LineKind, LineRow, LinkRow, PackageId, Platform, PlatformSpec,
     PlatformStatus, SortedSet,
 };
 use std::alloc::{AllocError, Global};
+use std::fmt::Display;
 use std::process::Abort;
 
 fn text(rt: &impl Abort, alloc: Global, text: &str) -> String {
     String::from_str(alloc, text).expect(rt, "memory")
 }
 
+fn line(rt: &impl Abort, alloc: Global, spec: &str) -> LineRow {
+    LineRow {
+        kind: LineKind::Normal,
+        optional: false,
+        default_features: true,
+        features: Vec::new(alloc),
+        spec: Some(text(rt, alloc, spec)),
+    }
+}
+
 fn link(rt: &impl Abort, alloc: Global) -> LinkRow {
     let mut lines = Vec::new(alloc);
     for spec in ["one", "two", "three"] {
-        let line = LineRow {
-            kind: LineKind::Normal,
-            optional: false,
-            default_features: true,
-            features: Vec::new(alloc),
-            spec: Some(text(rt, alloc, spec)),
-        };
-        assert!(rt; lines.push(line).is_ok());
+        assert!(rt; lines.push(line(rt, alloc, spec)).is_ok());
     }
     LinkRow {
         from: text(rt, alloc, "a"),
@@ -34,6 +37,11 @@ fn link(rt: &impl Abort, alloc: Global) -> LinkRow {
         registry: None,
         path: None,
     }
+}
+
+fn expect_printed<T: Display>(rt: &impl Abort, alloc: Global, value: &T, want: &str) {
+    let printed = format!(in alloc; "{value}").expect(rt, "memory");
+    assert_eq!(rt; printed.as_str(), want);
 }
 
 /// A copy was made, and is equal.

@@ -1,4 +1,4 @@
-//! Writers that take little or fail.
+//! A writer that takes little or fails.
 
 use std::alloc::Global;
 use std::io::{self, ErrorKind, Write};
@@ -36,19 +36,5 @@ impl Write for SlowWriter {
 
     fn flush(&mut self) -> io::Result<()> {
         Ok(())
-    }
-}
-
-/// Takes all, and fails when it is flushed.
-#[derive(Drop)]
-pub(crate) struct UnflushedStream;
-
-impl Write for UnflushedStream {
-    fn write(&mut self, bytes: &[u8]) -> io::Result<usize> {
-        Ok(bytes.len())
-    }
-
-    fn flush(&mut self) -> io::Result<()> {
-        Err(io::Error::from(ErrorKind::BrokenPipe))
     }
 }
