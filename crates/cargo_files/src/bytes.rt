@@ -1,3 +1,5 @@
+//! Runs of bytes that stand together: blanks, words, quoted values, triples and lines.
+
 ghost use Rattle.std.specs.Prelude.{◌≡◌, ◌≤◌, ◌<◌, length, IfSome};
 ghost use Rattle.cargo_files.specs.Bytes as spec;
 

@@ -1,3 +1,5 @@
+//! The table of a platform: which specs of a record hold there.
+
 ghost use Rattle.std.specs.Prelude.{◌≡◌, List, false, map, IfErr, IfOk};
 ghost use Rattle.indexmap.specs.IndexMap.{get_by_text};
 ghost use Rattle.workspace_record.specs.Records.{Text};

@@ -1,3 +1,5 @@
+//! Why words of Cargo's command line give no choice.
+
 use std::alloc::{AllocError, AllocFailed};
 use std::fmt;
 

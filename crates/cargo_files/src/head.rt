@@ -1,3 +1,5 @@
+//! What an expression begins with.
+
 ghost use Rattle.std.specs.Prelude.{◌≡◌, ◌≤◌, ◌<◌, length, bytes_eq, slice_range};
 ghost use Rattle.cargo_files.specs.Heads as spec;
 ghost use Rattle.cargo_files.specs.Heads.{HeadLiesWithin};

@@ -1,3 +1,5 @@
+//! What expressions say under settings, as they are read from their text.
+
 ghost use Rattle.std.specs.Prelude.{◌≡◌, ◌≤◌, ◌<◌, ◌+◌, ◌&&◌, ◌||◌, ℕ, suc, length, Some, None, IfOk, IfErr, IsOkAnd, if◌then◌else◌};
 ghost use Rattle.cargo_files.specs.Bytes.{after};
 ghost use Rattle.cargo_files.specs.Expressions.{Cfg, says};

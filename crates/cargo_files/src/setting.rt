@@ -1,3 +1,5 @@
+//! The settings of a platform, as `rustc --print cfg` lists them.
+
 ghost use Rattle.std.specs.Prelude.{◌≡◌};
 ghost use Rattle.std.specs.List.{list_any};
 ghost use Rattle.cargo_files.specs.Settings as spec;

@@ -1,3 +1,5 @@
+//! Settings read from what `rustc --print cfg` prints.
+
 ghost use Rattle.std.specs.Prelude.{◌≡◌, ◌<◌, ◌++◌, List, Some, IfErr, IfOk, length, string_bytes};
 ghost use Rattle.cargo_files.specs.Printed.{AreSettings, RefusesLine, RefusesSettings, RefusesText, setting_in, settings_in};
 ghost use Rattle.cargo_files.specs.Settings.{Setting};

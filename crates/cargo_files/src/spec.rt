@@ -1,3 +1,5 @@
+//! Whether a platform spec, a triple or an expression, holds.
+
 ghost use Rattle.std.specs.Prelude.{◌≡◌, ◌≤◌, ◌<◌, ◌↔◌, length, bytes_eq, false, IfOk, IfErr, IsOkAnd, IsTrue};
 ghost use Rattle.cargo_files.specs.Expressions.{Cfg, says};
 ghost use Rattle.cargo_files.specs.Specs as spec;

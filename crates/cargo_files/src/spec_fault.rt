@@ -1,3 +1,5 @@
+//! Why a text is no platform spec, and where.
+
 use std::fmt;
 
 /// What was expected where reading stopped.

@@ -1,3 +1,5 @@
+//! Dependencies as manifests declare them.
+
 ghost use Rattle.std.specs.Prelude.{◌≡◌};
 ghost use Rattle.serde_json.specs.View.{view};
 ghost use Rattle.cargo_metadata.specs.declared.key.Key.TheVariants as key;

@@ -1,3 +1,5 @@
+//! Why metadata are not read.
+
 ghost use Rattle.std.specs.Prelude.{◌≡◌};
 
 use crate::key::Key;

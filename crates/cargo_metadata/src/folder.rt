@@ -1,3 +1,5 @@
+//! The folder that a manifest lies in.
+
 ghost use Rattle.std.specs.Prelude.{◌≡◌, IfOk, option_map, string_bytes};
 ghost use Rattle.cargo_metadata.specs.Folders as spec;
 

@@ -1,3 +1,5 @@
+//! The keys that are read.
+
 ghost use Rattle.std.specs.Prelude.{◌≡◌};
 ghost use Rattle.cargo_metadata.specs.Keys.{key_of};
 

@@ -1,3 +1,5 @@
+//! The whole of what `cargo metadata` prints.
+
 ghost use Rattle.std.specs.Prelude.{option_map};
 ghost use Rattle.serde_json.specs.View.{view};
 ghost use Rattle.cargo_metadata.specs.Files.{ReadsFile};

@@ -1,3 +1,5 @@
+//! Packages with the dependencies that they declare.
+
 ghost use Rattle.std.specs.Prelude.{◌≡◌, [], IfOk};
 ghost use Rattle.serde_json.specs.View.{view};
 ghost use Rattle.list_facts.specs.Texts.{texts};

@@ -1,3 +1,5 @@
+//! What Cargo resolved each package's dependencies to.
+
 ghost use Rattle.serde_json.specs.View.{view};
 ghost use Rattle.cargo_metadata.specs.Outcomes.{Gives};
 ghost use Rattle.cargo_metadata.specs.Resolved.{node_of};

@@ -1,3 +1,5 @@
+//! The targets of a package.
+
 ghost use Rattle.std.specs.Prelude.{◌≡◌};
 ghost use Rattle.serde_json.specs.View.{view, items_view};
 ghost use Rattle.cargo_metadata.specs.Outcomes.{Gives};

@@ -1,3 +1,5 @@
+//! Why metadata give no record.
+
 use std::alloc::{AllocError, AllocFailed};
 use std::fmt;
 

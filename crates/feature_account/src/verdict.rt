@@ -1,3 +1,5 @@
+//! What the checker says of an account or an explanation.
+
 use std::fmt;
 
 /// What is to be said of an account or of an explanation: that it is valid, or its first fault.

@@ -1,3 +1,5 @@
+//! Accounts, each the numbers of its rules.
+
 /// An account of what is on: rule numbers, each conclusion of which is new and rests on earlier ones.
 ///
 /// `looks` counts how many times a rule was looked at while the account was made: at most the features

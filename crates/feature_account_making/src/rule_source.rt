@@ -1,3 +1,5 @@
+//! What a rule comes from, for people.
+
 use std::fmt;
 
 /// What a rule comes from, in Cargo's words. Texts are the record's.

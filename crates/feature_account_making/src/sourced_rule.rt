@@ -1,3 +1,5 @@
+//! Rules that know their source.
+
 use crate::rule_source::RuleSource;
 use feature_account::Rule;
 

@@ -1,3 +1,5 @@
+//! Why an account was not written.
+
 ghost use Rattle.std.specs.Prelude.{◌≡◌};
 ghost use Rattle.feature_account_making.specs.declared.write_account_error.WriteAccountError.TheVariants.{Memory, Write};
 

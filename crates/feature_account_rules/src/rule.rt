@@ -1,3 +1,5 @@
+//! Rules of features: premises and a conclusion.
+
 ghost use Rattle.std.specs.Prelude.{◌≡◌, IfOk};
 
 use std::alloc::{AllocError, Global};

@@ -1,3 +1,5 @@
+//! The ids of features, with guppy's names.
+
 ghost use Rattle.std.specs.Prelude.{◌≡◌};
 ghost use Rattle.workspace_record.specs.Features.{Base, Named, Dep};
 ghost use Rattle.guppy_feature_demands.specs.Kinds.{kind_of, is_base_kind, is_named_kind, is_dep_kind};

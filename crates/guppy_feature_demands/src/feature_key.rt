@@ -1,3 +1,5 @@
+//! Keys by which features are found in a hash table.
+
 ghost use Rattle.std.specs.Prelude.{◌≡◌};
 ghost use Rattle.workspace_record.specs.Features.{Base, Named, Dep};
 ghost use Rattle.guppy_feature_demands.specs.IdViews.{id_view};

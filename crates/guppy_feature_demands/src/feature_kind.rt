@@ -1,3 +1,5 @@
+//! The kinds of features.
+
 ghost use Rattle.std.specs.Prelude.{◌≡◌};
 ghost use Rattle.guppy_feature_demands.specs.Kinds.{is_base_kind, is_named_kind, is_dep_kind};
 

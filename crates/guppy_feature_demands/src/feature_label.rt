@@ -1,3 +1,5 @@
+//! The labels of features: base, named or optional.
+
 ghost use Rattle.std.specs.Prelude.{◌≡◌};
 ghost use Rattle.workspace_record.specs.Features.{label_kind, label_name};
 ghost use Rattle.guppy_feature_demands.specs.Kinds.{kind_of};

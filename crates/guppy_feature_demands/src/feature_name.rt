@@ -1,3 +1,5 @@
+//! Features by the texts of their packages and labels.
+
 ghost use Rattle.std.specs.Prelude.{◌≡◌};
 ghost use Rattle.workspace_record.specs.Features.{Base, Named, Dep};
 ghost use Rattle.guppy_feature_demands.specs.HashedViews.{hashed_view};

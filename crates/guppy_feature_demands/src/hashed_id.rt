@@ -1,3 +1,5 @@
+//! Package ids with their hashes.
+
 ghost use Rattle.std.specs.Prelude.{◌≡◌};
 ghost use Rattle.workspace_record.specs.Equality.{text_eq};
 ghost use Rattle.guppy_feature_demands.specs.IdHashes.{text_hash};

@@ -1,3 +1,5 @@
+//! The lines that a link between features stands on.
+
 ghost use Rattle.std.specs.Prelude.{◌≡◌};
 ghost use Rattle.guppy_feature_demands.specs.Kinds.{has_required, has_optional};
 

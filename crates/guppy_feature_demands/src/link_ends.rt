@@ -1,3 +1,5 @@
+//! Links by the ids at their ends.
+
 ghost use Rattle.std.specs.Prelude.{◌≡◌};
 
 use crate::hashed_id::HashedId;

@@ -1,3 +1,5 @@
+//! Rows of packages with their ids.
+
 ghost use Rattle.std.specs.Prelude.{◌≡◌};
 
 use guppy_package_parts::{PackageId, PackageRow};

@@ -1,3 +1,5 @@
+//! Filters made of closures.
+
 use crate::feature_filter::FeatureFilter;
 use crate::feature_graph::FeatureGraph;
 use guppy_feature_nodes::FeatureId;

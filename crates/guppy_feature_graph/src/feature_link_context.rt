@@ -1,3 +1,5 @@
+//! What a resolver of features is told of a query.
+
 ghost use Rattle.std.specs.Prelude.{◌≡◌, ◌↔◌, Contains, IsTrue};
 ghost use Rattle.guppy_feature_graph.specs.ContextViews.{query_of};
 ghost use Rattle.guppy_feature_graph.specs.Resolves.{near_node};

@@ -1,3 +1,5 @@
+//! Queries: features to start from, and a direction.
+
 ghost use Rattle.std.specs.Prelude.{◌≡◌, ◌<◌, All, IfOk, IsTrue, Ok, length};
 ghost use Rattle.numbered_graph.specs.Sets.{has};
 ghost use Rattle.guppy_feature_graph.specs.Queries.{AreInitials, AreStarts, IsQueryOf};

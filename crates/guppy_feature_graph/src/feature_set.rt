@@ -1,3 +1,5 @@
+//! Sets of features, and what is asked of them.
+
 ghost use Rattle.std.specs.Prelude.{◌≡◌, ◌↔◌, ◌&&◌, ◌||◌, ◌<◌, ℕ, not, All, IfOk, Ok, IsTrue, count_by, length};
 ghost use Rattle.numbered_graph.specs.ListedViews.{in_direction, listed_left};
 ghost use Rattle.numbered_graph.specs.Sets.{differs, has};

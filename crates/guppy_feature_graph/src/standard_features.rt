@@ -1,3 +1,5 @@
+//! The filters for no features, the default ones and all.
+
 ghost use Rattle.std.specs.Prelude.{◌↔◌, IsTrue};
 ghost use Rattle.guppy_feature_demands.specs.IdViews.{id_view};
 ghost use Rattle.guppy_feature_graph.specs.StandardFilters.{Accepts, IsDefaultFeature};

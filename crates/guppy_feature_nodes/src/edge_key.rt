@@ -1,3 +1,5 @@
+//! Keys by which edges of the same demand are found.
+
 ghost use Rattle.std.specs.Prelude.{◌≡◌, []};
 ghost use Rattle.guppy_feature_demands.specs.DemandViews.{numbered_view};
 ghost use Rattle.guppy_feature_nodes.specs.Joining.{ends_of, join_key, weight_key};

@@ -1,3 +1,5 @@
+//! What a feature graph owns: its nodes, edges and warnings.
+
 ghost use Rattle.std.specs.Prelude.{◌≡◌, ◌≢◌, ◌↔◌, ◌<◌, All, AllPairs, IfOk, IsTrue, length, map};
 ghost use Rattle.std.specs.List.{list_any};
 ghost use Rattle.guppy_package_parts.specs.WarningViews.{warning_view};

@@ -1,3 +1,5 @@
+//! The iterator over cycles of features.
+
 ghost use Rattle.std.specs.Prelude.{◌<◌, All, length};
 
 use crate::feature_ids_at::FeatureIdsAt;

@@ -1,3 +1,5 @@
+//! Links between features, with the lines that they stand on.
+
 ghost use Rattle.std.specs.Prelude.{◌≡◌, ◌<◌, ◌↔◌, [], IsTrue, length};
 ghost use Rattle.workspace_record.specs.declared.kinds.LineKind.TheVariants.{Normal, Build, Dev};
 ghost use Rattle.guppy_package_parts.specs.DependencyKinds.{line_kind_of};

@@ -1,3 +1,5 @@
+//! Features of one package, printed.
+
 use guppy_feature_demands::FeatureLabel;
 use std::fmt;
 

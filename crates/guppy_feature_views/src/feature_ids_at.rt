@@ -1,3 +1,5 @@
+//! The iterator over ids of features at given places.
+
 ghost use Rattle.std.specs.Prelude.{◌<◌, All, length};
 
 use guppy_feature_nodes::{FeatureGraphData, FeatureId};

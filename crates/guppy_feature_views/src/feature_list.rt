@@ -1,3 +1,5 @@
+//! Lists of one package's features.
+
 ghost use Rattle.std.specs.Prelude.{◌≡◌, ◌↔◌, Contains, IfOk, IsTrue, map};
 ghost use Rattle.workspace_record.specs.Features.{Base, Named, Dep};
 ghost use Rattle.guppy_feature_demands.specs.LabelViews.{label_view};

@@ -1,3 +1,5 @@
+//! One feature of a graph.
+
 ghost use Rattle.std.specs.Prelude.{◌≡◌, ◌<◌, length};
 ghost use Rattle.guppy_feature_demands.specs.IdViews.{id_view};
 ghost use Rattle.guppy_feature_demands.specs.LabelViews.{label_view};

@@ -1,3 +1,5 @@
+//! The iterator that takes a feature list over.
+
 use crate::feature_list::FeatureList;
 use guppy_feature_demands::{FeatureId, FeatureLabel};
 use guppy_package_parts::PackageId;

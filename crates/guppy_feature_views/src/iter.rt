@@ -1,3 +1,5 @@
+//! The iterator over a feature list.
+
 use crate::feature_list::FeatureList;
 use guppy_feature_demands::{FeatureId, FeatureLabel};
 use guppy_package_parts::PackageId;

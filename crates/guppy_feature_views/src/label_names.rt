@@ -1,3 +1,5 @@
+//! The iterator over names in labels of one kind.
+
 ghost use Rattle.std.specs.Prelude.{◌≡◌, map, option_map};
 ghost use Rattle.guppy_feature_demands.specs.LabelViews.{label_view};
 ghost use Rattle.guppy_feature_views.specs.Labels.{name_by, names_of};

@@ -1,3 +1,5 @@
+//! The iterator over links between packages.
+
 ghost use Rattle.std.specs.Prelude.{◌<◌, All, length};
 
 use guppy_package_graph::{PackageGraph, PackageLink};

@@ -1,3 +1,5 @@
+//! The iterator over cycles of packages.
+
 ghost use Rattle.std.specs.Prelude.{◌<◌, All, length};
 
 use crate::package_graph::PackageGraph;

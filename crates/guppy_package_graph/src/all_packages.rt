@@ -1,3 +1,5 @@
+//! The iterator over all packages of a graph.
+
 use crate::package_graph::PackageGraph;
 use crate::package_metadata::PackageMetadata;
 use list_facts::write_entries;

@@ -1,3 +1,5 @@
+//! The iterator over a package's own links.
+
 ghost use Rattle.std.specs.Prelude.{◌≡◌, ◌<◌, IfSome, length};
 ghost use Rattle.std.proofs.Props.{props};
 ghost use Rattle.numbered_graph.specs.Links.{near_at};

@@ -1,3 +1,5 @@
+//! One link of a graph.
+
 ghost use Rattle.std.specs.Prelude.{◌≡◌, ◌<◌, Some, length, slice_get};
 ghost use Rattle.guppy_package_table.specs.LinkDetailsViews.{row_of};
 

@@ -1,3 +1,5 @@
+//! What a resolver of packages is told of a query.
+
 ghost use Rattle.std.specs.Prelude.{◌≡◌, ◌==◌};
 ghost use Rattle.std.specs.List.{list_any};
 ghost use Rattle.guppy_package_graph.specs.ContextViews.{query_of};

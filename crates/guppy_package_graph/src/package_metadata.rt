@@ -1,3 +1,5 @@
+//! One package of a graph.
+
 ghost use Rattle.std.specs.Prelude.{◌≡◌, ◌<◌, Some, length, slice_get};
 ghost use Rattle.guppy_package_table.specs.PackageDetailsViews.{member_path_of, row_of};
 ghost use Rattle.guppy_package_table.specs.Tables.{ids_of, member_path_at};

@@ -1,3 +1,5 @@
+//! Queries: packages to start from, and a direction.
+
 ghost use Rattle.std.specs.Prelude.{◌≡◌, ◌<◌, ◌==◌, All, AllPairs, IfOk, length};
 ghost use Rattle.std.specs.List.{list_any};
 ghost use Rattle.guppy_package_graph.specs.Views.{packages_graph_of, places_left};

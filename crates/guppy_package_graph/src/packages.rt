@@ -1,3 +1,5 @@
+//! The iterator over a set's packages.
+
 ghost use Rattle.std.specs.Prelude.{◌<◌, All, length};
 ghost use Rattle.numbered_graph.specs.ListedViews.{listed_left};
 

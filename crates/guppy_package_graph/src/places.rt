@@ -1,3 +1,5 @@
+//! The walk over places that the other iterators share.
+
 ghost use Rattle.std.specs.Prelude.{◌<◌, All, length};
 
 use crate::package_graph::PackageGraph;
@@ -14,6 +16,7 @@ impl<'g, 'a> Places<'g, 'a> {
     ghost use Rattle.std.specs.Prelude.{◌≡◌, ◌++◌, ◌∷◌, [], IfSome, MatchOption};
     ghost use Rattle.guppy_package_graph.specs.PlaceViews.{graph_of_places, left_of_places};
 
+    /// These places of packages of a graph.
     pub fn of(graph: &'g PackageGraph, left: &'a [usize]) -> Places<'g, 'a>
         requires { All (λ v. v < length graph.now.packages) left.now }
         ensures graph { graph_of_places result ≡ graph.entry.now }

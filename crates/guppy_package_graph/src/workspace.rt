@@ -1,3 +1,5 @@
+//! The workspace of a graph: its folders and members.
+
 ghost use Rattle.std.specs.Prelude.{◌≡◌, length, map, option_map};
 ghost use Rattle.guppy_package_table.specs.Tables.{ids_of, place_among};
 ghost use Rattle.guppy_package_graph.specs.WorkspaceViews.{workspace_of};
@@ -25,6 +27,7 @@ impl<'g> Workspace<'g> {
         self.graph
     }
 
+    /// The workspace's root folder.
     pub fn root(&self) -> &'g str
         ensures root { result.now ≡ (workspace_of self.now).workspace.root }
     {
@@ -32,6 +35,7 @@ impl<'g> Workspace<'g> {
         graph.table().workspace().root.as_str()
     }
 
+    /// The folder that Cargo builds in.
     pub fn target_directory(&self) -> &'g str
         ensures directory { result.now ≡ (workspace_of self.now).workspace.target_directory }
     {
@@ -39,6 +43,7 @@ impl<'g> Workspace<'g> {
         graph.table().workspace().target_directory.as_str()
     }
 
+    /// The folder of what Cargo builds on the way, if it is one of its own.
     pub fn build_directory(&self) -> Option<&'g str>
         ensures directory { option_map (λ t. t.now) result
             ≡ (workspace_of self.now).workspace.build_directory }

@@ -1,3 +1,5 @@
+//! The targets of a package.
+
 ghost use Rattle.std.specs.Prelude.{◌≡◌, option_map};
 ghost use Rattle.list_facts.specs.Texts.{texts};
 ghost use Rattle.guppy_package_parts.specs.BuildTargets.{built_as, id_of, id_name};
@@ -58,6 +60,7 @@ impl<'g> BuildTarget<'g> {
         BuildTarget { row }
     }
 
+    /// What the target is called within its package.
     pub fn id(&self) -> BuildTargetId<'g>
         ensures { id_view result ≡ id_of (target_view self.now).kind (target_view self.now).name }
     {
@@ -73,6 +76,7 @@ impl<'g> BuildTarget<'g> {
         }
     }
 
+    /// The target's name.
     pub fn name(&self) -> &'g str
         ensures { result.now ≡ (target_view self.now).name }
     {
@@ -80,6 +84,7 @@ impl<'g> BuildTarget<'g> {
         row.name.as_str()
     }
 
+    /// What Cargo builds of the target.
     pub fn kind(&self) -> BuildTargetKind<'g>
         ensures { kind_view result ≡ built_as (target_view self.now).kind
             (target_view self.now).info.crate_types }
@@ -96,6 +101,7 @@ impl<'g> BuildTarget<'g> {
         }
     }
 
+    /// The features that the target is built with only, in the order of the manifest.
     pub fn required_features(&self) -> &'g [String]
         ensures { texts result.now ≡ (target_view self.now).required_features }
     {
@@ -103,6 +109,7 @@ impl<'g> BuildTarget<'g> {
         row.required_features.as_slice()
     }
 
+    /// The path of the target's root file.
     pub fn path(&self) -> &'g str
         ensures { result.now ≡ (target_view self.now).info.path }
     {
@@ -110,6 +117,7 @@ impl<'g> BuildTarget<'g> {
         row.info.path.as_str()
     }
 
+    /// The edition of Rust that the target is in.
     pub fn edition(&self) -> &'g str
         ensures { result.now ≡ (target_view self.now).info.edition }
     {
@@ -117,6 +125,7 @@ impl<'g> BuildTarget<'g> {
         row.info.edition.as_str()
     }
 
+    /// Whether `cargo doc` documents the target.
     pub fn doc_by_default(&self) -> bool
         ensures { result ≡ (target_view self.now).info.doc }
     {
@@ -124,6 +133,7 @@ impl<'g> BuildTarget<'g> {
         row.info.doc
     }
 
+    /// Whether `cargo test` runs the examples in its documentation.
     pub fn doctest_by_default(&self) -> bool
         ensures { result ≡ (target_view self.now).info.doctest }
     {
@@ -131,6 +141,7 @@ impl<'g> BuildTarget<'g> {
         row.info.doctest
     }
 
+    /// Whether `cargo test` builds its tests.
     pub fn test_by_default(&self) -> bool
         ensures { result ≡ (target_view self.now).tested }
     {

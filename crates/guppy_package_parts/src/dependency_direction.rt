@@ -1,3 +1,5 @@
+//! The two directions of links.
+
 ghost use Rattle.std.specs.Prelude.{◌≡◌};
 ghost use Rattle.guppy_package_parts.specs.Directions.{opposite_of};
 

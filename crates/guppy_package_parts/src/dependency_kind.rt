@@ -1,3 +1,5 @@
+//! The sections of a manifest that declare dependencies.
+
 ghost use Rattle.std.specs.Prelude.{◌≡◌};
 ghost use Rattle.guppy_package_parts.specs.DependencyKinds.{kind_text, line_kind_of};
 

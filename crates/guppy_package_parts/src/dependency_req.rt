@@ -1,3 +1,5 @@
+//! What one section requires of a dependency.
+
 ghost use Rattle.std.specs.Prelude.{◌≡◌, ◌&&◌, MatchOption, [], false, filter, length, nat_lt};
 ghost use Rattle.std.specs.List.{list_any};
 ghost use Rattle.std.specs.Str.{bytes_eq};

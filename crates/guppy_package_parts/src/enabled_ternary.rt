@@ -1,3 +1,5 @@
+//! Truth values with one that is unknown.
+
 ghost use Rattle.std.specs.Prelude.{◌≡◌, ◌↔◌, IsTrue};
 ghost use Rattle.guppy_package_parts.specs.Ternaries.{ternary_of};
 
@@ -23,6 +25,7 @@ impl EnabledTernary {
         }
     }
 
+    /// Whether it is on or off, and not unknown.
     pub fn is_known(self) -> bool
         ensures { IsTrue result ↔ ¬ (self ≡ EnabledTernary.Unknown) }
     {

@@ -1,3 +1,5 @@
+//! Why a question to a graph has no answer.
+
 use std::alloc::{AllocError, AllocFailed};
 use thiserror::Error;
 

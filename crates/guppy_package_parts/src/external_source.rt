@@ -1,3 +1,5 @@
+//! The sources of packages outside the workspace.
+
 ghost use Rattle.std.specs.Prelude.{◌≡◌, ◌++◌, IfSome, codes, option_map};
 ghost use Rattle.guppy_package_parts.specs.Sources.{external_of, external_text, git_request, git_source, request_text};
 ghost use Rattle.guppy_package_parts.specs.SourceViews.{external_view, request_view};

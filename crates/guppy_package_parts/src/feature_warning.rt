@@ -1,3 +1,5 @@
+//! What is odd about a record's features.
+
 ghost use Rattle.std.specs.Prelude.{◌≡◌, IfOk};
 ghost use Rattle.guppy_package_parts.specs.WarningViews.{stage_view, warning_view};
 

@@ -1,3 +1,5 @@
+//! The ids of packages.
+
 ghost use Rattle.std.specs.Prelude.{◌≡◌, IfOk, string_bytes};
 
 use std::alloc::{AllocError, Global};

@@ -1,3 +1,5 @@
+//! Where a package may be published.
+
 ghost use Rattle.std.specs.Prelude.{◌≡◌, ◌↔◌, [], IsTrue, Some, codes, is_none};
 ghost use Rattle.guppy_package_parts.specs.Publishing.{may_publish_to};
 ghost use Rattle.guppy_package_parts.specs.PublishView.{publish_view};
@@ -28,12 +30,14 @@ impl<'g> PackagePublish<'g> {
         }
     }
 
+    /// Whether the manifest names no registries.
     pub fn is_unrestricted(&self) -> bool
         ensures { result ≡ is_none (publish_view self.now) }
     {
         matches!(self, PackagePublish::Unrestricted)
     }
 
+    /// Whether the package may be published to the registry of this name.
     pub fn can_publish_to(&self, registry: &str) -> bool
         ensures { result ≡ may_publish_to registry.now (publish_view self.now) }
     {
@@ -43,6 +47,7 @@ impl<'g> PackagePublish<'g> {
         }
     }
 
+    /// The same of crates.io, whose name is `crates-io`.
     pub fn can_publish_to_crates_io(&self) -> bool
         ensures { result ≡ may_publish_to (codes "crates-io") (publish_view self.now) }
     {

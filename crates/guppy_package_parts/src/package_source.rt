@@ -1,3 +1,5 @@
+//! Where a package comes from.
+
 ghost use Rattle.std.specs.Prelude.{◌≡◌, IfSome, option_map};
 ghost use Rattle.guppy_package_parts.specs.Sources.{is_workspace, is_path, is_external, is_crates_io, is_local, workspace_path_of, local_path_of, external_text_of, external_text, parsed_source, source_of, source_text};
 ghost use Rattle.guppy_package_parts.specs.SourceViews.{external_view, source_view};
@@ -36,24 +38,28 @@ impl<'g> PackageSource<'g> {
         }
     }
 
+    /// Whether the package is a member of the workspace.
     pub fn is_workspace(&self) -> bool
         ensures { result ≡ is_workspace (source_view self.now) }
     {
         matches!(self, PackageSource::Workspace(_))
     }
 
+    /// Whether the package lies in a folder and is no member of the workspace.
     pub fn is_path(&self) -> bool
         ensures { result ≡ is_path (source_view self.now) }
     {
         matches!(self, PackageSource::Path(_))
     }
 
+    /// Whether the package comes from outside: a registry, a repository or elsewhere.
     pub fn is_external(&self) -> bool
         ensures { result ≡ is_external (source_view self.now) }
     {
         matches!(self, PackageSource::External(_))
     }
 
+    /// Whether the package comes from crates.io.
     pub fn is_crates_io(&self) -> bool
         ensures { result ≡ is_crates_io (source_view self.now) }
     {
@@ -70,6 +76,7 @@ impl<'g> PackageSource<'g> {
         !self.is_external()
     }
 
+    /// A member's folder, told from the workspace's root.
     pub fn workspace_path(&self) -> Option<&'g str>
         ensures { option_map (λ p. p.now) result ≡ workspace_path_of (source_view self.now) }
     {

@@ -1,3 +1,5 @@
+//! Platforms, and what they know.
+
 ghost use Rattle.std.specs.Prelude.{◌≡◌, Bool, IfOk, Option, Some, map};
 ghost use Rattle.workspace_record.specs.Records.{Text};
 ghost use Rattle.guppy_package_parts.specs.Statuses.{spec_answer};

@@ -1,3 +1,5 @@
+//! On which platforms something is on.
+
 ghost use Rattle.std.specs.Prelude.{◌≡◌, ◌∷◌, [], All, MatchOption, filter, map, Some};
 ghost use Rattle.std.specs.List.{list_any};
 ghost use Rattle.std.specs.Option.{is_none};
@@ -68,12 +70,14 @@ impl<'g> PlatformStatus<'g> {
         }
     }
 
+    /// Whether it is on nowhere.
     pub fn is_never(&self) -> bool
         ensures { result ≡ is_never (status_view self.now) }
     {
         matches!(self, PlatformStatus::Never)
     }
 
+    /// Whether it is on everywhere.
     pub fn is_always(&self) -> bool
         ensures { result ≡ is_always (status_view self.now) }
     {

@@ -1,3 +1,5 @@
+//! The iterator over features that lines ask for.
+
 ghost use Rattle.std.specs.Prelude.{◌≡◌, ◌∷◌, [], MatchOption, None, filter, option_map};
 ghost use Rattle.list_facts.specs.Texts.{texts};
 ghost use Rattle.guppy_package_parts.specs.LineViews.{is_in_half, is_line_of};

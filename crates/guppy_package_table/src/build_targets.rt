@@ -1,3 +1,5 @@
+//! The iterator over a package's targets.
+
 ghost use Rattle.std.specs.Prelude.{◌≡◌, length};
 ghost use Rattle.guppy_package_table.specs.PackageDetailsViews.{targets_left};
 

@@ -1,3 +1,5 @@
+//! What a link's row says, with guppy's names.
+
 ghost use Rattle.std.specs.Prelude.{◌≡◌, Ok, filter, map, not, option_map};
 ghost use Rattle.std.specs.List.{list_any};
 ghost use Rattle.semver.specs.Identifiers.{comparator_view};
@@ -65,6 +67,7 @@ impl<'g> LinkDetails<'g> {
         self.requirement
     }
 
+    /// The registry that the manifest names for the dependency.
     pub fn registry(&self) -> Option<&'g str>
         ensures { option_map (λ t. t.now) result ≡ (row_of self.now).registry }
     {
@@ -72,6 +75,7 @@ impl<'g> LinkDetails<'g> {
         row.registry.as_deref()
     }
 
+    /// The path that the manifest names for the dependency.
     pub fn path(&self) -> Option<&'g str>
         ensures { option_map (λ t. t.now) result ≡ (row_of self.now).path }
     {

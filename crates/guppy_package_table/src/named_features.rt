@@ -1,3 +1,5 @@
+//! The iterator over names of a package's features.
+
 ghost use Rattle.std.specs.Prelude.{◌≡◌, map};
 ghost use Rattle.guppy_package_table.specs.PackageDetailsViews.{names_left};
 

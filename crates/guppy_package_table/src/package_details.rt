@@ -1,3 +1,5 @@
+//! What a package's row says, with guppy's names.
+
 ghost use Rattle.std.specs.Prelude.{◌≡◌, ◌↔◌, All, IfNone, IfSome, IsTrue, Ok, codes, is_some, map, option_map};
 ghost use Rattle.std.specs.List.{list_any};
 ghost use Rattle.std.specs.Str.{bytes_eq};
@@ -55,6 +57,7 @@ impl<'g> PackageDetails<'g> {
         self.row
     }
 
+    /// The package's name.
     pub fn name(&self) -> &'g str
         ensures { result.now ≡ (row_of self.now).name }
     {
@@ -69,6 +72,7 @@ impl<'g> PackageDetails<'g> {
         self.version
     }
 
+    /// The authors, in the order of the manifest.
     pub fn authors(&self) -> &'g [String]
         ensures { texts result.now ≡ (row_of self.now).info.authors }
     {
@@ -76,6 +80,7 @@ impl<'g> PackageDetails<'g> {
         row.info.authors.as_slice()
     }
 
+    /// What the manifest says of the package.
     pub fn description(&self) -> Option<&'g str>
         ensures { option_map (λ t. t.now) result ≡ (row_of self.now).info.description }
     {
@@ -83,6 +88,7 @@ impl<'g> PackageDetails<'g> {
         row.info.description.as_deref()
     }
 
+    /// The license, as an SPDX expression.
     pub fn license(&self) -> Option<&'g str>
         ensures { option_map (λ t. t.now) result ≡ (row_of self.now).info.license }
     {
@@ -90,6 +96,7 @@ impl<'g> PackageDetails<'g> {
         row.info.license.as_deref()
     }
 
+    /// The path of a license's text, told from the package's folder.
     pub fn license_file(&self) -> Option<&'g str>
         ensures { option_map (λ t. t.now) result ≡ (row_of self.now).info.license_file }
     {
@@ -112,6 +119,7 @@ impl<'g> PackageDetails<'g> {
         self.member_path.is_some()
     }
 
+    /// The path of the package's `Cargo.toml`.
     pub fn manifest_path(&self) -> &'g str
         ensures { result.now ≡ (row_of self.now).info.manifest_path }
     {
@@ -119,6 +127,7 @@ impl<'g> PackageDetails<'g> {
         row.info.manifest_path.as_str()
     }
 
+    /// The categories, in the order of the manifest.
     pub fn categories(&self) -> &'g [String]
         ensures { texts result.now ≡ (row_of self.now).info.categories }
     {
@@ -126,6 +135,7 @@ impl<'g> PackageDetails<'g> {
         row.info.categories.as_slice()
     }
 
+    /// The keywords, in the order of the manifest.
     pub fn keywords(&self) -> &'g [String]
         ensures { texts result.now ≡ (row_of self.now).info.keywords }
     {
@@ -133,6 +143,7 @@ impl<'g> PackageDetails<'g> {
         row.info.keywords.as_slice()
     }
 
+    /// The path of the README, told from the package's folder.
     pub fn readme(&self) -> Option<&'g str>
         ensures { option_map (λ t. t.now) result ≡ (row_of self.now).info.readme }
     {
@@ -140,6 +151,7 @@ impl<'g> PackageDetails<'g> {
         row.info.readme.as_deref()
     }
 
+    /// The URL of the repository.
     pub fn repository(&self) -> Option<&'g str>
         ensures { option_map (λ t. t.now) result ≡ (row_of self.now).info.repository }
     {
@@ -147,6 +159,7 @@ impl<'g> PackageDetails<'g> {
         row.info.repository.as_deref()
     }
 
+    /// The URL of the homepage.
     pub fn homepage(&self) -> Option<&'g str>
         ensures { option_map (λ t. t.now) result ≡ (row_of self.now).info.homepage }
     {
@@ -154,6 +167,7 @@ impl<'g> PackageDetails<'g> {
         row.info.homepage.as_deref()
     }
 
+    /// The URL of the documentation.
     pub fn documentation(&self) -> Option<&'g str>
         ensures { option_map (λ t. t.now) result ≡ (row_of self.now).info.documentation }
     {
@@ -161,6 +175,7 @@ impl<'g> PackageDetails<'g> {
         row.info.documentation.as_deref()
     }
 
+    /// The edition of Rust that the package is in.
     pub fn edition(&self) -> &'g str
         ensures { result.now ≡ (row_of self.now).info.edition }
     {
@@ -184,12 +199,14 @@ impl<'g> PackageDetails<'g> {
         row.info.links.as_deref()
     }
 
+    /// The registries that the package may be published to.
     pub fn publish(&self) -> PackagePublish<'g>
         ensures { publish_view result ≡ (row_of self.now).info.publish }
     {
         PackagePublish::of(self.row)
     }
 
+    /// The binary that `cargo run` starts where none is named.
     pub fn default_run(&self) -> Option<&'g str>
         ensures { option_map (λ t. t.now) result ≡ (row_of self.now).info.default_run }
     {
@@ -197,6 +214,7 @@ impl<'g> PackageDetails<'g> {
         row.info.default_run.as_deref()
     }
 
+    /// The oldest version of Rust that the package says it builds with.
     pub fn rust_version(&self) -> Option<&'g str>
         ensures { option_map (λ t. t.now) result ≡ (row_of self.now).info.rust_version }
     {
@@ -234,6 +252,7 @@ impl<'g> PackageDetails<'g> {
             .any(|target| target.kind == TargetKind::ProcMacro)
     }
 
+    /// Whether a target is a build script.
     pub fn has_build_script(&self) -> bool
         ensures { result ≡ list_any is_build_script (row_of self.now).targets }
     {

@@ -1,3 +1,5 @@
+//! Lists of entries for `Debug`.
+
 ghost use Rattle.std.specs.Iterator.{IsFinite};
 
 use std::fmt;

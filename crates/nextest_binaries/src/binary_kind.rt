@@ -1,3 +1,5 @@
+//! The kinds of test binaries.
+
 use std::marker::Model;
 
 /// The kind of a binary, as Cargo calls it.

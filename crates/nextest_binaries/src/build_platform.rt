@@ -1,3 +1,5 @@
+//! Target or host.
+
 use std::fmt;
 
 /// The platform that a binary is built for.

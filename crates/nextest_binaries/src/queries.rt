@@ -1,3 +1,5 @@
+//! What filters are asked about: a binary, or a test in one.
+
 use crate::binary_kind::RustTestBinaryKind;
 use crate::build_platform::BuildPlatform;
 use crate::rust_binary_id::RustBinaryId;

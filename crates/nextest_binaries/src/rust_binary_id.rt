@@ -1,3 +1,5 @@
+//! The ids of test binaries.
+
 use crate::binary_ids::binary_id;
 use crate::binary_kind::RustTestBinaryKind;
 use std::alloc::{AllocError, Global};

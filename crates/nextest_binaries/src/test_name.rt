@@ -1,3 +1,5 @@
+//! The names of tests.
+
 use std::marker::Model;
 
 /// The name of a test, as its binary lists it.

@@ -1,3 +1,5 @@
+//! Compiled filters.
+
 ghost use Rattle.std.specs.Prelude.{◌≡◌, IfOk};
 ghost use Rattle.nextest_filter_evaluation.specs.Formulas.{has_leaf};
 ghost use Rattle.nextest_filter_evaluation.specs.Compiled.{compiled_of, is_default, is_group, turned_over};

@@ -1,3 +1,5 @@
+//! What filters are asked with: the default filter and groups.
+
 ghost use Rattle.std.specs.Prelude.{◌≡◌, false};
 ghost use Rattle.nextest_filter_evaluation.specs.Formulas.{has_leaf};
 ghost use Rattle.nextest_filter_evaluation.specs.Compiled.{compiled_of, is_default, is_group};

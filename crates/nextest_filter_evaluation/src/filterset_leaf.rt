@@ -1,3 +1,5 @@
+//! The leaves of compiled filters.
+
 ghost use Rattle.std.specs.Prelude.{◌≡◌, IfOk};
 
 use guppy_package_parts::PackageId;

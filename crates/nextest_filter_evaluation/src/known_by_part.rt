@@ -1,3 +1,5 @@
+//! What the parts of a filter let be known of it.
+
 ghost use Rattle.std.specs.Prelude.{◌≡◌, Bool, Option};
 ghost use Rattle.nextest_filter_evaluation.specs.Kleene.{known_at, known_both, known_either, known_not};
 

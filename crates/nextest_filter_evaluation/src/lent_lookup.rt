@@ -1,3 +1,5 @@
+//! Lookups of groups that are lent.
+
 use crate::groups::GroupLookup;
 use nextest_binaries::TestQuery;
 use nextest_filter_matchers::NameMatcher;

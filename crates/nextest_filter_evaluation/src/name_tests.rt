@@ -1,3 +1,5 @@
+//! Whether matchers match names.
+
 ghost use Rattle.std.specs.Prelude.{◌≡◌, ◌↔◌, false, IfOk, IsOk, IsTrue};
 ghost use Rattle.nextest_filter_evaluation.specs.NameTests.{Suits, is_pattern, name_test};
 

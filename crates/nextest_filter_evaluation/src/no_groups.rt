@@ -1,3 +1,5 @@
+//! The lookup where no groups are known.
+
 use crate::groups::GroupLookup;
 use nextest_binaries::TestQuery;
 use nextest_filter_matchers::NameMatcher;

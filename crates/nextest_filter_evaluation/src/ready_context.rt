@@ -1,3 +1,5 @@
+//! What is worked out for a binary before its tests are asked about.
+
 use nextest_binaries::BinaryQuery;
 
 /// What is known before a test of a binary is asked about.

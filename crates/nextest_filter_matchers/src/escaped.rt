@@ -1,3 +1,5 @@
+//! Characters and texts with the escapes of filters.
+
 ghost use Rattle.std.specs.Prelude.{false};
 ghost use Rattle.std.specs.Fmt.{WritesOnOk};
 ghost use Rattle.std.specs.Str.{chars};

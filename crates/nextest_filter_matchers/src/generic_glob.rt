@@ -1,3 +1,5 @@
+//! Globs with their texts.
+
 ghost use Rattle.std.specs.Prelude.{◌≡◌, ◌↔◌, IfOk, IsTrue, string_bytes, true};
 ghost use Rattle.std.specs.Str.{chars};
 ghost use Rattle.nextest_filter_matchers.specs.GlobReading.{read_glob};

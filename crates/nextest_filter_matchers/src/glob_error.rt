@@ -1,3 +1,5 @@
+//! Why a text is no glob.
+
 use std::alloc::{AllocError, Global};
 use std::{error, fmt};
 use thiserror::Error;

@@ -1,3 +1,5 @@
+//! What a glob is made of, and how it matches.
+
 ghost use Rattle.std.specs.List.{list_any};
 ghost use Rattle.std.specs.Prelude.{◌≡◌, IfOk};
 ghost use Rattle.nextest_filter_matchers.specs.Globs.{is_in_range, is_in_set};

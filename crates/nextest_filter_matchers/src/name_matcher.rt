@@ -1,3 +1,5 @@
+//! Matchers of names: equal, contains, glob and regex.
+
 ghost use Rattle.std.specs.Prelude.{◌≡◌, ◌↔◌, IfOk, IsOk, IsTrue};
 
 use crate::escaped::{EscapedPattern, EscapedText};

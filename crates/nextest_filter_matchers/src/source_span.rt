@@ -1,3 +1,5 @@
+//! Spans of a text.
+
 ghost use Rattle.std.specs.Prelude.{◌≡◌};
 
 /// Where a part of a text stands, in bytes.

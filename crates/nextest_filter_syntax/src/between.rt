@@ -1,3 +1,5 @@
+//! What stands between two operands.
+
 ghost use Rattle.std.specs.Prelude.{◌≡◌, ◌≤◌, ◌<◌, true, false, IfOk, IfSome, OnOk, length};
 ghost use Rattle.nextest_filter_tokens.specs.Faults.{is_pattern_fault, span_of};
 ghost use Rattle.nextest_filter_tokens.specs.Bytes.{skip};

@@ -1,3 +1,5 @@
+//! Matchers read from their text.
+
 ghost use Rattle.std.specs.Prelude.{◌≡◌, ◌≤◌, ◌<◌, ◌+◌, ◌++◌, ◌∷◌, ℕ, List, [], Some, true, IfOk, IfSome, IfNone, OnOk, length, string_bytes, vec_len};
 ghost use Rattle.std.specs.Str.{IsCharBoundary};
 ghost use Rattle.nextest_filter_matchers.specs.Matchers.{Matcher, Regex as IsPattern, matcher_of};

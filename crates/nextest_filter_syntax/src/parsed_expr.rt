@@ -1,3 +1,5 @@
+//! Filters as they were written.
+
 ghost use Rattle.std.specs.Prelude.{◌≡◌, IfOk};
 
 use crate::parsed_leaf::ParsedLeaf;

@@ -1,3 +1,5 @@
+//! The leaves of filters as they were written.
+
 ghost use Rattle.std.specs.Prelude.{◌≡◌};
 ghost use Rattle.nextest_filter_matchers.specs.Matchers.{matcher_of};
 ghost use Rattle.nextest_filter_syntax.specs.PatternsAsWritten.{IsLeafAsWritten, IsMatcherAsWritten};

@@ -1,3 +1,5 @@
+//! Whole filters read from their text.
+
 ghost use Rattle.std.specs.Prelude.{◌≡◌, ◌≤◌, ◌<◌, ◌↔◌, Some, IfOk, IfSome, IfNone, OnOk, length, vec_len};
 ghost use Rattle.nextest_filter_matchers.specs.declared.source_span.SourceSpan as source;
 ghost use Rattle.nextest_filter_tokens.specs.Bytes.{skip};

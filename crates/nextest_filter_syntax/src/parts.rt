@@ -1,3 +1,5 @@
+//! Expressions made of parts, each of which may be spoiled.
+
 ghost use Rattle.std.specs.Prelude.{◌≡◌, IfOk, IfSome};
 ghost use Rattle.nextest_filter_syntax.specs.PatternsAsWritten.{IsLeafAsWritten};
 ghost use Rattle.nextest_filter_syntax.specs.FiltersAsWritten.{IsExprAsWritten};

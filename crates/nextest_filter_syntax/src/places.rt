@@ -1,3 +1,5 @@
+//! Places of parentheses, commas and ends.
+
 ghost use Rattle.std.specs.Prelude.{◌≡◌, ◌⊎◌, ◌≤◌, ◌<◌, ℕ, false, IfOk, OnOk, length};
 ghost use Rattle.std.specs.Str.{IsCharBoundary};
 ghost use Rattle.nextest_filter_tokens.specs.Faults.{is_pattern_fault};

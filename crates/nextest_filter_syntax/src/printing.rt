@@ -1,3 +1,5 @@
+//! Filters printed as texts.
+
 use crate::parsed_expr::ParsedExpr;
 use std::fmt;
 

@@ -1,3 +1,5 @@
+//! The reference of the filter language.
+
 /// What may stand in a filter, with an example for each predicate.
 pub const FILTERSET_REFERENCE_MD: &str = "\
 # Filters

@@ -1,3 +1,5 @@
+//! The leaves that wait for a test or a run.
+
 ghost use Rattle.std.specs.Prelude.{◌≡◌, ◌↔◌, IfOk, IsTrue, OnOk, codes, map};
 ghost use Rattle.std.specs.Str.Iter.{HasSubslice};
 ghost use Rattle.nextest_filter_syntax.specs.Trees.{tree_of};

@@ -1,3 +1,5 @@
+//! Sets of tests, read from their text.
+
 ghost use Rattle.std.specs.Prelude.{◌≡◌, ◌≤◌, ◌<◌, ◌+◌, ◌++◌, ℕ, [], IfOk, IfSome, IfNone, OnOk, length, slice_range};
 ghost use Rattle.std.specs.Str.{IsCharBoundary, trim};
 ghost use Rattle.nextest_binaries.specs.Platforms.{platform_text};

@@ -1,3 +1,5 @@
+//! The signs before a matcher.
+
 ghost use Rattle.std.specs.Prelude.{◌≡◌};
 ghost use Rattle.nextest_filter_syntax.specs.LeafGrammar as spec;
 

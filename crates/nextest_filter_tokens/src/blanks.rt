@@ -1,3 +1,5 @@
+//! Blanks between tokens.
+
 ghost use Rattle.std.specs.Prelude.{◌≡◌, ◌+◌, ◌≤◌, length};
 ghost use Rattle.std.specs.Str.{IsCharBoundary};
 ghost use Rattle.nextest_filter_tokens.specs.Bytes.{blank_length, skip};

@@ -1,3 +1,5 @@
+//! Bytes and words at a place.
+
 ghost use Rattle.std.specs.Prelude.{◌≡◌, ◌&&◌};
 ghost use Rattle.nextest_filter_tokens.specs.Bytes as spec;
 

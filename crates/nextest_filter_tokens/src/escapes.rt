@@ -1,3 +1,5 @@
+//! Escapes in a text.
+
 ghost use Rattle.std.specs.Prelude.{◌≡◌, ◌≤◌, ◌<◌, IfSome, if◌then◌else◌};
 ghost use Rattle.nextest_filter_tokens.specs.Bytes.{byte};
 ghost use Rattle.nextest_filter_tokens.specs.Escapes.{EndsWithin, closed_at, digit_value, digits_from, escape_at, is_digit_at, named_escape, signed_escape};

@@ -1,3 +1,5 @@
+//! Copies of faults.
+
 ghost use Rattle.std.specs.Prelude.{IfOk};
 ghost use Rattle.nextest_filter_tokens.specs.Copies.{SameFault};
 

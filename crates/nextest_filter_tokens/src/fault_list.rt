@@ -1,3 +1,5 @@
+//! The faults of a text, as they are found.
+
 ghost use Rattle.std.specs.Prelude.{◌≡◌, ◌<◌, true};
 ghost use Rattle.nextest_filter_tokens.specs.FaultLists.{syntax_faults};
 

@@ -1,3 +1,5 @@
+//! Where a filter stands, and which predicates it may not have there.
+
 use std::{error, fmt};
 
 /// Where a filter stands.

@@ -1,3 +1,5 @@
+//! The words that begin a set.
+
 ghost use Rattle.std.specs.Prelude.{◌≡◌};
 ghost use Rattle.nextest_filter_tokens.specs.Heads.{HeadEndsWithin, head_at, misplaced_at, plain_set_at, sign_at};
 

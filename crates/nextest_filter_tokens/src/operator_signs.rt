@@ -1,3 +1,5 @@
+//! The ways in which operators are written.
+
 use std::fmt;
 
 /// How a negation is written.

@@ -1,3 +1,5 @@
+//! Operators between operands.
+
 ghost use Rattle.std.specs.Prelude.{◌≡◌, ◌≤◌, length};
 ghost use Rattle.nextest_filter_tokens.specs.Bytes as spec;
 ghost use Rattle.nextest_filter_tokens.specs.Operators.{FoundEndsWithin, and_at, or_at};

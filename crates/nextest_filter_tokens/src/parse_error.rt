@@ -1,3 +1,5 @@
+//! The faults of filter texts.
+
 ghost use Rattle.std.specs.Prelude.{◌≡◌};
 ghost use Rattle.nextest_filter_tokens.specs.FaultTexts.{plain_text};
 

@@ -1,3 +1,5 @@
+//! Patterns of regular expressions, up to the slash that ends them.
+
 ghost use Rattle.std.specs.Prelude.{◌≡◌, ◌≤◌, ◌<◌, ◌+◌, ℕ, List, true, false, IfOk, IfSome, IfNone, length, string_bytes};
 ghost use Rattle.std.specs.Str.{IsCharBoundary};
 ghost use Rattle.nextest_filter_tokens.specs.Bytes.{is_byte};

@@ -1,3 +1,5 @@
+//! Plain texts, up to a comma or parenthesis.
+
 ghost use Rattle.std.specs.Prelude.{◌≡◌, ◌≤◌, ◌<◌, ℕ, List, true, false, IfOk, IfSome, IfNone, OnOk, length, string_bytes};
 ghost use Rattle.std.specs.Str.{IsCharBoundary};
 ghost use Rattle.nextest_filter_tokens.specs.ReadingSteps.{AreOf, GoesOn, Grows, HasSyntaxFault};

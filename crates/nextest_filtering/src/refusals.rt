@@ -1,3 +1,5 @@
+//! Filter texts that are refused.
+
 ghost use Rattle.std.specs.Prelude.{IfOk};
 ghost use Rattle.nextest_filtering.specs.CopiedFaults.{AreSame};
 

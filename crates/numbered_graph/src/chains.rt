@@ -16,6 +16,7 @@ pub struct Chains {
     pub next: Vec<usize>,
 }
 
+/// The chains of these links, in a direction. Of one node they come in the order of the links.
 pub fn chains_of(
     alloc: Global,
     nodes: usize,

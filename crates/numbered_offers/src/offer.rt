@@ -1,3 +1,5 @@
+//! Offers: conditional edges about which somebody is asked.
+
 /// A conditional edge, or a half of a weak one, about which somebody is asked.
 #[derive(Clone, Copy, Debug, PartialEq, Eq)]
 pub struct Offer {

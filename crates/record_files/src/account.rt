@@ -1,3 +1,5 @@
+//! Accounts and explanations read from their files.
+
 ghost use Rattle.std.specs.Prelude.{◌≡◌};
 ghost use Rattle.record_files.specs.Trees.{seen, seen_items};
 ghost use Rattle.record_files.specs.declared.key.Key.TheVariants as key;

@@ -1,3 +1,5 @@
+//! What an account's file says.
+
 use std::marker::Model;
 use workspace_record::Feature;
 

@@ -1,3 +1,5 @@
+//! Choices of features read from their files.
+
 ghost use Rattle.std.specs.Prelude.{◌≡◌, IfOk};
 ghost use Rattle.record_files.specs.Trees.{seen};
 ghost use Rattle.workspace_record.specs.LabelView.{label_view};

@@ -1,3 +1,5 @@
+//! Why a file was not read.
+
 ghost use Rattle.std.specs.Prelude.{◌≡◌};
 
 use crate::field::Field;

@@ -1,3 +1,5 @@
+//! Names of what is missing or of the wrong kind.
+
 use crate::key::Key;
 use std::fmt;
 

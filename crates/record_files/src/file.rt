@@ -1,3 +1,5 @@
+//! The bytes of a file read as one value.
+
 ghost use Rattle.record_files.specs.Files.{Parses};
 
 use crate::error::ReadError;

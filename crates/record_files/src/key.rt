@@ -1,3 +1,5 @@
+//! The keys of the files' formats.
+
 ghost use Rattle.std.specs.Prelude.{◌≡◌};
 ghost use Rattle.record_files.specs.Keys.{key_of};
 

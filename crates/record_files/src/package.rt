@@ -1,3 +1,5 @@
+//! Packages read from a record's file.
+
 ghost use Rattle.std.specs.Prelude.{◌≡◌};
 ghost use Rattle.record_files.specs.Trees.{seen};
 ghost use Rattle.record_files.specs.Outcomes.{Gives};

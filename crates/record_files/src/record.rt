@@ -1,3 +1,5 @@
+//! Records read from their files.
+
 ghost use Rattle.std.specs.Prelude.{◌≡◌};
 ghost use Rattle.record_files.specs.Trees.{seen};
 ghost use Rattle.record_files.specs.Files.{ReadsFile};

@@ -1,3 +1,5 @@
+//! Tables of a platform read from their files.
+
 ghost use Rattle.std.specs.Prelude.{◌≡◌, [], map, IfOk};
 ghost use Rattle.workspace_record.specs.Tables.{answered, entry_of};
 ghost use Rattle.record_files.specs.declared.key.Key.TheVariants as key;

@@ -1,3 +1,5 @@
+//! The workspace read from a record's file.
+
 ghost use Rattle.std.specs.Prelude.{◌≡◌};
 ghost use Rattle.record_files.specs.Trees.{seen};
 ghost use Rattle.record_files.specs.Outcomes.{Gives};

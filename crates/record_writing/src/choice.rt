@@ -1,3 +1,5 @@
+//! Choices of features written as files.
+
 ghost use Rattle.std.specs.Prelude.{◌≡◌, IfOk, Ok, map, string_bytes};
 ghost use Rattle.serde_json.specs.View.{view};
 ghost use Rattle.workspace_record.specs.LabelView.{label_view};

@@ -1,3 +1,5 @@
+//! Links as values of a record's file.
+
 ghost use Rattle.std.specs.Prelude.{◌≡◌, IfOk, map};
 ghost use Rattle.serde_json.specs.View.{view};
 ghost use Rattle.record_writing.specs.Rows.{line_data, line_kind_name, link_data};

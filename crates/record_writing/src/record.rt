@@ -1,3 +1,5 @@
+//! Records written as files.
+
 ghost use Rattle.std.specs.Prelude.{◌≡◌, IfOk, Ok, string_bytes};
 ghost use Rattle.serde_json.specs.View.{view};
 ghost use Rattle.record_files.specs.Files.{Reads};

@@ -1,3 +1,5 @@
+//! Targets as values of a record's file.
+
 ghost use Rattle.std.specs.Prelude.{◌≡◌, IfOk, map};
 ghost use Rattle.serde_json.specs.View.{view};
 ghost use Rattle.record_writing.specs.Rows.{target_data, target_kind_name};

@@ -1,3 +1,5 @@
+//! The workspace as a value of a record's file.
+
 ghost use Rattle.std.specs.Prelude.{◌≡◌, IfOk, map};
 ghost use Rattle.serde_json.specs.View.{view};
 ghost use Rattle.record_writing.specs.Rows.{group_data, member_data, workspace_data};

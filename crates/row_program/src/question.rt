@@ -20,6 +20,7 @@ pub struct RowQuestion {
 }
 
 impl RowQuestion {
+    /// The same, lent.
     pub fn lent(&self) -> Question<'_> {
         Question {
             record: &self.record,

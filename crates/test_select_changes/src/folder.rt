@@ -23,12 +23,14 @@ impl<'g> Model for Folder<'g> {
 }
 
 impl<'g> Folder<'g> {
+    /// The folder of these parts, of the package of this name.
     pub fn of(parts: Vec<&'g str>, name: &'g str) -> Folder<'g>
         ensures { result ≡ record { parts = lent_parts parts.entry.items; name = name.entry.now } }
     {
         Folder { parts, name }
     }
 
+    /// The package's name.
     pub fn name(&self) -> &str
         ensures { result.now ≡ self.now.name }
     {

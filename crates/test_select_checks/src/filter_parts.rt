@@ -1,3 +1,5 @@
+//! The filters that a record brings.
+
 ghost use Rattle.std.specs.Prelude.{◌≡◌, false};
 ghost use Rattle.nextest_filter_evaluation.specs.Compiled.{compiled_of, is_default, is_group};
 ghost use Rattle.nextest_filter_evaluation.specs.Formulas.{has_leaf};

@@ -1,3 +1,5 @@
+//! Test binaries by their ids.
+
 ghost use Rattle.std.specs.Prelude.{◌≡◌};
 ghost use Rattle.test_select_rules.specs.Binaries.{kind_text};
 

@@ -1,3 +1,5 @@
+//! Which binaries are asked for their tests.
+
 /// Which available binaries a selection asks for their tests.
 #[derive(Clone, Copy, Debug, PartialEq, Eq)]
 pub enum AskedBinaries {

@@ -1,3 +1,5 @@
+//! The filters of a question.
+
 use nextest_filtering::CompiledExpr;
 use test_select_checks::RecordFilters;
 

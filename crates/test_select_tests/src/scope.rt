@@ -1,3 +1,5 @@
+//! Which links filters follow.
+
 /// Which links the filters `deps` and `rdeps` follow.
 #[derive(Clone, Copy, Debug, PartialEq, Eq, Hash)]
 pub enum LinkScope {

@@ -1,3 +1,5 @@
+//! Choices of features.
+
 ghost use Rattle.std.specs.Prelude.{◌≡◌, IfOk, Option, option_copied};
 ghost use Rattle.workspace_record.specs.Tables.{answer, SameTable};
 

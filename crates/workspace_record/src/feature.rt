@@ -1,3 +1,5 @@
+//! Features by package id and label.
+
 ghost use Rattle.std.specs.Prelude.{◌≡◌, IfOk};
 ghost use Rattle.workspace_record.specs.Features.{Base, Named, Dep};
 

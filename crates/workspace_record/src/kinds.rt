@@ -1,3 +1,5 @@
+//! The kinds of targets and lines, and the standard choices.
+
 /// What a target is.
 #[derive(Clone, Copy, Debug, PartialEq, Eq, PartialOrd, Ord, Hash)]
 pub enum TargetKind {

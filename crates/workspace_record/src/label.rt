@@ -1,3 +1,5 @@
+//! The labels of features.
+
 ghost use Rattle.std.specs.Prelude.{◌≡◌, IfOk};
 ghost use Rattle.workspace_record.specs.LabelView.{label_view};
 

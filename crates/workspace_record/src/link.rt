@@ -1,3 +1,5 @@
+//! Dependencies with the lines that declare them.
+
 ghost use Rattle.std.specs.Prelude.{◌≡◌, [], IfOk};
 
 use crate::kinds::LineKind;

@@ -1,3 +1,5 @@
+//! Packages, their features and details.
+
 ghost use Rattle.std.specs.Prelude.{◌≡◌, IfOk, OnOk};
 ghost use Rattle.workspace_record.specs.Records.{no_details};
 

@@ -1,3 +1,5 @@
+//! The targets of packages.
+
 ghost use Rattle.std.specs.Prelude.{◌≡◌, IfOk};
 
 use crate::kinds::TargetKind;

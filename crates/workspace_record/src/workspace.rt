@@ -1,3 +1,5 @@
+//! The workspace, its members and groups.
+
 ghost use Rattle.std.specs.Prelude.{◌≡◌, IfOk, map};
 
 use crate::link::{LinkRecord, copy_links};
