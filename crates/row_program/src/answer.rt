@@ -49,6 +49,16 @@ impl Answers {
         }
     }
 
+    /// Keeps what is answered, or why nothing is.
+    pub fn told<T: Display + Drop, E: Display + Drop>(
+        &mut self,
+        key: &'static str,
+        answer: Result<T, E>,
+    ) {
+        self.begin(key);
+        self.answered("", answer);
+    }
+
     /// Keeps what the items print, parted by spaces.
     pub fn list<T: Display + Drop>(
         &mut self,
@@ -88,6 +98,18 @@ impl Answers {
         if let Some(answer) = self.items.last_mut() {
             let between = if answer.text.is_empty() { "" } else { between };
             self.refused |= write!(answer.text, "{between}{value}").is_err();
+        }
+    }
+
+    /// As `part`, of what is answered, or of why nothing is.
+    pub fn answered<T: Display + Drop, E: Display + Drop>(
+        &mut self,
+        between: &str,
+        answer: Result<T, E>,
+    ) {
+        match answer {
+            Ok(answer) => self.part(between, &answer),
+            Err(error) => self.part(between, &error),
         }
     }
 

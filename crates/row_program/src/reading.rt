@@ -9,10 +9,7 @@ use workspace_record::{FeatureChoice, PlatformTable, WorkspaceRecord};
 
 /// The record that stands under `record`.
 pub fn record_under(alloc: Global, row: Row<'_>) -> Result<WorkspaceRecord, RowFault> {
-    let Some(value) = row.get("record") else {
-        return Err(RowFault::Key("record"));
-    };
-    let text = value.to_string(alloc)?;
+    let text = row.printed(alloc, "record")?;
     record_from(alloc, text.as_str(), "record")
 }
 
@@ -42,14 +39,10 @@ pub fn choice_in(alloc: Global, row: Row<'_>) -> Result<FeatureChoice, RowFault>
 /// The table of the row, without a file one that has no answers and lets unknown ones count.
 pub fn table_in(alloc: Global, row: Row<'_>) -> Result<PlatformTable, RowFault> {
     let text = file_or_empty(alloc, row, "table.json")?;
-    match table_of(alloc, &text) {
+    match read_table(alloc, text.as_bytes()) {
         Ok(table) => Ok(table),
         Err(error) => Err(unread(alloc, "table.json", error)),
     }
-}
-
-fn table_of(alloc: Global, text: &String) -> Result<PlatformTable, ReadError> {
-    read_table(alloc, text.as_bytes())
 }
 
 /// The account or explanation of the row: of its file, or else the numbers of its `account`.

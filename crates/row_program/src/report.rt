@@ -9,7 +9,7 @@ use std::fmt::Display;
 #[derive(Drop)]
 pub(crate) struct Report<'a> {
     name: &'a str,
-    text: String,
+    pub(crate) text: String,
 }
 
 impl<'a> Report<'a> {
@@ -19,10 +19,6 @@ impl<'a> Report<'a> {
             name: name.unwrap_or("a row without a name"),
             text: String::new(alloc),
         }
-    }
-
-    pub(crate) fn text(&self) -> &str {
-        self.text.as_str()
     }
 
     /// Adds a line behind the row's name.

@@ -5,31 +5,11 @@ use std::alloc::{AllocError, Global};
 /// A row of a file, and the group that it stands in.
 #[derive(Clone, Copy)]
 pub struct Row<'a> {
-    own: &'a Value,
-    group: Option<&'a Value>,
+    pub(crate) own: &'a Value,
+    pub(crate) group: Option<&'a Value>,
 }
 
 impl<'a> Row<'a> {
-    /// A row that stands in no group.
-    pub(crate) fn alone(own: &'a Value) -> Row<'a> {
-        Row { own, group: None }
-    }
-
-    /// A row of a group.
-    pub(crate) fn of_group(own: &'a Value, group: &'a Value) -> Row<'a> {
-        let group = Some(group);
-        Row { own, group }
-    }
-
-    /// The row itself, and then its group.
-    pub(crate) fn own(&self) -> &'a Value {
-        self.own
-    }
-
-    pub(crate) fn group(&self) -> Option<&'a Value> {
-        self.group
-    }
-
     /// What the row says under this key, or else its group.
     pub fn get(&self, key: &str) -> Option<&'a Value> {
         match self.own.get(key) {
@@ -42,6 +22,14 @@ impl<'a> Row<'a> {
     pub fn text(&self, key: &'static str) -> Result<&'a str, RowFault> {
         match self.get(key).and_then(Value::as_str) {
             Some(text) => Ok(text),
+            None => Err(RowFault::Key(key)),
+        }
+    }
+
+    /// The file that the value under this key stands for.
+    pub fn printed(&self, alloc: Global, key: &'static str) -> Result<String, RowFault> {
+        match self.get(key) {
+            Some(value) => Ok(file_text(alloc, value)?),
             None => Err(RowFault::Key(key)),
         }
     }

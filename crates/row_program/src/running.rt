@@ -91,10 +91,14 @@ fn rows_of<'a>(alloc: Global, values: &'a [Value]) -> io::Result<Vec<Row<'a>>> {
     let mut rows = Vec::new(alloc);
     for value in values {
         match value.get("rows").and_then(Value::as_array) {
-            None => rows.push(Row::alone(value))?,
+            None => rows.push(Row {
+                own: value,
+                group: None,
+            })?,
             Some(inner) => {
+                let group = Some(value);
                 for own in inner.as_slice() {
-                    rows.push(Row::of_group(own, value))?;
+                    rows.push(Row { own, group })?;
                 }
             }
         }
@@ -113,7 +117,7 @@ fn run_one<R: RowRunner, W: Write>(
     let ran = runner.run_row(alloc, row, &mut answers);
     let mut report = Report::of(alloc, row);
     let same = tell_one(alloc, row, runner.inputs(), ran, &answers, &mut report);
-    write!(out, "{}", report.text())?;
+    write!(out, "{}", report.text)?;
     Ok(same)
 }
 
@@ -142,7 +146,10 @@ fn told(
     answers: &[Answer],
     report: &mut Report<'_>,
 ) -> bool {
-    let mut same = keys_are_known(row, inputs, answers, report);
+    let mut same = are_known(row.own, inputs, answers, report);
+    if let Some(group) = row.group {
+        same &= are_known(group, inputs, answers, report);
+    }
     let mut expects = false;
     for answer in answers {
         let Some(expected) = row.get(answer.key) else {
@@ -160,36 +167,19 @@ fn told(
     same && expects
 }
 
-/// Tells each key of the row and its group that nobody reads.
-fn keys_are_known(
-    row: Row<'_>,
-    inputs: &[&str],
-    answers: &[Answer],
-    report: &mut Report<'_>,
-) -> bool {
-    let own = are_known(row.own(), inputs, answers, report);
-    match row.group() {
-        Some(group) => are_known(group, inputs, answers, report) && own,
-        None => own,
-    }
-}
-
+/// Tells each key of a row or a group that nobody reads.
 fn are_known(value: &Value, inputs: &[&str], answers: &[Answer], report: &mut Report<'_>) -> bool {
     let Some(members) = value.as_object() else {
         return true;
     };
     let mut known = true;
     for key in members.keys() {
-        if !is_known(key.as_str(), inputs, answers) {
+        let key = key.as_str();
+        let is_answered = answers.iter().any(|answer| answer.key == key);
+        if !["name", "rows"].contains(&key) && !inputs.contains(&key) && !is_answered {
             known = false;
             report.line(&format_args!("nobody reads `{key}`"));
         }
     }
     known
-}
-
-fn is_known(key: &str, inputs: &[&str], answers: &[Answer]) -> bool {
-    ["name", "rows"].contains(&key)
-        || inputs.contains(&key)
-        || answers.iter().any(|answer| answer.key == key)
 }

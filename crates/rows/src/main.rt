@@ -18,21 +18,20 @@ use std::process::ExitCode;
 
 fn main(rt: HostRuntime) -> io::Result<ExitCode> {
     let mut out = rt.stdout();
-    let libraries = run_libraries(&rt, &mut out)?;
-    let files = run_files(&rt, &mut out)?;
-    Ok(ExitCode::from(if libraries && files { 0 } else { 1 }))
+    let same = run_rows(&rt, &mut out)?;
+    Ok(ExitCode::from(if same { 0 } else { 1 }))
 }
 
-fn run_libraries<W: Write>(rt: &HostRuntime, out: &mut W) -> io::Result<bool> {
-    let numbers = run_numbers(rt, out)?;
+fn run_rows<W: Write>(rt: &HostRuntime, out: &mut W) -> io::Result<bool> {
     let packages = run_packages(rt, out)?;
     let features = run_features(rt, out)?;
     let filters = run_filters(rt, out)?;
-    Ok(numbers && packages && features && filters)
+    let files = run_files(rt, out)?;
+    Ok(packages && features && filters && files)
 }
 
-fn run_numbers<W: Write>(rt: &HostRuntime, out: &mut W) -> io::Result<bool> {
-    let graphs = run_file(
+fn run_packages<W: Write>(rt: &HostRuntime, out: &mut W) -> io::Result<bool> {
+    let numbers = run_file(
         rt,
         "number graphs",
         "number_graphs.json",
@@ -40,10 +39,6 @@ fn run_numbers<W: Write>(rt: &HostRuntime, out: &mut W) -> io::Result<bool> {
         out,
     )?;
     let offers = run_file(rt, "offers", "offers.json", &mut numbers::OfferRows, out)?;
-    Ok(graphs && offers)
-}
-
-fn run_packages<W: Write>(rt: &HostRuntime, out: &mut W) -> io::Result<bool> {
     let parts = run_file(rt, "parts", "parts.json", &mut packages::PartRows, out)?;
     let rules = run_file(rt, "rules", "rules.json", &mut packages::RuleRows, out)?;
     let graphs = run_file(
@@ -53,7 +48,7 @@ fn run_packages<W: Write>(rt: &HostRuntime, out: &mut W) -> io::Result<bool> {
         &mut packages::GraphRows,
         out,
     )?;
-    Ok(parts && rules && graphs)
+    Ok(numbers && offers && parts && rules && graphs)
 }
 
 fn run_features<W: Write>(rt: &HostRuntime, out: &mut W) -> io::Result<bool> {

@@ -1,12 +1,11 @@
-use crate::files::made::{tell_made, tell_refused, tell_whole};
 use cargo_files::{
-    FeatureWords, Refusal, add_listing, choice_file, listings_file, nextest_listings, record_file,
-    settings_file, spec_holds, table_file, tests_printed,
+    FeatureWords, Refusal, RefusedFile, add_listing, choice_file, listings_file, nextest_listings,
+    record_file, settings_file, spec_holds, table_file, tests_printed,
 };
 use cargo_record::RequestedMembers;
 use record_files::read_record;
 use record_writing::record_text;
-use row_program::{Answers, Row, RowFault, RowRunner, file_text};
+use row_program::{Answers, Row, RowFault, RowRunner};
 use std::alloc::Global;
 
 /// Rows of conversions. A row's `kind` says what is made: `spec`, `table`, `record`, `choice`, or the
@@ -58,8 +57,14 @@ fn tell_spec(alloc: Global, row: Row<'_>, answers: &mut Answers) -> Result<(), R
     let (spec, triple) = (row.text("spec")?, row.text("triple")?);
     match settings_file(alloc, row.text("cfg")?.as_bytes()) {
         Ok(settings) => match spec_holds(spec, triple, &settings) {
-            Ok(holds) => tell_whole(&holds, answers),
-            Err(fault) => tell_refused(&fault, answers),
+            Ok(holds) => {
+                answers.show("made", &holds);
+                answers.show("refused", &"");
+            }
+            Err(fault) => {
+                answers.show("made", &"");
+                answers.show("refused", &fault);
+            }
         },
         Err(refusal) => tell_made("cfg.txt", Err(refusal), answers),
     }
@@ -68,7 +73,7 @@ fn tell_spec(alloc: Global, row: Row<'_>, answers: &mut Answers) -> Result<(), R
 
 fn tell_table(alloc: Global, row: Row<'_>, answers: &mut Answers) -> Result<(), RowFault> {
     let (triple, printed) = (row.text("triple")?, row.text("cfg")?);
-    let record = file_in(alloc, row, "record")?;
+    let record = row.printed(alloc, "record")?;
     match settings_file(alloc, printed.as_bytes()) {
         Ok(settings) => {
             let table = table_file(alloc, record.as_bytes(), triple, &settings);
@@ -82,7 +87,7 @@ fn tell_table(alloc: Global, row: Row<'_>, answers: &mut Answers) -> Result<(), 
 /// The record, which has to be read as one of which just this file is made.
 fn tell_record(alloc: Global, row: Row<'_>, answers: &mut Answers) -> Result<(), RowFault> {
     let names = row.texts(alloc, "packages")?;
-    let metadata = file_in(alloc, row, "metadata")?;
+    let metadata = row.printed(alloc, "metadata")?;
     let wanted = wanted_by(row.get("workspace").is_some(), &names);
     let made = record_file(alloc, metadata.as_bytes(), wanted);
     let is_kept = match &made {
@@ -99,7 +104,10 @@ fn tell_record(alloc: Global, row: Row<'_>, answers: &mut Answers) -> Result<(),
 
 fn reads_back(alloc: Global, text: &str) -> bool {
     match read_record(alloc, text.as_bytes()) {
-        Ok(record) => record_text(alloc, &record).is_ok_and(|again| again.as_str() == text),
+        Ok(record) => match record_text(alloc, &record) {
+            Ok(again) => again.as_str() == text,
+            Err(_) => false,
+        },
         Err(_) => false,
     }
 }
@@ -119,7 +127,7 @@ fn tell_choice(alloc: Global, row: Row<'_>, answers: &mut Answers) -> Result<(),
     let no_default_features = flags.contains(&"no-default-features");
     let all_features = flags.contains(&"all-features");
     let features = row.texts(alloc, "features")?;
-    let record = file_in(alloc, row, "record")?;
+    let record = row.printed(alloc, "record")?;
     let words = FeatureWords {
         features: &features,
         no_default_features,
@@ -161,7 +169,7 @@ fn terse_file(
 fn tell_nextest(alloc: Global, row: Row<'_>, answers: &mut Answers) -> Result<(), RowFault> {
     let id = row.text("id")?;
     let built = row.get("built").is_some();
-    let list = file_in(alloc, row, "list")?;
+    let list = row.printed(alloc, "list")?;
     let file = nextest_file(alloc, id, list.as_bytes(), built);
     tell_made("nextest.json", file, answers);
     Ok(())
@@ -173,10 +181,16 @@ fn nextest_file(alloc: Global, id: &str, printed: &[u8], built: bool) -> Result<
     listings_file(alloc, &listings)
 }
 
-/// The file under a key: a text as it stands, and else the JSON.
-fn file_in(alloc: Global, row: Row<'_>, key: &'static str) -> Result<String, RowFault> {
-    match row.get(key) {
-        Some(value) => Ok(file_text(alloc, value)?),
-        None => Err(RowFault::Key(key)),
+/// Tells what is made of the file with this name, or why it is refused: one of both is an empty text.
+fn tell_made(name: &str, made: Result<String, Refusal>, answers: &mut Answers) {
+    match made {
+        Ok(text) => {
+            answers.show("made", &text);
+            answers.show("refused", &"");
+        }
+        Err(refusal) => {
+            answers.show("made", &"");
+            answers.show("refused", &RefusedFile { name, refusal });
+        }
     }
 }

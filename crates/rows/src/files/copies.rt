@@ -5,9 +5,11 @@ use std::alloc::{AllocError, Global};
 use std::collections::BTreeMap;
 use workspace_record::{FeatureChoice, PlatformTable, WorkspaceRecord};
 
-/// What can be compared with its copy.
+/// What can be compared with its copy, where it has one.
 pub(crate) trait Copied {
-    fn is_its_copy(&self, alloc: Global) -> Result<bool, AllocError>;
+    fn is_its_copy(&self, _alloc: Global) -> Result<bool, AllocError> {
+        Ok(true)
+    }
 }
 
 impl Copied for WorkspaceRecord {
@@ -29,15 +31,7 @@ impl Copied for PlatformTable {
 }
 
 /// Accounts have no copy of their own.
-impl Copied for AccountFile {
-    fn is_its_copy(&self, _alloc: Global) -> Result<bool, AllocError> {
-        Ok(true)
-    }
-}
+impl Copied for AccountFile {}
 
 /// Listings have no copy of their own.
-impl Copied for BTreeMap<String, Vec<String>> {
-    fn is_its_copy(&self, _alloc: Global) -> Result<bool, AllocError> {
-        Ok(true)
-    }
-}
+impl Copied for BTreeMap<String, Vec<String>> {}

@@ -4,7 +4,6 @@
 mod cargo_rows;
 mod copies;
 mod file_rows;
-mod made;
 mod reason_rows;
 
 pub(crate) use crate::files::cargo_rows::CargoRows;

@@ -4,11 +4,12 @@ ghost use Rattle.std.specs.Prelude.{◌≡◌, ◌<◌, length, All, IfOk};
 
 use numbered_graph::{Direction, NodeSet, are_below};
 use row_program::{Row, RowFault};
+use serde_json::Value;
 use std::alloc::{AllocError, Global};
 
 /// How many nodes the row has.
 pub(crate) fn node_count_in(row: Row<'_>) -> Result<usize, RowFault> {
-    match row.get("nodes").and_then(|value| value.as_u64()) {
+    match row.get("nodes").and_then(Value::as_u64) {
         Some(number) => Ok(number as usize),
         None => Err(RowFault::Key("nodes")),
     }
@@ -49,7 +50,7 @@ pub(crate) fn flags_in(
 
 /// Where links are followed: backwards if the row says `"direction": "reverse"`.
 pub(crate) fn direction_in(row: Row<'_>) -> Direction {
-    match row.get("direction").and_then(|value| value.as_str()) {
+    match row.get("direction").and_then(Value::as_str) {
         Some("reverse") => Direction::Reverse,
         _ => Direction::Forward,
     }

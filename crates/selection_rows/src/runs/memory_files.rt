@@ -5,29 +5,9 @@ use test_select::{FileFault, FileSource};
 /// The files of a row. At one that stands as null memory runs out.
 #[derive(Drop)]
 pub(crate) struct MemoryFiles<'a> {
-    row: Row<'a>,
-    asked: String,
-}
-
-impl<'a> MemoryFiles<'a> {
-    pub(crate) fn new(alloc: Global, row: Row<'a>) -> MemoryFiles<'a> {
-        MemoryFiles {
-            row,
-            asked: String::new(alloc),
-        }
-    }
-
+    pub(crate) row: Row<'a>,
     /// The names that were asked for, in order, with a space after each.
-    pub(crate) fn into_asked(self) -> String {
-        self.asked
-    }
-
-    fn keep(&mut self, name: &str) -> Result<(), FileFault> {
-        if self.asked.push_str(name).is_err() || self.asked.push(' ').is_err() {
-            return Err(FileFault::Memory);
-        }
-        Ok(())
-    }
+    pub(crate) asked: String,
 }
 
 impl FileSource for MemoryFiles<'_> {
@@ -38,7 +18,9 @@ impl FileSource for MemoryFiles<'_> {
     ghost answers = { λ _ _ _ _ _. Unit {0} };
 
     fn read(&mut self, alloc: Global, name: &str) -> Result<Vec<u8>, FileFault> {
-        self.keep(name)?;
+        if self.asked.push_str(name).is_err() || self.asked.push(' ').is_err() {
+            return Err(FileFault::Memory);
+        }
         match self.row.file_value(name) {
             None => Err(FileFault::CannotRead),
             Some(value) if value.is_null() => Err(FileFault::Memory),

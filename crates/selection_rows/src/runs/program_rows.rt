@@ -49,11 +49,12 @@ fn long_filter(alloc: Global, row: Row<'_>) -> Result<Option<String>, RowFault> 
 
 /// Tells what a run ended with, what it wrote, and the names of the files that it read.
 fn tell_run(alloc: Global, row: Row<'_>, words: &[&str], answers: &mut Answers) {
-    let mut files = MemoryFiles::new(alloc, row);
+    let asked = String::new(alloc);
+    let mut files = MemoryFiles { row, asked };
     let (mut out, mut err) = (Vec::new(alloc), Vec::new(alloc));
     let status = run(alloc, words, &mut files, &mut out, &mut err);
     answers.show("status", &status);
-    answers.keep("read", Ok(files.into_asked()));
+    answers.keep("read", Ok(files.asked));
     answers.written("stdout", out, true);
     answers.written("stderr", err, true);
 }

@@ -20,7 +20,10 @@ pub(crate) fn tell_selection(
     let mut lister = FileLister::new(alloc, listings_in(alloc, row)?)?;
     match selected(alloc, question, scope, plain, &texts, &mut lister) {
         Ok(selection) => tell_report(alloc, &selection, answers),
-        Err(error) => tell_refusal(&error, answers),
+        Err(error) => {
+            answers.show("report", &"refused");
+            answers.show("refused", &error);
+        }
     }
     answers.words("asked", lister.asked());
     answers.show("failures", &lister.failures());
@@ -44,11 +47,6 @@ fn selected(
         return select_plain(alloc, record, choice, table, scope, texts, lister);
     }
     select(alloc, record, choice, table, scope, texts, lister)
-}
-
-fn tell_refusal(error: &SelectError, answers: &mut Answers) {
-    answers.show("report", &"refused");
-    answers.show("refused", error);
 }
 
 /// Tells the report that is written, the chosen tests, which are to be the same lines, and that the

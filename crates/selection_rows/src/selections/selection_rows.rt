@@ -3,7 +3,7 @@ use crate::selections::selecting::tell_selection;
 use crate::selections::switching::tell_switching;
 use row_program::{Answers, Question, Row, RowFault, RowRunner, question_in};
 use std::alloc::Global;
-use test_select::{LinkScope, WorkspaceRecord, check_record};
+use test_select::{LinkScope, check_record};
 
 /// Rows of selections. A row's `files` are `record.json`, and where it has them `choice.json`,
 /// `table.json`, `listings.json` and `switched.json`, and its `texts` the filter texts; where it has
@@ -40,7 +40,10 @@ fn tell_question(
     answers: &mut Answers,
 ) -> Result<(), RowFault> {
     if row.get("checked").is_some() {
-        tell_checked(alloc, question.record, answers);
+        match check_record(alloc, question.record) {
+            Ok(()) => answers.show("checked", &"none"),
+            Err(error) => answers.show("checked", &error),
+        }
     }
     tell_binaries(alloc, question.record, answers);
     tell_switching(alloc, row, question, answers)?;
@@ -48,14 +51,6 @@ fn tell_question(
         tell_selection(alloc, row, question, *scope, answers)?;
     }
     Ok(())
-}
-
-/// Tells the first rule that the record breaks.
-fn tell_checked(alloc: Global, record: &WorkspaceRecord, answers: &mut Answers) {
-    match check_record(alloc, record) {
-        Ok(()) => answers.show("checked", &"none"),
-        Err(error) => answers.show("checked", &error),
-    }
 }
 
 /// The scopes in which the row selects.

@@ -1,6 +1,5 @@
 //! What the features that are on switch on, as texts.
 
-use guppy_package_graph::PackageGraph;
 use row_program::{Answers, Question, Row, RowFault, add_feature, record_in};
 use std::alloc::Global;
 use std::fmt::Display;
@@ -32,6 +31,7 @@ pub(crate) fn tell_switching(
     }
 }
 
+/// Tells what is on. A feature that `contains` denies has a `?` before it.
 fn tell_on(
     alloc: Global,
     row: Row<'_>,
@@ -39,7 +39,11 @@ fn tell_on(
     on: &FeaturesOn,
     answers: &mut Answers,
 ) -> Result<(), RowFault> {
-    tell_features(on, answers);
+    answers.begin("on");
+    for feature in on.as_slice() {
+        answers.part(" ", if on.contains(feature) { &"" } else { &"?" });
+        add_feature(feature, answers);
+    }
     if row.file_value("switched.json").is_some() {
         let switched = record_in(alloc, row, "switched.json")?;
         tell_links(alloc, &switched, table, on, answers);
@@ -48,16 +52,7 @@ fn tell_on(
     Ok(())
 }
 
-/// Tells what is on. A feature that `contains` denies has a `?` before it.
-fn tell_features(on: &FeaturesOn, answers: &mut Answers) {
-    answers.begin("on");
-    for feature in on.as_slice() {
-        let before = if on.contains(feature) { "" } else { "?" };
-        answers.part(" ", &before);
-        add_feature(feature, answers);
-    }
-}
-
+/// Tells of each link of the record whether it is left where the lines that are on are.
 fn tell_links(
     alloc: Global,
     record: &WorkspaceRecord,
@@ -66,28 +61,17 @@ fn tell_links(
     answers: &mut Answers,
 ) {
     match declared_graph(alloc, record) {
-        Ok(graph) => tell_links_of(alloc, &graph, table, on, answers),
-        Err(error) => answers.show("links", &error),
-    }
-}
-
-/// Tells of each link of the graph whether it is left where the lines that are on are.
-fn tell_links_of(
-    alloc: Global,
-    graph: &PackageGraph,
-    table: &PlatformTable,
-    on: &FeaturesOn,
-    answers: &mut Answers,
-) {
-    match switched_on(alloc, graph, on, table) {
-        Ok(switched) => {
-            answers.begin("links");
-            for link in graph.link_rows() {
-                let is_on = has_link(switched.link_rows(), link);
-                add_line(&link.from, &link.name, is_on, answers);
+        Ok(graph) => match switched_on(alloc, &graph, on, table) {
+            Ok(switched) => {
+                answers.begin("links");
+                for link in graph.link_rows() {
+                    let is_on = has_link(switched.link_rows(), link);
+                    add_line(&link.from, &link.name, is_on, answers);
+                }
             }
-        }
-        Err(refused) => answers.keep("links", Err(refused)),
+            Err(refused) => answers.keep("links", Err(refused)),
+        },
+        Err(error) => answers.show("links", &error),
     }
 }
 

@@ -1,9 +1,8 @@
 use crate::features::accounts::rule_texts::{tell_conclusions, tell_rules};
 use crate::features::accounts::switching::tell_switching;
-use feature_account::{Verdict, check_account, check_explanation, rules};
-use record_files::AccountFile;
+use feature_account::{check_account, check_explanation, rules};
 use row_program::{Answers, Question, Row, RowFault, RowRunner, account_in, question_in};
-use std::alloc::{AllocError, Global};
+use std::alloc::Global;
 
 /// Rows of rules, accounts and explanations. A row's `files` are `record.json`, and where it has them
 /// `choice.json`, `table.json` and `account.json`; its `account` is a list of numbers. What comes is
@@ -29,51 +28,39 @@ impl RowRunner for AccountRows {
     }
 }
 
+/// Tells the rules, what is on by them, what those of the account conclude, and the verdict on it.
 fn tell_question(
     alloc: Global,
     row: Row<'_>,
     question: Question<'_>,
     answers: &mut Answers,
 ) -> Result<(), RowFault> {
-    let numbers = row.numbers(alloc, "account")?;
-    tell_listed(alloc, question, &numbers, answers);
-    let account = account_in(alloc, row)?;
-    match verdict_on(alloc, question, &account) {
-        Ok(verdict) => answers.keep("verdict", format!(in alloc; "{verdict:?}")),
-        Err(refused) => answers.keep("verdict", Err(refused)),
-    }
-    Ok(())
+    tell_verdict(alloc, row, question, answers)?;
+    let account = row.numbers(alloc, "account")?;
+    let rules = rules(alloc, question.record, question.choice, question.table)?;
+    tell_rules(&rules, answers);
+    tell_conclusions(&rules, &account, answers);
+    tell_switching(alloc, question, &rules, answers)
 }
 
-/// Tells the rules, what is on by them, and what those of the account conclude.
-fn tell_listed(alloc: Global, question: Question<'_>, account: &[usize], answers: &mut Answers) {
-    let Question {
-        record,
-        choice,
-        table,
-    } = question;
-    match rules(alloc, record, choice, table) {
-        Ok(rules) => {
-            tell_rules(&rules, answers);
-            tell_switching(alloc, question, &rules, answers);
-            tell_conclusions(&rules, account, answers);
-        }
-        Err(refused) => answers.keep("rules", Err(refused)),
-    }
-}
-
-fn verdict_on(
+/// Tells what is to be said of the account, or of the explanation where it has a goal.
+fn tell_verdict(
     alloc: Global,
+    row: Row<'_>,
     question: Question<'_>,
-    account: &AccountFile,
-) -> Result<Verdict, AllocError> {
+    answers: &mut Answers,
+) -> Result<(), RowFault> {
     let Question {
         record,
         choice,
         table,
     } = question;
-    match &account.goal {
+    let account = account_in(alloc, row)?;
+    let judged = match &account.goal {
         None => check_account(alloc, record, choice, table, &account.rules),
         Some(goal) => check_explanation(alloc, record, choice, table, goal, &account.rules),
-    }
+    };
+    let verdict = judged?;
+    answers.keep("verdict", format!(in alloc; "{verdict:?}"));
+    Ok(())
 }

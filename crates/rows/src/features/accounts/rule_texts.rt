@@ -7,26 +7,22 @@ use row_program::{Answers, add_feature};
 pub(crate) fn tell_rules(rules: &[Rule], answers: &mut Answers) {
     answers.begin("rules");
     for rule in rules {
-        add_premises(&rule.premises, answers);
+        match &rule.premises {
+            Premises::None => {}
+            Premises::One(premise) => {
+                add_feature(premise, answers);
+                answers.add(&" ");
+            }
+            Premises::Two(first, second) => {
+                add_feature(first, answers);
+                answers.add(&" & ");
+                add_feature(second, answers);
+                answers.add(&" ");
+            }
+        }
         answers.add(&"-> ");
         add_feature(&rule.conclusion, answers);
         answers.add(&"\n");
-    }
-}
-
-fn add_premises(premises: &Premises, answers: &mut Answers) {
-    match premises {
-        Premises::None => {}
-        Premises::One(premise) => {
-            add_feature(premise, answers);
-            answers.add(&" ");
-        }
-        Premises::Two(first, second) => {
-            add_feature(first, answers);
-            answers.add(&" & ");
-            add_feature(second, answers);
-            answers.add(&" ");
-        }
     }
 }
 

@@ -5,8 +5,8 @@ use feature_account_making::account_of;
 use guppy_feature_graph::{
     FeatureGraph, FeatureGraphData, FeatureId, FeatureLabel, FeatureQuery, FeatureSet,
 };
-use guppy_package_graph::{Error, LinkRow, PackageGraph, PackageGraphError, PackageId};
-use row_program::{Answers, Question, add_feature};
+use guppy_package_graph::{PackageGraph, PackageId};
+use row_program::{Answers, Question, RowFault, add_feature};
 use std::alloc::{AllocError, Global};
 use test_select_feature_laws::LineVerdict;
 use test_select_features::{dependency_order, switched_on};
@@ -21,55 +21,36 @@ pub(crate) fn tell_switching(
     question: Question<'_>,
     rules: &[Rule],
     answers: &mut Answers,
-) {
-    match features_on(alloc, rules) {
-        Ok(on) => {
-            tell_on(on.as_slice(), answers);
-            match graph_of(alloc, question.record) {
-                Ok(graph) => tell_graph(alloc, &graph, question.table, rules, &on, answers),
-                Err(error) => answers.show("refused", &error),
-            }
-        }
-        Err(refused) => answers.keep("on", Err(refused)),
-    }
-}
-
-/// What the account of what is on concludes.
-fn features_on(alloc: Global, rules: &[Rule]) -> Result<FeaturesOn, AllocError> {
-    let account = account_of(alloc, rules)?;
-    FeaturesOn::of(conclusions(alloc, rules, &account.rules)?)
-}
-
-fn conclusions(
-    alloc: Global,
-    rules: &[Rule],
-    account: &[usize],
-) -> Result<Vec<Feature>, AllocError> {
-    let mut features = Vec::new(alloc);
-    for number in account {
-        if let Some(rule) = rules.get(*number) {
-            features.push(rule.conclusion.copy(alloc)?)?;
-        }
-    }
-    Ok(features)
-}
-
-fn tell_on(on: &[Feature], answers: &mut Answers) {
+) -> Result<(), RowFault> {
+    let on = features_on(alloc, rules)?;
     answers.begin("on");
-    for feature in on {
+    for feature in on.as_slice() {
         answers.part(" ", &"");
         add_feature(feature, answers);
     }
-}
-
-fn graph_of(alloc: Global, record: &WorkspaceRecord) -> Result<PackageGraph, PackageGraphError> {
     let WorkspaceRecord {
         packages,
         links,
         workspace,
         ..
-    } = record.copy(alloc)?;
-    PackageGraph::from_records(alloc, packages, links, workspace)
+    } = question.record.copy(alloc)?;
+    match PackageGraph::from_records(alloc, packages, links, workspace) {
+        Ok(graph) => tell_graph(alloc, &graph, question.table, rules, &on, answers)?,
+        Err(error) => answers.show("refused", &error),
+    }
+    Ok(())
+}
+
+/// What the account of what is on concludes.
+fn features_on(alloc: Global, rules: &[Rule]) -> Result<FeaturesOn, AllocError> {
+    let account = account_of(alloc, rules)?;
+    let mut features = Vec::new(alloc);
+    for number in &account.rules {
+        if let Some(rule) = rules.get(*number) {
+            features.push(rule.conclusion.copy(alloc)?)?;
+        }
+    }
+    FeaturesOn::of(features)
 }
 
 fn tell_graph(
@@ -79,29 +60,25 @@ fn tell_graph(
     rules: &[Rule],
     on: &FeaturesOn,
     answers: &mut Answers,
-) {
+) -> Result<(), RowFault> {
     match switched_on(alloc, graph, on, table) {
-        Ok(switched) => tell_links(switched.link_rows(), answers),
+        Ok(switched) => {
+            answers.begin("switched");
+            for link in switched.link_rows() {
+                answers.part("; ", &link.from);
+                answers.part(" ", &link.name);
+                answers.part(" ", &link.to);
+                answers.part(": ", &link.lines.len());
+            }
+        }
         Err(refused) => answers.keep("switched", Err(refused)),
     }
     answers.list("order", dependency_order(alloc, graph, on, table));
-    match FeatureGraphData::build(alloc, graph) {
-        Ok(data) => tell_features(alloc, &data, table, rules, on.as_slice(), answers),
-        Err(refused) => answers.keep("resolved", Err(refused)),
-    }
+    let data = FeatureGraphData::build(alloc, graph)?;
+    tell_features(alloc, &data, table, rules, on.as_slice(), answers)
 }
 
-/// Tells each link with the number of its lines.
-fn tell_links(links: &[LinkRow], answers: &mut Answers) {
-    answers.begin("switched");
-    for link in links {
-        answers.part("; ", &link.from);
-        answers.part(" ", &link.name);
-        answers.part(" ", &link.to);
-        answers.part(": ", &link.lines.len());
-    }
-}
-
+/// Asks from the features that have no premise, each of the package with the id at its place.
 fn tell_features(
     alloc: Global,
     data: &FeatureGraphData<'_>,
@@ -109,50 +86,17 @@ fn tell_features(
     rules: &[Rule],
     on: &[Feature],
     answers: &mut Answers,
-) {
-    match start_ids(alloc, rules) {
-        Ok(ids) => match query_from(alloc, FeatureGraph::of(data), rules, &ids) {
-            Ok(query) => tell_reached(alloc, query, table, on, answers),
-            Err(error) => answers.show("resolved", &error),
-        },
-        Err(refused) => answers.keep("resolved", Err(refused)),
+) -> Result<(), RowFault> {
+    let ids = start_ids(alloc, rules)?;
+    let mut starts = Vec::with_capacity(alloc, ids.len())?;
+    for (rule, id) in rules.iter().zip(&ids) {
+        starts.push(FeatureId::new(id, label_of(&rule.conclusion.label)))?;
     }
-}
-
-fn tell_reached(
-    alloc: Global,
-    query: FeatureQuery<'_>,
-    table: &PlatformTable,
-    on: &[Feature],
-    answers: &mut Answers,
-) {
-    match resolved_by(alloc, query, table) {
-        Ok(included) => tell_included(alloc, on, &included, answers),
-        Err(refused) => answers.keep("resolved", Err(refused)),
+    match FeatureGraph::of(data).query_forward(alloc, &starts) {
+        Ok(query) => tell_reached(alloc, query, table, on, answers)?,
+        Err(error) => answers.show("resolved", &error),
     }
-}
-
-fn resolved_by<'g>(
-    alloc: Global,
-    query: FeatureQuery<'g>,
-    table: &PlatformTable,
-) -> Result<FeatureSet<'g>, AllocError> {
-    let mut verdict = LineVerdict::new(alloc, table)?;
-    query.resolve_with(alloc, &mut verdict)
-}
-
-/// Asks from the features that have no premise, each of the package with the id at its place.
-fn query_from<'g>(
-    alloc: Global,
-    graph: FeatureGraph<'g>,
-    rules: &[Rule],
-    package_ids: &[PackageId],
-) -> Result<FeatureQuery<'g>, Error> {
-    let mut starts = Vec::new(alloc);
-    for (rule, package_id) in rules.iter().zip(package_ids) {
-        starts.push(FeatureId::new(package_id, label_of(&rule.conclusion.label)))?;
-    }
-    graph.query_forward(alloc, &starts)
+    Ok(())
 }
 
 /// The ids of the packages of what has no premise.
@@ -160,14 +104,11 @@ fn start_ids(alloc: Global, rules: &[Rule]) -> Result<Vec<PackageId>, AllocError
     let mut ids = Vec::new(alloc);
     for rule in rules {
         if let Premises::None = rule.premises {
-            ids.push(package_id_of(alloc, &rule.conclusion)?)?;
+            let package = String::from_str(alloc, rule.conclusion.package.as_str())?;
+            ids.push(PackageId::new(package))?;
         }
     }
     Ok(ids)
-}
-
-fn package_id_of(alloc: Global, feature: &Feature) -> Result<PackageId, AllocError> {
-    Ok(PackageId::new(String::from_str(alloc, feature.package.as_str())?))
 }
 
 fn label_of(label: &Label) -> FeatureLabel<'_> {
@@ -178,15 +119,31 @@ fn label_of(label: &Label) -> FeatureLabel<'_> {
     }
 }
 
+fn tell_reached(
+    alloc: Global,
+    query: FeatureQuery<'_>,
+    table: &PlatformTable,
+    on: &[Feature],
+    answers: &mut Answers,
+) -> Result<(), AllocError> {
+    let mut verdict = LineVerdict::new(alloc, table)?;
+    let included = query.resolve_with(alloc, &mut verdict)?;
+    tell_included(alloc, on, &included, answers)
+}
+
 /// Tells what is on, with a `?` before what the set lacks, and how many features more the set has.
-fn tell_included(alloc: Global, on: &[Feature], included: &FeatureSet<'_>, answers: &mut Answers) {
+fn tell_included(
+    alloc: Global,
+    on: &[Feature],
+    included: &FeatureSet<'_>,
+    answers: &mut Answers,
+) -> Result<(), AllocError> {
     answers.begin("resolved");
     for feature in on {
-        match has_feature(alloc, included, feature) {
-            Ok(true) => answers.part(" ", &""),
-            Ok(false) => answers.part(" ", &"?"),
-            Err(refused) => answers.keep("resolved", Err(refused)),
-        }
+        let package_id = PackageId::new(String::from_str(alloc, feature.package.as_str())?);
+        let id = FeatureId::new(&package_id, label_of(&feature.label));
+        let is_included = matches!(included.contains(id), Ok(true));
+        answers.part(" ", if is_included { &"" } else { &"?" });
         add_feature(feature, answers);
     }
     let more = included.len().saturating_sub(on.len());
@@ -194,14 +151,5 @@ fn tell_included(alloc: Global, on: &[Feature], included: &FeatureSet<'_>, answe
         answers.part(" and ", &more);
         answers.add(&" more");
     }
-}
-
-fn has_feature(
-    alloc: Global,
-    included: &FeatureSet<'_>,
-    feature: &Feature,
-) -> Result<bool, AllocError> {
-    let package_id = package_id_of(alloc, feature)?;
-    let id = FeatureId::new(&package_id, label_of(&feature.label));
-    Ok(matches!(included.contains(id), Ok(true)))
+    Ok(())
 }

@@ -2,7 +2,8 @@
 
 use crate::features::graphs::link_texts::link_text;
 use guppy_feature_graph::{ConditionalLink, FeatureLinkContext, FeatureLinkVisitor};
-use row_program::Answers;
+use row_program::{Answers, Row, RowFault};
+use serde_json::Value;
 use std::alloc::{AllocError, Global};
 
 /// What is accepted.
@@ -25,33 +26,24 @@ pub(crate) enum Rule {
 }
 
 impl Rule {
-    pub(crate) fn of(word: &str) -> Option<Rule> {
-        match word {
-            "all" => Some(Rule::All),
-            "nothing" => Some(Rule::Nothing),
-            "once" => Some(Rule::Once),
-            "alternate" => Some(Rule::Alternate),
-            "required" => Some(Rule::Required),
-            "optional" => Some(Rule::Optional),
-            "normal" => Some(Rule::Normal),
-            "build" => Some(Rule::Build),
-            "dev" => Some(Rule::Dev),
-            _ => None,
-        }
-    }
-
-    fn accepts(self, asked: usize, link: ConditionalLink<'_>) -> bool {
-        match self {
-            Rule::All => true,
-            Rule::Nothing => false,
-            Rule::Once => asked == 0,
-            Rule::Alternate => asked % 2 == 0,
-            Rule::Required => link.declarations().includes_required(),
-            Rule::Optional => link.declarations().includes_optional(),
-            Rule::Normal => link.normal().is_present(),
-            Rule::Build => link.build().is_present(),
-            Rule::Dev => link.dev().is_present(),
-        }
+    /// The rule that the row names under `accepts`, if it names one.
+    pub(crate) fn of(row: Row<'_>) -> Result<Option<Rule>, RowFault> {
+        let Some(word) = row.get("accepts").and_then(Value::as_str) else {
+            return Ok(None);
+        };
+        let rule = match word {
+            "all" => Rule::All,
+            "nothing" => Rule::Nothing,
+            "once" => Rule::Once,
+            "alternate" => Rule::Alternate,
+            "required" => Rule::Required,
+            "optional" => Rule::Optional,
+            "normal" => Rule::Normal,
+            "build" => Rule::Build,
+            "dev" => Rule::Dev,
+            _ => return Err(RowFault::Key("accepts")),
+        };
+        Ok(Some(rule))
     }
 }
 
@@ -82,7 +74,17 @@ impl Chooser {
         cx: &FeatureLinkContext<'_>,
         link: ConditionalLink<'_>,
     ) -> bool {
-        let accepted = self.rule.accepts(self.asked, link);
+        let accepted = match self.rule {
+            Rule::All => true,
+            Rule::Nothing => false,
+            Rule::Once => self.asked == 0,
+            Rule::Alternate => self.asked % 2 == 0,
+            Rule::Required => link.declarations().includes_required(),
+            Rule::Optional => link.declarations().includes_optional(),
+            Rule::Normal => link.normal().is_present(),
+            Rule::Build => link.build().is_present(),
+            Rule::Dev => link.dev().is_present(),
+        };
         self.asked = self.asked.saturating_add(1);
         if self.texts.push(link_text(self.alloc, cx, link)).is_err() {
             self.lost = true;

@@ -1,6 +1,6 @@
 //! Features named by rows, as `package/name`, `package/dep:name` or `package/[base]`.
 
-use guppy_feature_graph::{FeatureGraph, FeatureId, FeatureLabel, FeatureList, FeatureSet};
+use guppy_feature_graph::{FeatureGraph, FeatureId, FeatureLabel, FeatureSet};
 use guppy_package_graph::PackageId;
 use row_program::{Answers, Row, RowFault};
 use std::alloc::{AllocError, Global};
@@ -9,14 +9,8 @@ use std::fmt::Display;
 /// A package's id, and what its feature is called.
 #[derive(Drop)]
 pub(crate) struct Named<'a> {
-    package_id: PackageId,
-    label: FeatureLabel<'a>,
-}
-
-impl Named<'_> {
-    pub(crate) fn id(&self) -> FeatureId<'_> {
-        FeatureId::new(&self.package_id, self.label)
-    }
+    pub(crate) package_id: PackageId,
+    pub(crate) label: FeatureLabel<'a>,
 }
 
 /// The feature that a text names.
@@ -51,7 +45,7 @@ pub(crate) fn ids_of<'b>(
 ) -> Result<Vec<FeatureId<'b>>, AllocError> {
     let mut ids = Vec::with_capacity(alloc, all.len())?;
     for one in all {
-        ids.push(one.id())?;
+        ids.push(FeatureId::new(&one.package_id, one.label))?;
     }
     Ok(ids)
 }
@@ -71,50 +65,21 @@ pub(crate) fn tell_members<E: Display + Drop>(
     answers: &mut Answers,
 ) {
     match set {
-        Ok(set) => tell_set(key, &set, features, answers),
+        Ok(set) => {
+            answers.begin(key);
+            add_members(&set, features, answers);
+        }
         Err(error) => answers.show(key, &error),
     }
 }
 
-/// Tells those of these features that are in a set.
-pub(crate) fn tell_set(
-    key: &'static str,
-    set: &FeatureSet<'_>,
-    features: &[FeatureId<'_>],
-    answers: &mut Answers,
-) {
-    answers.begin(key);
-    add_members(set, features, answers);
-}
-
 /// Adds those of these features that are in a set, parted by spaces.
 pub(crate) fn add_members(set: &FeatureSet<'_>, features: &[FeatureId<'_>], answers: &mut Answers) {
-    let mut is_first = true;
+    let mut between = "";
     for id in features {
         if let Ok(true) = set.contains(*id) {
-            if !is_first {
-                answers.add(&" ");
-            }
-            answers.add(id);
-            is_first = false;
+            answers.part(between, id);
+            between = " ";
         }
-    }
-}
-
-/// The features of a list, as it prints them.
-pub(crate) fn shown_text(alloc: Global, list: &FeatureList<'_>) -> Result<String, AllocError> {
-    let shown = list.display_features();
-    format!(in alloc; "{shown}")
-}
-
-/// Adds what is answered, or why nothing is.
-pub(crate) fn add_answer<T: Display + Drop, E: Display + Drop>(
-    between: &str,
-    answer: Result<T, E>,
-    answers: &mut Answers,
-) {
-    match answer {
-        Ok(answer) => answers.part(between, &answer),
-        Err(error) => answers.part(between, &error),
     }
 }

@@ -3,7 +3,7 @@ use crate::features::graphs::lists::tell_lists;
 use crate::features::graphs::resolves::tell_resolves;
 use crate::features::graphs::sets::tell_sets;
 use crate::records::graph_under;
-use guppy_feature_graph::{FeatureGraph, FeatureGraphData, FeatureId, FeatureMetadata};
+use guppy_feature_graph::{FeatureGraph, FeatureGraphData, FeatureId};
 use guppy_package_graph::PackageGraph;
 use row_program::{Answers, Row, RowFault, RowRunner};
 use serde_json::Value;
@@ -52,20 +52,9 @@ fn tell_graph(
     answers: &mut Answers,
 ) -> Result<(), RowFault> {
     let data = FeatureGraphData::build(alloc, graph)?;
-    tell_data(alloc, row, &data, answers)
-}
-
-fn tell_data(
-    alloc: Global,
-    row: Row<'_>,
-    data: &FeatureGraphData<'_>,
-    answers: &mut Answers,
-) -> Result<(), RowFault> {
-    let graph = FeatureGraph::of(data);
-    let features = features_of(alloc, data)?;
-    tell_counts(alloc, graph, answers);
+    let features = features_of(alloc, &data)?;
     let asked = Asked {
-        graph,
+        graph: FeatureGraph::of(&data),
         features: &features,
     };
     tell_asked(alloc, row, asked, answers)
@@ -83,24 +72,21 @@ fn features_of<'g>(
     Ok(features)
 }
 
-fn tell_counts(alloc: Global, graph: FeatureGraph<'_>, answers: &mut Answers) {
-    let packages = graph.package_graph().package_count();
-    let (features, links) = (graph.feature_count(), graph.link_count());
-    let warnings = graph.build_warnings().len();
-    answers.keep(
-        "counts",
-        format!(in alloc;
-            "{packages} packages, {features} features, {links} links, {warnings} warnings"
-        ),
-    );
-}
-
 fn tell_asked(
     alloc: Global,
     row: Row<'_>,
     asked: Asked<'_, '_>,
     answers: &mut Answers,
 ) -> Result<(), RowFault> {
+    let packages = asked.graph.package_graph().package_count();
+    let (features, links) = (asked.graph.feature_count(), asked.graph.link_count());
+    let warnings = asked.graph.build_warnings().len();
+    answers.keep(
+        "counts",
+        format!(in alloc;
+            "{packages} packages, {features} features, {links} links, {warnings} warnings"
+        ),
+    );
     tell_found(alloc, row, asked.graph, answers)?;
     tell_sets(alloc, row, asked, answers)?;
     let named = named_in(alloc, row, "starts")?;
@@ -118,18 +104,17 @@ fn tell_found(
 ) -> Result<(), RowFault> {
     if let Some(text) = row.get("find").and_then(Value::as_str) {
         let named = read_feature(alloc, text)?;
-        answers.show("found", &graph.contains(named.id()));
-        match graph.metadata(named.id()) {
-            Ok(feature) => add_feature(feature, answers),
+        let id = FeatureId::new(&named.package_id, named.label);
+        answers.show("found", &graph.contains(id));
+        match graph.metadata(id) {
+            Ok(feature) => {
+                answers.part(", ", &feature.feature_id());
+                answers.part(" is ", &feature.label());
+                answers.part(" of ", feature.package_id());
+                answers.part(", called ", &feature.package().name());
+            }
             Err(error) => answers.part(", ", &error),
         }
     }
     Ok(())
-}
-
-fn add_feature(feature: FeatureMetadata<'_>, answers: &mut Answers) {
-    answers.part(", ", &feature.feature_id());
-    answers.part(" is ", &feature.label());
-    answers.part(" of ", feature.package_id());
-    answers.part(", called ", &feature.package().name());
 }

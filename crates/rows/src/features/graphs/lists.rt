@@ -1,14 +1,14 @@
 //! The features of packages, default features, cycles, and what filters take.
 
-use crate::features::graphs::features::{Asked, add_answer, add_members, shown_text, tell_members};
+use crate::features::graphs::features::{Asked, add_members, tell_members};
+use crate::ids::id_in;
 use guppy_feature_graph::{
-    FeatureFilter, FeatureGraph, FeatureId, FeatureList, StandardFeatures, default_feature_id,
+    Cycles, FeatureFilter, FeatureGraph, FeatureId, StandardFeatures, default_feature_id,
     package_to_feature_set,
 };
 use guppy_package_graph::PackageId;
 use row_program::{Answers, Row, RowFault};
-use serde_json::Value;
-use std::alloc::Global;
+use std::alloc::{AllocError, Global};
 
 pub(crate) fn tell_lists(
     alloc: Global,
@@ -17,18 +17,18 @@ pub(crate) fn tell_lists(
     starts: &[FeatureId<'_>],
     answers: &mut Answers,
 ) -> Result<(), RowFault> {
-    if let Some(text) = row.get("package").and_then(Value::as_str) {
-        let id = PackageId::new(String::from_str(alloc, text)?);
+    if let Some(id) = id_in(alloc, row, "package")? {
         tell_package(alloc, asked, starts, &id, answers);
     }
-    tell_defaults(asked, answers);
-    tell_cycles(alloc, asked.graph, answers);
-    tell_workspace(alloc, asked, answers);
-    tell_standard(alloc, asked.graph, answers);
-    answers.show("verified", &asked.graph.verify().is_ok());
-    if let [a, b, ..] = starts {
-        tell_pair(alloc, asked.graph, *a, *b, answers);
+    answers.begin("defaults");
+    for id in asked.features {
+        if let Ok(true) = asked.graph.is_default_feature(*id) {
+            answers.part(" ", id);
+        }
     }
+    answers.show("verified", &asked.graph.verify().is_ok());
+    tell_cycles(alloc, asked.graph, starts, answers)?;
+    tell_workspace(alloc, asked, answers)?;
     Ok(())
 }
 
@@ -42,22 +42,18 @@ fn tell_package(
 ) {
     match asked.graph.all_features_for(alloc, id) {
         Ok(list) => {
-            tell_list(alloc, asked, &list, answers);
+            answers.show("features", &list.display_features());
+            answers.show("default", &default_feature_id(list.package()));
+            match asked.graph.package_graph().metadata(list.package().id()) {
+                Ok(package) => {
+                    let own = package_to_feature_set(alloc, &asked.graph, &package);
+                    tell_members("own", own, asked.features, answers);
+                }
+                Err(error) => answers.show("own", &error),
+            }
             tell_kept(alloc, asked.graph, starts, id, answers);
         }
         Err(error) => answers.show("features", &error),
-    }
-}
-
-fn tell_list(alloc: Global, asked: Asked<'_, '_>, list: &FeatureList<'_>, answers: &mut Answers) {
-    answers.keep("features", shown_text(alloc, list));
-    answers.show("default", &default_feature_id(list.package()));
-    match asked.graph.package_graph().metadata(list.package().id()) {
-        Ok(package) => {
-            let own = package_to_feature_set(alloc, &asked.graph, &package);
-            tell_members("own", own, asked.features, answers);
-        }
-        Err(error) => answers.show("own", &error),
     }
 }
 
@@ -71,9 +67,9 @@ fn tell_kept(
     answers.begin("kept");
     match graph.resolve_ids(alloc, starts) {
         Ok(set) => {
-            add_answer("", set.contains_package(id), answers);
+            answers.answered("", set.contains_package(id));
             match set.features_for(alloc, id) {
-                Ok(Some(list)) => add_answer(": ", shown_text(alloc, &list), answers),
+                Ok(Some(list)) => answers.part(": ", &list.display_features()),
                 Ok(None) => answers.part(": ", &"none"),
                 Err(error) => answers.part(": ", &error),
             }
@@ -82,27 +78,43 @@ fn tell_kept(
     }
 }
 
-fn tell_defaults(asked: Asked<'_, '_>, answers: &mut Answers) {
-    answers.begin("defaults");
-    for id in asked.features {
-        if let Ok(true) = asked.graph.is_default_feature(*id) {
-            answers.part(" ", id);
+/// Tells the cycles, and how the first two of the starts stand to each other.
+fn tell_cycles(
+    alloc: Global,
+    graph: FeatureGraph<'_>,
+    starts: &[FeatureId<'_>],
+    answers: &mut Answers,
+) -> Result<(), AllocError> {
+    let cycles = graph.cycles(alloc)?;
+    answers.begin("cycles");
+    for cycle in cycles.all_cycles() {
+        answers.part(";", &"");
+        for id in cycle {
+            answers.part(" ", &id);
         }
     }
+    if let [a, b, ..] = starts {
+        tell_pair(alloc, graph, &cycles, *a, *b, answers);
+    }
+    Ok(())
 }
 
-fn tell_cycles(alloc: Global, graph: FeatureGraph<'_>, answers: &mut Answers) {
-    match graph.cycles(alloc) {
-        Ok(cycles) => {
-            answers.begin("cycles");
-            for cycle in cycles.all_cycles() {
-                answers.part(";", &"");
-                for id in cycle {
-                    answers.part(" ", &id);
-                }
-            }
+fn tell_pair(
+    alloc: Global,
+    graph: FeatureGraph<'_>,
+    cycles: &Cycles<'_>,
+    a: FeatureId<'_>,
+    b: FeatureId<'_>,
+    answers: &mut Answers,
+) {
+    match graph.depends_on(alloc, a, b) {
+        Ok(depends) => {
+            answers.show("pair", &"depends");
+            answers.part(" ", &depends);
+            answers.answered(", directly ", graph.directly_depends_on(a, b));
+            answers.answered(", cyclic ", cycles.is_cyclic(a, b));
         }
-        Err(refused) => answers.keep("cycles", Err(refused)),
+        Err(error) => answers.show("pair", &error),
     }
 }
 
@@ -127,49 +139,23 @@ impl FeatureFilter for Counter {
     }
 }
 
-/// Tells how often a filter is asked, and what is taken.
-fn tell_workspace(alloc: Global, asked: Asked<'_, '_>, answers: &mut Answers) {
-    let mut counter = Counter { calls: 0 };
-    match asked.graph.query_workspace(alloc, &mut counter) {
-        Ok(query) => {
-            answers.show("workspace", &counter.calls);
-            answers.add(&" calls: ");
-            add_members(query.initials(), asked.features, answers);
-        }
-        Err(refused) => answers.keep("workspace", Err(refused)),
-    }
-}
-
-/// Tells how many features of the workspace each standard choice takes.
-fn tell_standard(alloc: Global, graph: FeatureGraph<'_>, answers: &mut Answers) {
+/// Tells how many features of the workspace each standard choice takes, and how often a filter is asked, and
+/// what is taken.
+fn tell_workspace(
+    alloc: Global,
+    asked: Asked<'_, '_>,
+    answers: &mut Answers,
+) -> Result<(), AllocError> {
     answers.begin("standard");
     for standard in StandardFeatures::VALUES {
         let mut filter = *standard;
-        match graph.query_workspace(alloc, &mut filter) {
-            Ok(query) => answers.part(" ", &query.initials().len()),
-            Err(refused) => answers.keep("standard", Err(refused)),
-        }
+        let query = asked.graph.query_workspace(alloc, &mut filter)?;
+        answers.part(" ", &query.initials().len());
     }
-}
-
-/// Tells how the first two of the starts stand to each other.
-fn tell_pair(
-    alloc: Global,
-    graph: FeatureGraph<'_>,
-    a: FeatureId<'_>,
-    b: FeatureId<'_>,
-    answers: &mut Answers,
-) {
-    match graph.depends_on(alloc, a, b) {
-        Ok(depends) => {
-            answers.show("pair", &"depends");
-            answers.part(" ", &depends);
-            add_answer(", directly ", graph.directly_depends_on(a, b), answers);
-            match graph.cycles(alloc) {
-                Ok(cycles) => add_answer(", cyclic ", cycles.is_cyclic(a, b), answers),
-                Err(refused) => answers.keep("pair", Err(refused)),
-            }
-        }
-        Err(error) => answers.show("pair", &error),
-    }
+    let mut counter = Counter { calls: 0 };
+    let query = asked.graph.query_workspace(alloc, &mut counter)?;
+    answers.show("workspace", &counter.calls);
+    answers.add(&" calls: ");
+    add_members(query.initials(), asked.features, answers);
+    Ok(())
 }

@@ -3,7 +3,7 @@
 ghost use Rattle.std.specs.Prelude.{◌≡◌, ◌<◌};
 
 use crate::features::graphs::chooser::{Chooser, Rule};
-use crate::features::graphs::features::{Asked, tell_members, tell_set};
+use crate::features::graphs::features::{Asked, add_members, tell_members};
 use guppy_feature_graph::{
     ConditionalLink, FeatureGraph, FeatureId, FeatureLinkContext, FeatureQuery, FeatureSet,
 };
@@ -22,7 +22,7 @@ pub(crate) fn tell_resolves(
     starts: &[FeatureId<'_>],
     answers: &mut Answers,
 ) -> Result<(), RowFault> {
-    let rule = rule_in(row)?;
+    let rule = Rule::of(row)?;
     match query_of(alloc, row, asked.graph, starts) {
         Ok(query) => tell_reach(alloc, asked, query, answers),
         Err(error) => answers.show("refused", &error),
@@ -38,7 +38,8 @@ pub(crate) fn tell_resolves(
 }
 
 fn tell_reach(alloc: Global, asked: Asked<'_, '_>, query: FeatureQuery<'_>, answers: &mut Answers) {
-    tell_set("initials", query.initials(), asked.features, answers);
+    answers.begin("initials");
+    add_members(query.initials(), asked.features, answers);
     let reached = query.resolve(alloc);
     if let Ok(reached) = &reached {
         answers.show("reached_count", &reached.len());
@@ -99,16 +100,6 @@ fn counted<'g, L: Ledger>(
 {
     let mut looks = Looks::<L>::new(blank);
     query.resolve_with_counted(alloc, chooser, &mut looks)
-}
-
-fn rule_in(row: Row<'_>) -> Result<Option<Rule>, RowFault> {
-    let Some(word) = row.get("accepts").and_then(Value::as_str) else {
-        return Ok(None);
-    };
-    match Rule::of(word) {
-        Some(rule) => Ok(Some(rule)),
-        None => Err(RowFault::Key("accepts")),
-    }
 }
 
 fn query_of<'g>(

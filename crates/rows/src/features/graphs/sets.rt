@@ -5,7 +5,7 @@ use crate::features::graphs::packages::tell_packages;
 use guppy_feature_graph::{FeatureId, FeatureSet};
 use guppy_package_graph::{DependencyDirection, Error};
 use row_program::{Answers, Row, RowFault};
-use std::alloc::Global;
+use std::alloc::{AllocError, Global};
 
 pub(crate) fn tell_sets(
     alloc: Global,
@@ -36,9 +36,8 @@ fn tell_one(
         Ok(two) => tell_joined(alloc, one, &two, asked.features, answers),
         Err(error) => answers.show("unknown", &error),
     }
-    tell_listed(alloc, one, answers);
-    tell_packages(alloc, one, answers);
-    tell_links(alloc, one, answers);
+    tell_listed(alloc, one, answers)?;
+    tell_packages(alloc, one, answers)?;
     Ok(())
 }
 
@@ -72,45 +71,31 @@ fn tell_joined(
     tell_members("either", either, features, answers);
 }
 
-fn tell_listed(alloc: Global, one: &FeatureSet<'_>, answers: &mut Answers) {
-    let (forward, reverse) = (DependencyDirection::Forward, DependencyDirection::Reverse);
-    tell_ids("listed", one, forward, answers);
-    tell_ids("reversed", one, reverse, answers);
-    answers.list("roots", one.root_ids(alloc, forward));
-    answers.list("ends", one.root_ids(alloc, reverse));
-}
-
-fn tell_ids(
-    key: &'static str,
-    set: &FeatureSet<'_>,
-    direction: DependencyDirection,
+/// Tells the features in both directions, the roots and ends, and the links.
+fn tell_listed(
+    alloc: Global,
+    one: &FeatureSet<'_>,
     answers: &mut Answers,
-) {
-    answers.begin(key);
-    for id in set.feature_ids(direction) {
-        answers.part(" ", &id);
-    }
-}
-
-fn tell_links(alloc: Global, one: &FeatureSet<'_>, answers: &mut Answers) {
-    match one.links(alloc) {
-        Ok(links) => {
-            answers.begin("inside");
-            for (from, to, _) in &links {
-                answers.part(" ", from);
-                answers.part(">", to);
-            }
+) -> Result<(), AllocError> {
+    for (listed, roots, direction) in [
+        ("listed", "roots", DependencyDirection::Forward),
+        ("reversed", "ends", DependencyDirection::Reverse),
+    ] {
+        answers.begin(listed);
+        for id in one.feature_ids(direction) {
+            answers.part(" ", &id);
         }
-        Err(refused) => answers.keep("inside", Err(refused)),
+        answers.list(roots, one.root_ids(alloc, direction));
     }
-    match one.conditional_links(alloc) {
-        Ok(links) => {
-            answers.begin("conditional");
-            for link in &links {
-                answers.part(" ", &link.from().feature_id());
-                answers.part(">", &link.to().feature_id());
-            }
-        }
-        Err(refused) => answers.keep("conditional", Err(refused)),
+    answers.begin("inside");
+    for (from, to, _) in &one.links(alloc)? {
+        answers.part(" ", from);
+        answers.part(">", to);
     }
+    answers.begin("conditional");
+    for link in &one.conditional_links(alloc)? {
+        answers.part(" ", &link.from().feature_id());
+        answers.part(">", &link.to().feature_id());
+    }
+    Ok(())
 }

@@ -1,4 +1,4 @@
-use crate::features::nodes::texts::{tell_edges, tell_nodes, tell_warnings};
+use crate::features::nodes::texts::{tell_nodes_and_edges, tell_warnings};
 use crate::records::graph_under;
 use guppy_feature_nodes::{FeatureGraphData, FeatureName};
 use guppy_package_graph::PackageGraph;
@@ -36,25 +36,14 @@ fn tell_graph(
     graph: &PackageGraph,
     answers: &mut Answers,
 ) -> Result<(), RowFault> {
+    let words = row.texts(alloc, "find")?;
     let data = FeatureGraphData::build(alloc, graph)?;
-    tell_nodes(&data, answers);
-    tell_edges(&data, answers);
+    tell_nodes_and_edges(&data, answers);
     tell_warnings(&data, answers);
     answers.show("counts", &graph.package_count());
     answers.part(" packages, ", &data.feature_count());
     answers.part(" nodes, ", &data.link_count());
     answers.add(&" edges");
-    tell_place(alloc, row, &data, answers)
-}
-
-/// Tells whether a package names a feature, and its number.
-fn tell_place(
-    alloc: Global,
-    row: Row<'_>,
-    data: &FeatureGraphData<'_>,
-    answers: &mut Answers,
-) -> Result<(), RowFault> {
-    let words = row.texts(alloc, "find")?;
     if let [package, name] = words.as_slice() {
         let feature = FeatureName::named(*package, *name);
         answers.show("found", &data.contains(feature));

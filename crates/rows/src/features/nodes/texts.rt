@@ -4,16 +4,12 @@ use guppy_feature_nodes::{FeatureEdge, FeatureGraphData, SlashForm};
 use guppy_package_graph::{FeatureBuildStage, FeatureGraphWarning};
 use row_program::Answers;
 
-/// Tells the features, in the order of their numbers.
-pub(crate) fn tell_nodes(data: &FeatureGraphData<'_>, answers: &mut Answers) {
+/// Tells the features, in the order of their numbers, and the edges: both ends, why, and the lines behind.
+pub(crate) fn tell_nodes_and_edges(data: &FeatureGraphData<'_>, answers: &mut Answers) {
     answers.begin("nodes");
     for node in 0..data.feature_count() {
         add_end("; ", data, node, answers);
     }
-}
-
-/// Tells the edges: both ends, why, and the lines behind.
-pub(crate) fn tell_edges(data: &FeatureGraphData<'_>, answers: &mut Answers) {
     answers.begin("edges");
     for edge in data.edges() {
         add_end("; ", data, edge.from, answers);

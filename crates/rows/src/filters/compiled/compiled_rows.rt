@@ -2,19 +2,21 @@ ghost use Rattle.std.specs.Prelude.{◌≡◌, IfOk};
 ghost use Rattle.nextest_filter_tokens.specs.declared.filterset_kind.FiltersetKind.TheVariants as kinds;
 ghost use Rattle.nextest_filter_evaluation.specs.Groups.{AreKnown};
 
-use crate::filters::compiled::contexts::{context_in, graph_in};
+use crate::filters::compiled::contexts::context_in;
 use crate::filters::compiled::queries::tell_answers;
-use crate::filters::compiled::row_groups::known_groups;
-use crate::filters::compiled::surface::{tell_filter_calls, tell_groups};
+use crate::filters::compiled::row_groups::tell_groups;
 use crate::filters::spans::add_span;
+use crate::records::graph_under;
 use guppy_package_graph::PackageGraph;
 use nextest_filtering::errors::{FiltersetError, ParseSingleError};
 use nextest_filtering::{
-    CompiledExpr, EvalContext, Filterset, FiltersetKind, KnownGroups, ParseContext,
+    CompiledExpr, EvalContext, FILTERSET_REFERENCE_MD, Filterset, FiltersetKind, KnownGroups,
+    ParseContext,
 };
 use row_program::{Answers, Row, RowFault, RowRunner};
 use serde_json::Value;
 use std::alloc::Global;
+use std::collections::BTreeSet;
 
 /// Rows of one filter each: its `text` and its `kind` (test, archive, override or default), over the
 /// `record`, and over the packages under `context`, with the features under `on`; `groups` are known (to filters that are not of
@@ -57,8 +59,10 @@ impl RowRunner for CompiledRows {
         row: Row<'_>,
         answers: &mut Answers,
     ) -> Result<(), RowFault> {
-        let graph = graph_in(alloc, row)?;
-        tell_graph(alloc, row, &graph, answers)
+        match graph_under(alloc, row)? {
+            Ok(graph) => tell_graph(alloc, row, &graph, answers),
+            Err(error) => Err(RowFault::Refused(format!(in alloc; "{error}")?)),
+        }
     }
 }
 
@@ -69,10 +73,15 @@ fn tell_graph(
     answers: &mut Answers,
 ) -> Result<(), RowFault> {
     let cx = context_in(alloc, row, graph)?;
-    let kind = kind_in(row);
+    let kind = match row.get("kind").and_then(Value::as_str) {
+        Some("archive") => FiltersetKind::TestArchive,
+        Some("override") => FiltersetKind::OverrideFilter,
+        Some("default") => FiltersetKind::DefaultFilter,
+        _ => FiltersetKind::Test,
+    };
     let groups = groups_in(alloc, row, kind)?;
     if let FiltersetKind::Test = kind {
-        tell_groups(alloc, row, &groups, answers);
+        tell_groups(alloc, row, &groups, answers)?;
     }
     match row.get("default").and_then(Value::as_str) {
         Some(text) => tell_with_default(alloc, row, &cx, kind, &groups, text, answers),
@@ -87,8 +96,11 @@ fn groups_in(alloc: Global, row: Row<'_>, kind: FiltersetKind) -> Result<KnownGr
     if !matches!(kind, FiltersetKind::Test) && row.get("groups").is_none() {
         return Ok(KnownGroups::Unavailable);
     }
-    let names = row.texts(alloc, "groups")?;
-    Ok(known_groups(alloc, &names)?)
+    let mut custom_groups = BTreeSet::new(alloc);
+    for name in &row.texts(alloc, "groups")? {
+        custom_groups.insert(String::from_str(alloc, *name)?)?;
+    }
+    Ok(KnownGroups::Known { custom_groups })
 }
 
 /// Tells of the row's filter where the one of this text stands for `default()`.
@@ -136,7 +148,9 @@ fn tell_filter(
     }
 }
 
-/// Tells what a copy of the filter says.
+/// Tells what a copy of the filter says: whether it names groups, whether its text may ask for dependencies,
+/// and whether it is one leaf that can be told only of a test; whether the reference names the row's `word`;
+/// and what it answers.
 fn tell_parsed(
     alloc: Global,
     row: Row<'_>,
@@ -146,17 +160,17 @@ fn tell_parsed(
 ) -> Result<(), RowFault> {
     let filter = filter.copy(alloc)?;
     answers.begin("faults");
-    tell_filter_calls(row, &filter, answers);
-    tell_answers(alloc, row, &filter, eval, answers)
-}
-
-fn kind_in(row: Row<'_>) -> FiltersetKind {
-    match row.get("kind").and_then(Value::as_str) {
-        Some("archive") => FiltersetKind::TestArchive,
-        Some("override") => FiltersetKind::OverrideFilter,
-        Some("default") => FiltersetKind::DefaultFilter,
-        _ => FiltersetKind::Test,
+    answers.show("names_groups", &filter.compiled.has_group_matchers());
+    answers.show("needs_deps", &Filterset::needs_deps(filter.input.as_str()));
+    let is_runtime_only = match &filter.compiled {
+        CompiledExpr::Set(leaf) => leaf.is_runtime_only(),
+        _ => false,
+    };
+    answers.show("runtime_only", &is_runtime_only);
+    if let Some(word) = row.get("word").and_then(Value::as_str) {
+        answers.show("in_reference", &FILTERSET_REFERENCE_MD.contains(word));
     }
+    tell_answers(alloc, row, &filter, eval, answers)
 }
 
 fn tell_faults(faults: &[ParseSingleError], answers: &mut Answers) {

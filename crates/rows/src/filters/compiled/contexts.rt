@@ -1,19 +1,10 @@
-//! Graphs and contexts, as rows tell of them.
+//! Contexts, as rows tell of them.
 
 use crate::ids::{ids_in, lent};
-use crate::records::graph_under;
 use guppy_package_graph::{PackageGraph, PackageId};
 use nextest_filtering::ParseContext;
 use row_program::{Row, RowFault};
 use std::alloc::Global;
-
-/// The graph of the record under `record`.
-pub(crate) fn graph_in(alloc: Global, row: Row<'_>) -> Result<PackageGraph, RowFault> {
-    match graph_under(alloc, row)? {
-        Ok(graph) => Ok(graph),
-        Err(error) => Err(RowFault::Refused(format!(in alloc; "{error}")?)),
-    }
-}
 
 /// The context of the packages under `context`, in which the features under `on` are said to be on; of
 /// the members where there are no packages.
@@ -26,15 +17,14 @@ pub(crate) fn context_in<'g>(
     if ids.is_empty() {
         return Ok(ParseContext::new(alloc, graph)?);
     }
-    let on = row.texts(alloc, "on")?;
-    let features = features_of(alloc, &on)?;
+    let features = features_in(alloc, row)?;
     context_of(alloc, graph, &ids, &features)
 }
 
-/// The features that texts such as `util/simd` name.
-fn features_of(alloc: Global, texts: &[&str]) -> Result<Vec<(PackageId, String)>, RowFault> {
+/// The features under `on`, which texts such as `util/simd` name.
+fn features_in(alloc: Global, row: Row<'_>) -> Result<Vec<(PackageId, String)>, RowFault> {
     let mut features = Vec::new(alloc);
-    for text in texts {
+    for text in &row.texts(alloc, "on")? {
         let Some((package, name)) = text.split_once('/') else {
             return Err(RowFault::Key("on"));
         };

@@ -5,6 +5,5 @@ mod compiled_rows;
 mod contexts;
 mod queries;
 mod row_groups;
-mod surface;
 
 pub(crate) use crate::filters::compiled::compiled_rows::CompiledRows;

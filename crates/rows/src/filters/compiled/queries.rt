@@ -42,75 +42,52 @@ pub(crate) fn tell_answers(
 ) -> Result<(), RowFault> {
     let asked = asked_in(alloc, row)?;
     let group = text_or(row, "member_of", "@global");
-    tell_holds(&asked, &OneGroup { alloc, group }, filter, cx, answers);
-    if !filter.compiled.has_group_matchers() {
-        tell_alone(alloc, &asked, filter, cx, answers);
-    }
-    tell_known(alloc, &asked, filter, cx, answers);
+    tell_each(&asked, &OneGroup { alloc, group }, filter, cx, answers)?;
     Ok(())
 }
 
-/// Tells whether the filter holds of each test, which is in the group.
-fn tell_holds(
+/// Tells whether the filter holds of each test, which is in the group, and what is known of its binary.
+fn tell_each(
     asked: &[Asked<'_>],
     group: &OneGroup<'_>,
     filter: &Filterset,
     cx: &EvalContext<'_>,
     answers: &mut Answers,
-) {
+) -> Result<(), AllocError> {
     answers.begin("holds");
     for one in asked {
-        match filter.matches_test_with_groups(group.alloc, &one.test(), cx, group) {
-            Ok(holds) => answers.part(" ", &holds),
-            Err(refused) => answers.keep("holds", Err(refused)),
+        let holds = filter.matches_test_with_groups(group.alloc, &one.test(), cx, group)?;
+        answers.part(" ", &holds);
+    }
+    answers.begin("known");
+    for one in asked {
+        match filter.matches_binary(group.alloc, &one.binary(), cx)? {
+            Some(holds) => answers.part(" ", &holds),
+            None => answers.part(" ", &"unknown"),
         }
     }
+    if !filter.compiled.has_group_matchers() {
+        tell_alone(group.alloc, asked, filter, cx, answers)?;
+    }
+    Ok(())
 }
 
-/// The same, asked without groups.
+/// Tells whether the filter holds of each test, asked without groups.
 fn tell_alone(
     alloc: Global,
     asked: &[Asked<'_>],
     filter: &Filterset,
     cx: &EvalContext<'_>,
     answers: &mut Answers,
-)
+) -> Result<(), AllocError>
     requires groups { has_leaf is_group (compiled_of filter.now.compiled) ≡ false }
 {
     answers.begin("alone");
     for one in asked {
-        match filter.matches_test(alloc, &one.test(), cx) {
-            Ok(holds) => answers.part(" ", &holds),
-            Err(refused) => answers.keep("alone", Err(refused)),
-        }
+        let holds = filter.matches_test(alloc, &one.test(), cx)?;
+        answers.part(" ", &holds);
     }
-}
-
-/// Tells what is known of each binary.
-fn tell_known(
-    alloc: Global,
-    asked: &[Asked<'_>],
-    filter: &Filterset,
-    cx: &EvalContext<'_>,
-    answers: &mut Answers,
-) {
-    answers.begin("known");
-    for one in asked {
-        match filter.matches_binary(alloc, &one.binary(), cx) {
-            Ok(Some(holds)) => answers.part(" ", &holds),
-            Ok(None) => answers.part(" ", &"unknown"),
-            Err(refused) => answers.keep("known", Err(refused)),
-        }
-    }
-}
-
-/// What is asked: each of the lists of the row goes on from the row's own parts.
-fn asked_in<'a>(alloc: Global, row: Row<'a>) -> Result<Vec<Asked<'a>>, RowFault> {
-    let mut asked = Vec::new(alloc);
-    for question in &questions_in(alloc, row)? {
-        asked.push(Asked::of(alloc, *question)?)?;
-    }
-    Ok(asked)
+    Ok(())
 }
 
 const LISTS: [&str; 5] = [
@@ -121,31 +98,25 @@ const LISTS: [&str; 5] = [
     "test_names",
 ];
 
-fn questions_in<'a>(alloc: Global, row: Row<'a>) -> Result<Vec<Question<'a>>, RowFault> {
-    let base = question_in(row);
-    let mut questions = Vec::new(alloc);
-    for key in LISTS {
-        for value in row.list(key)? {
-            let Some(text) = value.as_str() else {
-                return Err(RowFault::Key(key));
-            };
-            questions.push(base.with(key, text))?;
-        }
-    }
-    if questions.is_empty() {
-        questions.push(base)?;
-    }
-    Ok(questions)
-}
-
-fn question_in<'a>(row: Row<'a>) -> Question<'a> {
-    Question {
+/// What is asked: each of the lists of the row goes on from the row's own parts.
+fn asked_in<'a>(alloc: Global, row: Row<'a>) -> Result<Vec<Asked<'a>>, RowFault> {
+    let base = Question {
         owner: text_or(row, "owner", "crate_a"),
         name: text_or(row, "binary_name", "my-binary"),
         kind: text_or(row, "binary_kind", "lib"),
         platform: text_or(row, "built_for", "target"),
         test_name: text_or(row, "test_name", "test_something"),
+    };
+    let mut asked = Vec::new(alloc);
+    for key in LISTS {
+        for text in &row.texts(alloc, key)? {
+            asked.push(Asked::of(alloc, base.with(key, *text))?)?;
+        }
     }
+    if asked.is_empty() {
+        asked.push(Asked::of(alloc, base)?)?;
+    }
+    Ok(asked)
 }
 
 impl<'a> Question<'a> {
@@ -201,7 +172,10 @@ impl Asked<'_> {
             binary_id: &self.binary_id,
             binary_name: self.question.name,
             kind: &self.kind,
-            platform: platform_of(self.question.platform),
+            platform: match self.question.platform {
+                "host" => BuildPlatform::Host,
+                _ => BuildPlatform::Target,
+            },
         }
     }
 
@@ -211,11 +185,4 @@ impl Asked<'_> {
             test_name: &self.test_name,
         }
     }
-}
-
-fn platform_of(text: &str) -> BuildPlatform {
-    if text == "host" {
-        return BuildPlatform::Host;
-    }
-    BuildPlatform::Target
 }

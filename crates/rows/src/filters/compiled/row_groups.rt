@@ -1,11 +1,11 @@
 //! Groups, as rows tell of them.
 
-ghost use Rattle.std.specs.Prelude.{IfOk};
 ghost use Rattle.nextest_filter_evaluation.specs.Groups.{AreKnown};
 
 use nextest_filtering::{GroupLookup, KnownGroups, NameMatcher, TestQuery};
+use row_program::{Answers, Row};
+use serde_json::Value;
 use std::alloc::{AllocError, Global};
-use std::collections::BTreeSet;
 
 /// Each test belongs to this one group.
 #[derive(Drop)]
@@ -31,13 +31,20 @@ impl GroupLookup for OneGroup<'_> {
     }
 }
 
-/// The groups with these names.
-pub(crate) fn known_groups(alloc: Global, names: &[&str]) -> Result<KnownGroups, AllocError>
-    ensures { IfOk result AreKnown }
+/// Tells whether a group is called what stands under `group_name`.
+pub(crate) fn tell_groups(
+    alloc: Global,
+    row: Row<'_>,
+    groups: &KnownGroups,
+    answers: &mut Answers,
+) -> Result<(), AllocError>
+    requires known { AreKnown groups.now }
 {
-    let mut custom_groups = BTreeSet::new(alloc);
-    for name in names {
-        custom_groups.insert(String::from_str(alloc, *name)?)?;
+    if let Some(name) = row.get("group_name").and_then(Value::as_str) {
+        let value = String::from_str(alloc, name)?;
+        let implicit = false;
+        let matcher = NameMatcher::Equal { value, implicit };
+        answers.made("is_group", groups.matches(alloc, &matcher));
     }
-    Ok(KnownGroups::Known { custom_groups })
+    Ok(())
 }

@@ -1,6 +1,6 @@
 use crate::filters::spans::add_span;
 use nextest_filter_syntax::{
-    ParseExprError, ParseSingleError, ParsedExpr, ParsedLeaf, SourceSpan, parse_with_faults,
+    ParseExprError, ParseSingleError, ParsedExpr, ParsedLeaf, parse_with_faults,
 };
 use row_program::{Answers, Row, RowFault, RowRunner};
 use std::alloc::{AllocError, Global};
@@ -23,11 +23,14 @@ impl RowRunner for FilterRows {
         let text = row.text("text")?;
         tell_printed(alloc, text, answers);
         let (tree, faults) = parse_with_faults(alloc, text)?;
-        tell_faults(alloc, &faults, answers);
-        tell_variants(&faults, answers);
+        tell_faults(alloc, &faults, answers)?;
         match &tree {
             Some(tree) => tell_tree(alloc, tree, answers),
-            None => tell_spoiled(answers),
+            None => {
+                answers.show("shape", &"spoiled");
+                answers.show("runtime", &"");
+                answers.show("spans", &"");
+            }
         }
         Ok(())
     }
@@ -45,23 +48,32 @@ fn tell_printed(alloc: Global, text: &str, answers: &mut Answers) {
     }
 }
 
-/// Tells copies of the faults, with their places.
-fn tell_faults(alloc: Global, faults: &[ParseSingleError], answers: &mut Answers) {
-    answers.begin("faults");
-    for fault in faults {
-        match fault.copy(alloc) {
-            Ok(fault) => add_fault(&fault, answers),
-            Err(refused) => answers.keep("faults", Err(refused)),
-        }
-    }
-}
-
-/// Tells the variants of the faults.
-fn tell_variants(faults: &[ParseSingleError], answers: &mut Answers) {
+/// Tells the variants of the faults, and copies of them with their places.
+fn tell_faults(
+    alloc: Global,
+    faults: &[ParseSingleError],
+    answers: &mut Answers,
+) -> Result<(), AllocError> {
     answers.begin("variants");
     for fault in faults {
         answers.part(" ", &variant_of(fault));
     }
+    answers.begin("faults");
+    for fault in faults {
+        let fault = fault.copy(alloc)?;
+        answers.part("; ", &fault);
+        match &fault {
+            ParseSingleError::ExprFoundBinaryOp { suggest, .. }
+            | ParseSingleError::ExprFoundUnaryOp { suggest, .. } => {
+                answers.part(", rather ", suggest);
+            }
+            ParseSingleError::InvalidGlob { error, .. } => answers.part(": ", error),
+            _ => {}
+        }
+        answers.add(&" ");
+        add_span(fault.span(), answers);
+    }
+    Ok(())
 }
 
 /// The name of a fault's variant, among those that a reading makes.
@@ -86,26 +98,6 @@ fn variant_of(fault: &ParseSingleError) -> &'static str {
         ParseSingleError::UnsupportedExpression(_) => "UnsupportedExpression",
         _ => "another",
     }
-}
-
-fn add_fault(fault: &ParseSingleError, answers: &mut Answers) {
-    answers.part("; ", fault);
-    match fault {
-        ParseSingleError::ExprFoundBinaryOp { suggest, .. }
-        | ParseSingleError::ExprFoundUnaryOp { suggest, .. } => {
-            answers.part(", rather ", suggest);
-        }
-        ParseSingleError::InvalidGlob { error, .. } => answers.part(": ", error),
-        _ => {}
-    }
-    answers.add(&" ");
-    add_span(fault.span(), answers);
-}
-
-fn tell_spoiled(answers: &mut Answers) {
-    answers.show("shape", &"spoiled");
-    answers.show("runtime", &"");
-    answers.show("spans", &"");
 }
 
 /// Tells the tree's shape, its leaves that can be told only at run time, and the places of its leaves.
@@ -176,27 +168,19 @@ fn add_spans(tree: &ParsedExpr, answers: &mut Answers) {
             add_spans(x, answers);
             add_spans(y, answers);
         }
-        ParsedExpr::Set(leaf) => {
-            if let Some(span) = span_of(leaf) {
-                add_span(span, answers);
-            }
-        }
-    }
-}
-
-fn span_of(leaf: &ParsedLeaf) -> Option<SourceSpan> {
-    match leaf {
-        ParsedLeaf::Package(_, span)
-        | ParsedLeaf::Deps(_, span)
-        | ParsedLeaf::Rdeps(_, span)
-        | ParsedLeaf::Kind(_, span)
-        | ParsedLeaf::Binary(_, span)
-        | ParsedLeaf::BinaryId(_, span)
-        | ParsedLeaf::Platform(_, span)
-        | ParsedLeaf::Test(_, span)
-        | ParsedLeaf::Group(_, span)
-        | ParsedLeaf::Feature(_, span)
-        | ParsedLeaf::Default(span) => Some(*span),
-        ParsedLeaf::All | ParsedLeaf::None => None,
+        ParsedExpr::Set(leaf) => match leaf {
+            ParsedLeaf::Package(_, span)
+            | ParsedLeaf::Deps(_, span)
+            | ParsedLeaf::Rdeps(_, span)
+            | ParsedLeaf::Kind(_, span)
+            | ParsedLeaf::Binary(_, span)
+            | ParsedLeaf::BinaryId(_, span)
+            | ParsedLeaf::Platform(_, span)
+            | ParsedLeaf::Test(_, span)
+            | ParsedLeaf::Group(_, span)
+            | ParsedLeaf::Feature(_, span)
+            | ParsedLeaf::Default(span) => add_span(*span, answers),
+            ParsedLeaf::All | ParsedLeaf::None => {}
+        },
     }
 }

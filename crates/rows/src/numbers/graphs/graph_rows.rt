@@ -7,7 +7,8 @@ use numbered_graph::{
     reach, reach_over, root_nodes,
 };
 use row_program::{Answers, Row, RowFault, RowRunner};
-use std::alloc::{AllocError, Global};
+use serde_json::Value;
+use std::alloc::Global;
 
 /// Rows of graphs. A row has `nodes` and `links`, and where they are asked for `starts`, `direction`,
 /// `refused` and `loose` (links that are refused, or are not firm), `set` and `other`.
@@ -42,26 +43,20 @@ impl RowRunner for GraphRows {
 /// The graph of a row: `nodes`, and `links` as pairs of numbers.
 fn graph_in(alloc: Global, row: Row<'_>) -> Result<Graph, RowFault> {
     let nodes = node_count_in(row)?;
-    let links = links_in(alloc, row)?;
-    if !are_within(nodes, &links) {
-        return Err(RowFault::Key("links"));
-    }
-    Ok(Graph::new(alloc, nodes, links)?)
-}
-
-fn links_in(alloc: Global, row: Row<'_>) -> Result<Vec<Link>, RowFault> {
     let mut links = Vec::new(alloc);
     for pair in row.list("links")? {
-        let (Some(from), Some(to)) = (
-            pair.get(0).and_then(|value| value.as_u64()),
-            pair.get(1).and_then(|value| value.as_u64()),
-        ) else {
+        let from = pair.get(0).and_then(Value::as_u64);
+        let to = pair.get(1).and_then(Value::as_u64);
+        let (Some(from), Some(to)) = (from, to) else {
             return Err(RowFault::Key("links"));
         };
         let (from, to) = (from as usize, to as usize);
         links.push(Link { from, to })?;
     }
-    Ok(links)
+    if !are_within(nodes, &links) {
+        return Err(RowFault::Key("links"));
+    }
+    Ok(Graph::new(alloc, nodes, links)?)
 }
 
 fn tell_graph(
@@ -106,23 +101,18 @@ fn tell_order(
     order: &[usize],
     answers: &mut Answers,
 ) -> Result<(), RowFault> {
-    tell_cycles(cycles(alloc, graph, direction_in(row))?.as_slice(), answers);
-    answers.list("listing", order.to_vec(alloc));
-    let nodes = nodes_in(alloc, row, graph.node_count(), "set")?;
-    let set = NodeSet::of(alloc, graph.node_count(), &nodes)?;
-    tell_set(alloc, row, graph, order, &set, answers)
-}
-
-/// Tells the lists, with `; ` between each two.
-fn tell_cycles(cycles: &[Vec<usize>], answers: &mut Answers) {
     answers.begin("cycles");
-    for cycle in cycles {
+    for cycle in &cycles(alloc, graph, direction_in(row))? {
         let mut between = "; ";
         for node in cycle {
             answers.part(between, node);
             between = " ";
         }
     }
+    answers.list("listing", order.to_vec(alloc));
+    let nodes = nodes_in(alloc, row, graph.node_count(), "set")?;
+    let set = NodeSet::of(alloc, graph.node_count(), &nodes)?;
+    tell_set(alloc, row, graph, order, &set, answers)
 }
 
 fn tell_set(
@@ -138,7 +128,9 @@ fn tell_set(
     answers.list("listed", listed_members(alloc, order, set));
     answers.list("inside", links_inside(alloc, graph, set));
     answers.list("roots", root_nodes(alloc, graph, set, direction_in(row)));
-    answers.keep("sizes", sizes_text(alloc, graph.node_count(), set.len()));
+    answers.show("sizes", &set.len());
+    answers.part(" of ", &NodeSet::all(alloc, graph.node_count())?.len());
+    answers.part(", ", &NodeSet::none(alloc, graph.node_count())?.len());
     let nodes = nodes_in(alloc, row, graph.node_count(), "other")?;
     let other = NodeSet::of(alloc, graph.node_count(), &nodes)?;
     tell_two(alloc, set, &other, answers);
@@ -157,11 +149,4 @@ fn tell_two(alloc: Global, set: &NodeSet, other: &NodeSet, answers: &mut Answers
     );
     let symmetric = set.symmetric_difference(alloc, other);
     answers.list("symmetric_difference", members_of(alloc, symmetric));
-}
-
-/// How many members a set has, of how many nodes, and how many there are in a set of none.
-fn sizes_text(alloc: Global, nodes: usize, members: usize) -> Result<String, AllocError> {
-    let all = NodeSet::all(alloc, nodes)?.len();
-    let none = NodeSet::none(alloc, nodes)?.len();
-    format!(in alloc; "{members} of {all}, {none}")
 }

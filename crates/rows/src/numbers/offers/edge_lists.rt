@@ -11,14 +11,6 @@ use std::alloc::Global;
 /// waits.
 pub(crate) fn graph_in(alloc: Global, row: Row<'_>) -> Result<OfferGraph, RowFault> {
     let nodes = node_count_in(row)?;
-    let edges = edges_in(alloc, row)?;
-    if !are_edges_within(nodes, &edges) {
-        return Err(RowFault::Key("edges"));
-    }
-    Ok(OfferGraph::new(alloc, nodes, edges)?)
-}
-
-fn edges_in(alloc: Global, row: Row<'_>) -> Result<Vec<Edge>, RowFault> {
     let mut edges = Vec::new(alloc);
     for value in row.list("edges")? {
         match edge_of(value) {
@@ -26,7 +18,10 @@ fn edges_in(alloc: Global, row: Row<'_>) -> Result<Vec<Edge>, RowFault> {
             None => return Err(RowFault::Key("edges")),
         }
     }
-    Ok(edges)
+    if !are_edges_within(nodes, &edges) {
+        return Err(RowFault::Key("edges"));
+    }
+    Ok(OfferGraph::new(alloc, nodes, edges)?)
 }
 
 fn edge_of(value: &Value) -> Option<Edge> {

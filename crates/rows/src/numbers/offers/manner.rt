@@ -2,6 +2,7 @@
 
 use numbered_offers::{Offer, OfferKind};
 use row_program::Row;
+use serde_json::Value;
 
 /// How somebody answers who is asked about offers.
 #[derive(Clone, Copy)]
@@ -26,7 +27,7 @@ pub(crate) enum Manner<'a> {
 
 /// The manner that a row names under `accepts`: all offers if it names none.
 pub(crate) fn manner_in(row: Row<'_>) -> Manner<'static> {
-    match row.get("accepts").and_then(|value| value.as_str()) {
+    match row.get("accepts").and_then(Value::as_str) {
         Some("nothing") => Manner::Nothing,
         Some("once") => Manner::Once,
         Some("alternate") => Manner::Alternate,
@@ -46,12 +47,10 @@ pub(crate) fn answer_to(manner: Manner<'_>, offer: Offer, before: usize) -> bool
         Manner::RequiredHalves => offer.kind != OfferKind::Optional,
         Manner::OptionalHalves => offer.kind != OfferKind::Required,
         Manner::Table { others, halves } => match offer.kind {
-            OfferKind::Optional => is_set(halves, offer.edge),
-            OfferKind::Unsplit | OfferKind::Required => is_set(others, offer.edge),
+            OfferKind::Optional => matches!(halves.get(offer.edge), Some(true)),
+            OfferKind::Unsplit | OfferKind::Required => {
+                matches!(others.get(offer.edge), Some(true))
+            }
         },
     }
-}
-
-fn is_set(flags: &[bool], place: usize) -> bool {
-    place < flags.len() && flags[place]
 }

@@ -4,10 +4,10 @@ use crate::numbers::lists::{direction_in, flags_in, nodes_in};
 use crate::numbers::offers::edge_lists::graph_in;
 use crate::numbers::offers::manner::{Manner, manner_in};
 use crate::numbers::offers::walked::walk_in;
-use numbered_graph::{Direction, NodeSet};
+use numbered_graph::Direction;
 use numbered_offers::OfferGraph;
 use row_program::{Answers, Row, RowFault, RowRunner};
-use std::alloc::{AllocError, Global};
+use std::alloc::Global;
 
 /// Rows of graphs of offers. A row has `nodes`, `edges` and `starts`, and where they are asked for
 /// `direction`, `accepts` (the manner in which offers are answered), `refused` and `refused_halves`
@@ -89,20 +89,15 @@ fn tell_walk(
 {
     answers.begin(keys.0);
     let included = walk_in(alloc, graph, starts, direction, manner, answers);
-    tell_set(keys.1, included, answers);
-}
-
-/// The members of a set that was made, ascending.
-fn tell_set(key: &'static str, set: Result<NodeSet, AllocError>, answers: &mut Answers) {
-    match set {
+    match included {
         Ok(set) => {
-            answers.begin(key);
+            answers.begin(keys.1);
             for node in 0..set.node_count() {
                 if set.contains(node) {
                     answers.part(" ", &node);
                 }
             }
         }
-        Err(refused) => answers.keep(key, Err(refused)),
+        Err(refused) => answers.keep(keys.1, Err(refused)),
     }
 }

@@ -66,26 +66,11 @@ fn answers_to(
     match due {
         Due::One(offer) => (ask(manner, offer, before, answers), false),
         Due::Halves(edge) => {
-            let (required, optional) = (OfferKind::Required, OfferKind::Optional);
-            let first = ask(
-                manner,
-                Offer {
-                    edge,
-                    kind: required,
-                },
-                before,
-                answers,
-            );
-            let second = ask(
-                manner,
-                Offer {
-                    edge,
-                    kind: optional,
-                },
-                before,
-                answers,
-            );
-            (first, second)
+            let kind = OfferKind::Required;
+            let required = ask(manner, Offer { edge, kind }, before, answers);
+            let kind = OfferKind::Optional;
+            let optional = ask(manner, Offer { edge, kind }, before, answers);
+            (required, optional)
         }
     }
 }

@@ -55,17 +55,14 @@ fn tell_graph(
     graph: &PackageGraph,
     answers: &mut Answers,
 ) -> Result<(), RowFault> {
-    let (packages, links) = (graph.package_count(), graph.link_count());
-    let rows = graph.link_rows().len();
-    let is_kept = graph.verify().is_ok();
-    answers.keep(
-        "built",
-        format!(in alloc; "{packages} packages, {links} links"),
-    );
-    answers.keep("kept", format!(in alloc; "{rows} links, {is_kept}"));
+    answers.show("built", &graph.package_count());
+    answers.part(" packages, ", &graph.link_count());
+    answers.add(&" links");
+    answers.show("kept", &graph.link_rows().len());
+    answers.part(" links, ", &graph.verify().is_ok());
+    tell_whole_graph(alloc, graph, answers)?;
     tell_resolves(alloc, row, graph, answers)?;
     tell_sets(alloc, row, graph, answers)?;
     tell_members(alloc, row, graph, answers)?;
-    tell_whole_graph(alloc, row, graph, answers)?;
     tell_package(alloc, row, graph, answers)
 }

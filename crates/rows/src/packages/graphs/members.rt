@@ -1,7 +1,7 @@
 //! The members of the workspace, found and listed by path and by name.
 
 use crate::packages::graphs::told_sets::tell_set;
-use guppy_package_graph::{PackageGraph, PackageIdsAt, PackageMetadata, PackageQuery};
+use guppy_package_graph::{PackageGraph, PackageMetadata, PackageQuery};
 use guppy_package_parts::Error;
 use row_program::{Answers, Row, RowFault};
 use std::alloc::Global;
@@ -23,39 +23,38 @@ pub(crate) fn tell_members(
 fn tell_workspace(graph: &PackageGraph, answers: &mut Answers) {
     let workspace = graph.workspace();
     answers.show("member_count", &workspace.member_count());
-    tell_ids("member_ids", workspace.member_ids(), answers);
-    tell_ids("default_ids", workspace.default_member_ids(), answers);
+    answers.begin("member_ids");
+    for id in workspace.member_ids() {
+        answers.part(" ", id);
+    }
+    answers.begin("default_ids");
+    for id in workspace.default_member_ids() {
+        answers.part(" ", id);
+    }
     answers.begin("by_path");
     for package in workspace.iter() {
         answers.part(" ", package.id());
     }
     answers.begin("paths_with_ids");
     for (path, package) in workspace.iter_by_path() {
-        add_pair(path, package, answers);
+        answers.part(" ", &path);
+        answers.part("=", package.id());
     }
     answers.begin("names_with_ids");
     for (name, package) in workspace.iter_by_name() {
-        add_pair(name, package, answers);
+        answers.part(" ", &name);
+        answers.part("=", package.id());
     }
-}
-
-fn tell_ids(key: &'static str, ids: PackageIdsAt<'_, '_>, answers: &mut Answers) {
-    answers.begin(key);
-    for id in ids {
-        answers.part(" ", id);
-    }
-}
-
-fn add_pair(key: &str, package: PackageMetadata<'_>, answers: &mut Answers) {
-    answers.part(" ", &key);
-    answers.part("=", package.id());
 }
 
 /// The members at the paths: found one by one, and as a set and a query.
 fn tell_paths(alloc: Global, graph: &PackageGraph, paths: &[&str], answers: &mut Answers) {
     let workspace = graph.workspace();
     for path in paths {
-        tell_found("at_path", workspace.member_by_path(path), answers);
+        match workspace.member_by_path(path) {
+            Ok(package) => answers.show("at_path", package.id()),
+            Err(error) => answers.show("at_path", &error),
+        }
         answers.part(" ", &workspace.contains_path(path));
     }
     tell_list(
@@ -73,7 +72,10 @@ fn tell_paths(alloc: Global, graph: &PackageGraph, paths: &[&str], answers: &mut
 fn tell_names(alloc: Global, graph: &PackageGraph, names: &[&str], answers: &mut Answers) {
     let workspace = graph.workspace();
     for name in names {
-        tell_found("called", workspace.member_by_name(name), answers);
+        match workspace.member_by_name(name) {
+            Ok(package) => answers.show("called", package.id()),
+            Err(error) => answers.show("called", &error),
+        }
         answers.part(" ", &workspace.contains_name(name));
         let packages = graph.resolve_package_name(alloc, name);
         tell_set(alloc, "packages_called", packages, answers);
@@ -95,13 +97,6 @@ fn tell_reach(
 ) {
     match query {
         Ok(query) => tell_set(alloc, key, query.resolve(alloc), answers),
-        Err(error) => answers.show(key, &error),
-    }
-}
-
-fn tell_found(key: &'static str, found: Result<PackageMetadata<'_>, Error>, answers: &mut Answers) {
-    match found {
-        Ok(package) => answers.show(key, package.id()),
         Err(error) => answers.show(key, &error),
     }
 }

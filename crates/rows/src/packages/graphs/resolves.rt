@@ -7,7 +7,7 @@ use guppy_package_graph::{PackageGraph, PackageLink, PackageLinkContext, Package
 use guppy_package_parts::{DependencyDirection, Error, PackageId};
 use row_program::{Answers, Row, RowFault};
 use serde_json::Value;
-use std::alloc::{AllocError, Global};
+use std::alloc::Global;
 
 pub(crate) fn tell_resolves(
     alloc: Global,
@@ -80,14 +80,6 @@ fn tell_included(
         },
     );
     tell_set(alloc, "included", included, answers);
-    tell_shown(numbers, texts, answers);
-}
-
-fn tell_shown(
-    mut numbers: Vec<usize>,
-    texts: Vec<Result<String, AllocError>>,
-    answers: &mut Answers,
-) {
     numbers.sort_unstable();
     answers.list("shown", Ok(numbers));
     for text in texts {

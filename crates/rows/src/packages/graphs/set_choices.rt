@@ -14,20 +14,28 @@ pub(crate) fn tell_choices(
     set: &PackageSet<'_>,
     answers: &mut Answers,
 ) -> Result<(), RowFault> {
+    let direction = direction_in(row);
+    answers.list("roots", set.root_ids(alloc, direction));
+    answers.begin("roots");
+    for package in &set.root_packages(alloc, direction)? {
+        answers.part(" ", package.id());
+    }
+    answers.begin("ids");
+    for id in set.package_ids(direction) {
+        answers.part(" ", id);
+    }
     let wanted = row.texts(alloc, "wanted")?;
     let unwanted = row.texts(alloc, "unwanted")?;
-    let direction = direction_in(row);
-    tell_wanted(alloc, set, direction, &wanted, answers);
-    tell_of_three(alloc, set, direction, &wanted, &unwanted, answers);
-    tell_roots(alloc, set, direction, answers);
+    tell_chosen(alloc, set, direction, &wanted, &unwanted, answers);
     Ok(())
 }
 
-fn tell_wanted(
+fn tell_chosen(
     alloc: Global,
     set: &PackageSet<'_>,
     direction: DependencyDirection,
     wanted: &[&str],
+    unwanted: &[&str],
     answers: &mut Answers,
 ) {
     let accepted = set.filter(alloc, direction, |package: PackageMetadata<'_>| -> bool {
@@ -38,16 +46,6 @@ fn tell_wanted(
         wanted.contains(&package.name())
     });
     tell_parts(alloc, "parts", parts, answers);
-}
-
-fn tell_of_three(
-    alloc: Global,
-    set: &PackageSet<'_>,
-    direction: DependencyDirection,
-    wanted: &[&str],
-    unwanted: &[&str],
-    answers: &mut Answers,
-) {
     let parts = set.filter_partition(
         alloc,
         direction,
@@ -62,26 +60,4 @@ fn tell_of_three(
         },
     );
     tell_parts(alloc, "of_three", parts, answers);
-}
-
-fn tell_roots(
-    alloc: Global,
-    set: &PackageSet<'_>,
-    direction: DependencyDirection,
-    answers: &mut Answers,
-) {
-    answers.list("roots", set.root_ids(alloc, direction));
-    match set.root_packages(alloc, direction) {
-        Ok(packages) => {
-            answers.begin("roots");
-            for package in &packages {
-                answers.part(" ", package.id());
-            }
-        }
-        Err(refused) => answers.keep("roots", Err(refused)),
-    }
-    answers.begin("ids");
-    for id in set.package_ids(direction) {
-        answers.part(" ", id);
-    }
 }

@@ -3,10 +3,10 @@
 use crate::ids::{id_in, ids_in, lent};
 use crate::packages::graphs::set_choices::tell_choices;
 use crate::packages::graphs::told_sets::tell_set;
-use guppy_package_graph::{PackageGraph, PackageSet, Packages};
+use guppy_package_graph::{PackageGraph, PackageSet};
 use guppy_package_parts::{DependencyDirection, Error};
 use row_program::{Answers, Row, RowFault};
-use std::alloc::Global;
+use std::alloc::{AllocError, Global};
 
 pub(crate) fn tell_sets(
     alloc: Global,
@@ -14,7 +14,7 @@ pub(crate) fn tell_sets(
     graph: &PackageGraph,
     answers: &mut Answers,
 ) -> Result<(), RowFault> {
-    tell_whole_sets(alloc, graph, answers);
+    tell_whole_sets(alloc, graph, answers)?;
     match set_in(alloc, row, graph, "set")? {
         Ok(set) => tell_one(alloc, row, graph, &set, answers),
         Err(error) => {
@@ -33,10 +33,7 @@ fn tell_one(
 ) -> Result<(), RowFault> {
     tell_listing(set, answers);
     if let Some(id) = id_in(alloc, row, "package")? {
-        match set.contains(&id) {
-            Ok(contained) => answers.show("contained", &contained),
-            Err(error) => answers.show("contained", &error),
-        }
+        answers.told("contained", set.contains(&id));
     }
     tell_choices(alloc, row, set, answers)?;
     match set_in(alloc, row, graph, "other")? {
@@ -47,43 +44,22 @@ fn tell_one(
 }
 
 /// The members, all packages, and the sizes of the sets of all and of none.
-fn tell_whole_sets(alloc: Global, graph: &PackageGraph, answers: &mut Answers) {
+fn tell_whole_sets(
+    alloc: Global,
+    graph: &PackageGraph,
+    answers: &mut Answers,
+) -> Result<(), AllocError> {
     tell_set(alloc, "members", graph.resolve_workspace(alloc), answers);
-    match graph.resolve_all(alloc) {
-        Ok(all) => tell_all(&all, answers),
-        Err(refused) => answers.keep("all", Err(refused)),
-    }
-    match graph.resolve_none(alloc) {
-        Ok(none) => add_size(", ", &none, answers),
-        Err(refused) => answers.keep("sizes", Err(refused)),
-    }
-}
-
-fn tell_all(all: &PackageSet<'_>, answers: &mut Answers) {
-    tell_packages("all", all.packages(DependencyDirection::Forward), answers);
-    answers.begin("sizes");
-    add_size("", all, answers);
-}
-
-fn add_size(between: &str, set: &PackageSet<'_>, answers: &mut Answers) {
-    answers.part(between, &set.len());
-    answers.part(" ", &set.is_empty());
-}
-
-/// Tells the ids of the packages in their order.
-fn tell_packages(key: &'static str, packages: Packages<'_, '_>, answers: &mut Answers) {
-    answers.begin(key);
-    for package in packages {
+    let (all, none) = (graph.resolve_all(alloc)?, graph.resolve_none(alloc)?);
+    answers.begin("all");
+    for package in all.packages(DependencyDirection::Forward) {
         answers.part(" ", package.id());
     }
-}
-
-/// Tells the ids of the packages from the last to the first.
-fn tell_packages_back(key: &'static str, packages: Packages<'_, '_>, answers: &mut Answers) {
-    answers.begin(key);
-    for package in packages.rev() {
-        answers.part(" ", package.id());
-    }
+    answers.show("sizes", &all.len());
+    answers.part(" ", &all.is_empty());
+    answers.part(", ", &none.len());
+    answers.part(" ", &none.is_empty());
+    Ok(())
 }
 
 fn set_in<'g>(
@@ -99,14 +75,22 @@ fn set_in<'g>(
 
 /// The packages of the set from both ends, in both directions.
 fn tell_listing(set: &PackageSet<'_>, answers: &mut Answers) {
-    let forward = set.packages(DependencyDirection::Forward);
-    let reverse = set.packages(DependencyDirection::Reverse);
-    answers.show("lengths", &forward.len());
+    let (forward, reverse) = (DependencyDirection::Forward, DependencyDirection::Reverse);
+    answers.show("lengths", &set.packages(forward).len());
     answers.part(" of ", &set.len());
-    tell_packages("listed", forward, answers);
-    tell_packages_back("listed", reverse, answers);
-    tell_packages("listed_reverse", reverse, answers);
-    tell_packages_back("listed_reverse", forward, answers);
+    for (key, direction, other) in [
+        ("listed", forward, reverse),
+        ("listed_reverse", reverse, forward),
+    ] {
+        answers.begin(key);
+        for package in set.packages(direction) {
+            answers.part(" ", package.id());
+        }
+        answers.begin(key);
+        for package in set.packages(other).rev() {
+            answers.part(" ", package.id());
+        }
+    }
 }
 
 fn tell_both(alloc: Global, set: &PackageSet<'_>, other: &PackageSet<'_>, answers: &mut Answers) {

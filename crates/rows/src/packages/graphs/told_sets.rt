@@ -48,19 +48,15 @@ pub(crate) fn tell_parts(
         Ok((first, second)) => {
             answers.list(key, sorted_ids(alloc, &first));
             answers.add(&"; ");
-            add_ids(key, sorted_ids(alloc, &second), answers);
-        }
-        Err(refused) => answers.keep(key, Err(refused)),
-    }
-}
-
-fn add_ids(key: &'static str, ids: Result<Vec<&str>, AllocError>, answers: &mut Answers) {
-    match ids {
-        Ok(ids) => {
-            let mut between = "";
-            for id in &ids {
-                answers.part(between, id);
-                between = " ";
+            match sorted_ids(alloc, &second) {
+                Ok(ids) => {
+                    let mut between = "";
+                    for id in &ids {
+                        answers.part(between, id);
+                        between = " ";
+                    }
+                }
+                Err(refused) => answers.keep(key, Err(refused)),
             }
         }
         Err(refused) => answers.keep(key, Err(refused)),

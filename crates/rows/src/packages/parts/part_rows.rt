@@ -2,12 +2,10 @@ ghost use Rattle.std.specs.Prelude.{◌↔◌, All, IsTrue};
 ghost use Rattle.guppy_package_parts.specs.Lines.{IsLineAt};
 
 use crate::packages::parts::platforms::platforms_of;
-use crate::packages::parts::printing::{
-    add_half, source_text, tell_publish, tell_status, tell_target,
-};
+use crate::packages::parts::printing::{add_half, add_target, tell_source, tell_status};
 use guppy_package_parts::{
-    BuildTarget, DependencyKind, DependencyReq, ExternalSource, LinkRow, PackagePublish,
-    PackageRow, PackageSource, PlatformStatus,
+    BuildTarget, DependencyKind, DependencyReq, LinkRow, PackagePublish, PackageRow, PackageSource,
+    PlatformStatus,
 };
 use row_program::{Answers, Row, RowFault, RowRunner, record_under};
 use serde_json::Value;
@@ -28,13 +26,13 @@ impl RowRunner for PartRows {
         row: Row<'_>,
         answers: &mut Answers,
     ) -> Result<(), RowFault> {
-        if let Some(source) = row.get("source").and_then(Value::as_str) {
-            tell_text(alloc, source, answers);
+        if let Some(text) = row.get("source").and_then(Value::as_str) {
+            tell_source(text, answers);
             return Ok(());
         }
         let record = record_under(alloc, row)?;
         for package in &record.packages {
-            tell_package(alloc, package, answers);
+            tell_package(package, answers);
         }
         for link in &record.links {
             tell_link(alloc, link, row, answers)?;
@@ -73,31 +71,19 @@ fn is_there(links: &[LinkRow], line: (usize, usize)) -> bool
     }
 }
 
-fn tell_text(alloc: Global, text: &str, answers: &mut Answers) {
-    let source = PackageSource::External(text);
-    answers.keep("parsed", source_text(alloc, ExternalSource::new(text)));
-    if let Some(external) = source.parse_external() {
-        answers.show("printed", &external);
-    }
-    answers.show("crates_io", &source.is_crates_io());
-}
-
-fn tell_package(alloc: Global, package: &PackageRow, answers: &mut Answers) {
+fn tell_package(package: &PackageRow, answers: &mut Answers) {
     let source = PackageSource::of(package, None);
     answers.show("from", &source);
     answers.show("local", &source.is_local());
-    tell_publish(alloc, PackagePublish::of(package), answers);
+    let publish = PackagePublish::of(package);
+    answers.show("publish", &"unrestricted");
+    answers.part(" ", &publish.is_unrestricted());
+    answers.part(", never ", &publish.is_never());
+    answers.part(", crates-io ", &publish.can_publish_to_crates_io());
+    answers.part(", other ", &publish.can_publish_to("other"));
     answers.begin("targets");
     for target in &package.targets {
-        tell_target(BuildTarget::of(target), answers);
-    }
-}
-
-fn kind_of(row: Row<'_>) -> DependencyKind {
-    match row.get("kind").and_then(Value::as_str) {
-        Some("dev") => DependencyKind::Development,
-        Some("build") => DependencyKind::Build,
-        _ => DependencyKind::Normal,
+        add_target(BuildTarget::of(target), answers);
     }
 }
 
@@ -107,27 +93,28 @@ fn tell_link(
     row: Row<'_>,
     answers: &mut Answers,
 ) -> Result<(), RowFault> {
-    let req = DependencyReq::of(link, kind_of(row));
+    let kind = match row.get("kind").and_then(Value::as_str) {
+        Some("dev") => DependencyKind::Development,
+        Some("build") => DependencyKind::Build,
+        _ => DependencyKind::Normal,
+    };
+    let req = DependencyReq::of(link, kind);
     answers.begin("features");
     for name in req.features() {
         answers.add(&name);
         answers.add(&" ");
     }
     answers.show("present", &req.is_present());
-    tell_statuses(req, row, answers);
-    let platforms = platforms_of(alloc, row)?;
-    let required = req.status().required_on(&platforms);
-    answers.keep("required", format!(in alloc; "{required:?}"));
-    let enabled = req.status().enabled_on(&platforms);
-    answers.keep("enabled", format!(in alloc; "{enabled:?}"));
-    Ok(())
-}
-
-fn tell_statuses(req: DependencyReq<'_>, row: Row<'_>, answers: &mut Answers) {
     tell_status("status", req.status(), answers);
     tell_status("default_features", req.default_features(), answers);
     tell_status("no_default_features", req.no_default_features(), answers);
     if let Some(feature) = row.get("feature").and_then(Value::as_str) {
         tell_status("feature_status", req.feature_status(feature), answers);
     }
+    let platforms = platforms_of(alloc, row)?;
+    let required = req.status().required_on(&platforms);
+    answers.keep("required", format!(in alloc; "{required:?}"));
+    let enabled = req.status().enabled_on(&platforms);
+    answers.keep("enabled", format!(in alloc; "{enabled:?}"));
+    Ok(())
 }

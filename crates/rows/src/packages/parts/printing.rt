@@ -2,19 +2,22 @@
 
 use guppy_package_parts::{
     BuildTarget, BuildTargetId, BuildTargetKind, EnabledStatus, ExternalSource, GitReq,
-    PackagePublish, PlatformStatus,
+    PackageSource, PlatformStatus,
 };
 use row_program::Answers;
-use std::alloc::{AllocError, Global};
 
-pub(crate) fn source_text(
-    alloc: Global,
-    source: Option<ExternalSource<'_>>,
-) -> Result<String, AllocError> {
-    match source {
-        None => String::from_str(alloc, "none"),
-        Some(ExternalSource::Registry(registry)) => format!(in alloc; "registry {registry}"),
-        Some(ExternalSource::Sparse(registry)) => format!(in alloc; "sparse {registry}"),
+/// Tells what the text of a source says.
+pub(crate) fn tell_source(text: &str, answers: &mut Answers) {
+    match ExternalSource::new(text) {
+        None => answers.show("parsed", &"none"),
+        Some(ExternalSource::Registry(registry)) => {
+            answers.show("parsed", &"registry ");
+            answers.add(&registry);
+        }
+        Some(ExternalSource::Sparse(registry)) => {
+            answers.show("parsed", &"sparse ");
+            answers.add(&registry);
+        }
         Some(
             ExternalSource::Git {
                 repository,
@@ -22,64 +25,48 @@ pub(crate) fn source_text(
                 resolved,
             },
         ) => {
-            let (request, name) = request_words(req);
-            format!(in alloc; "git {repository}, {request}{name}, at {resolved}")
+            let (request, name) = match req {
+                GitReq::Branch(name) => (", branch ", name),
+                GitReq::Tag(name) => (", tag ", name),
+                GitReq::Rev(name) => (", rev ", name),
+                GitReq::Default => (", default", ""),
+            };
+            answers.show("parsed", &"git");
+            answers.part(" ", &repository);
+            answers.part(request, &name);
+            answers.part(", at ", &resolved);
         }
     }
-}
-
-fn request_words<'a>(req: GitReq<'a>) -> (&'static str, &'a str) {
-    match req {
-        GitReq::Branch(name) => ("branch ", name),
-        GitReq::Tag(name) => ("tag ", name),
-        GitReq::Rev(name) => ("rev ", name),
-        GitReq::Default => ("default", ""),
+    let source = PackageSource::External(text);
+    if let Some(external) = source.parse_external() {
+        answers.show("printed", &external);
     }
-}
-
-pub(crate) fn tell_publish(alloc: Global, publish: PackagePublish<'_>, answers: &mut Answers) {
-    let unrestricted = publish.is_unrestricted();
-    let never = publish.is_never();
-    let crates_io = publish.can_publish_to_crates_io();
-    let other = publish.can_publish_to("other");
-    answers.keep(
-        "publish",
-        format!(in alloc;
-            "unrestricted {unrestricted}, never {never}, crates-io {crates_io}, other {other}"
-        ),
-    );
+    answers.show("crates_io", &source.is_crates_io());
 }
 
 /// Adds the line of a target.
-pub(crate) fn tell_target(target: BuildTarget<'_>, answers: &mut Answers) {
-    answers.add(&sort_text(target.id()));
-    answers.part(" ", &target.id().name().unwrap_or("unnamed"));
-    answers.add(&" as");
-    add_kind(target.kind(), answers);
-    answers.add(&"\n");
-}
-
-fn sort_text(id: BuildTargetId<'_>) -> &'static str {
-    match id {
+pub(crate) fn add_target(target: BuildTarget<'_>, answers: &mut Answers) {
+    let sort = match target.id() {
         BuildTargetId::Library => "library",
         BuildTargetId::BuildScript => "build script",
         BuildTargetId::Binary(_) => "binary",
         BuildTargetId::Example(_) => "example",
         BuildTargetId::Test(_) => "test",
         BuildTargetId::Benchmark(_) => "benchmark",
-    }
-}
-
-fn add_kind(kind: BuildTargetKind<'_>, answers: &mut Answers) {
-    match kind {
-        BuildTargetKind::ProcMacro => answers.part(" ", &"proc-macro"),
-        BuildTargetKind::Binary => answers.part(" ", &"binary"),
+    };
+    answers.add(&sort);
+    answers.part(" ", &target.id().name().unwrap_or("unnamed"));
+    answers.add(&" as");
+    match target.kind() {
+        BuildTargetKind::ProcMacro => answers.add(&" proc-macro"),
+        BuildTargetKind::Binary => answers.add(&" binary"),
         BuildTargetKind::LibraryOrExample(crate_types) => {
             for crate_type in crate_types {
                 answers.part(" ", crate_type);
             }
         }
     }
+    answers.add(&"\n");
 }
 
 /// Tells both halves of a status.
