@@ -174,12 +174,16 @@ fn are_known(value: &Value, inputs: &[&str], answers: &[Answer], report: &mut Re
     };
     let mut known = true;
     for key in members.keys() {
-        let key = key.as_str();
-        let is_answered = answers.iter().any(|answer| answer.key == key);
-        if !["name", "rows"].contains(&key) && !inputs.contains(&key) && !is_answered {
+        if !is_known(key.as_str(), inputs, answers) {
             known = false;
             report.line(&format_args!("nobody reads `{key}`"));
         }
     }
     known
+}
+
+fn is_known(key: &str, inputs: &[&str], answers: &[Answer]) -> bool {
+    ["name", "rows"].contains(&key)
+        || inputs.contains(&key)
+        || answers.iter().any(|answer| answer.key == key)
 }
