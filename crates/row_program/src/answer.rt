@@ -1,3 +1,5 @@
+//! What comes of a row.
+
 use crate::fault::RowFault;
 use serde_json::Value;
 use std::alloc::{AllocError, Global};

@@ -1,3 +1,5 @@
+//! Why a row is not run.
+
 use std::alloc::{AllocError, AllocFailed};
 use thiserror::Error;
 

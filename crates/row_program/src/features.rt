@@ -1,3 +1,5 @@
+//! Features, as rows tell of them.
+
 use crate::answer::Answers;
 use workspace_record::{Feature, Label};
 

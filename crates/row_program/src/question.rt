@@ -1,3 +1,5 @@
+//! The questions that rows ask.
+
 use crate::fault::RowFault;
 use crate::reading::{choice_in, record_in, table_in};
 use crate::row::Row;

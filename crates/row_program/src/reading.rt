@@ -1,3 +1,5 @@
+//! What rows bring, read.
+
 use crate::fault::RowFault;
 use crate::row::Row;
 use record_files::{

@@ -1,3 +1,5 @@
+//! What is told of a row that differs.
+
 use crate::answer::Answer;
 use crate::row::Row;
 use serde_json::Value;

@@ -1,3 +1,5 @@
+//! Rows, and what stands under their keys.
+
 use crate::fault::RowFault;
 use serde_json::Value;
 use std::alloc::{AllocError, Global};

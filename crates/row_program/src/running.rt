@@ -1,3 +1,5 @@
+//! Rows run one after another, and compared.
+
 use crate::answer::{Answer, Answers};
 use crate::fault::RowFault;
 use crate::report::Report;

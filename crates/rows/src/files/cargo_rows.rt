@@ -1,3 +1,5 @@
+//! Rows of what Cargo and its kin print, and of what is made of it.
+
 use cargo_files::{
     FeatureWords, Refusal, RefusedFile, add_listing, choice_file, listings_file, nextest_listings,
     record_file, settings_file, spec_holds, table_file, tests_printed,

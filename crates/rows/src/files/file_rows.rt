@@ -1,3 +1,5 @@
+//! Rows of files that are read, and written again.
+
 use crate::files::copies::Copied;
 use record_files::{ReadError, read_account, read_choice, read_listings, read_record, read_table};
 use row_program::{Answers, Row, RowFault, RowRunner, file_text};

@@ -1,3 +1,5 @@
+//! Rows of reasons, for people.
+
 use feature_account_making::{
     SourcedRule, account, explanation, on_features, sourced_rules, write_entries, write_features,
     write_rules,

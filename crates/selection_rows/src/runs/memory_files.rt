@@ -1,3 +1,5 @@
+//! Files of a row.
+
 use row_program::{Row, file_text};
 use std::alloc::Global;
 use test_select::{FileFault, FileSource};

@@ -1,3 +1,5 @@
+//! Rows of the program.
+
 use crate::runs::memory_files::MemoryFiles;
 use row_program::{Answers, Row, RowFault, RowRunner};
 use std::alloc::Global;

@@ -1,3 +1,5 @@
+//! Rows of selections.
+
 use crate::selections::binaries::tell_binaries;
 use crate::selections::selecting::tell_selection;
 use crate::selections::switching::tell_switching;

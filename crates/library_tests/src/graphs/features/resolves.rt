@@ -1,3 +1,5 @@
+//! Resolves of features by visitors and by closures.
+
 ghost use Rattle.std.specs.Prelude.{◌≡◌, ◌<◌};
 
 use crate::graphs::features::graphs::{Question, answer_to, id_of, weak_graph};

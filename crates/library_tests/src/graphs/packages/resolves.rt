@@ -1,3 +1,5 @@
+//! Resolves of packages by visitors and by closures.
+
 ghost use Rattle.std.specs.Prelude.{◌≡◌, ◌<◌};
 
 use crate::graphs::packages::graphs::{CHAIN, FOR_TESTS, TRIANGLE, graph_of, id_of};

@@ -1,3 +1,5 @@
+//! Sets of packages of two graphs.
+
 use crate::graphs::packages::graphs::{FEWER, TRIANGLE, TURNED, graph_of};
 use std::alloc::Global;
 use std::process::Abort;

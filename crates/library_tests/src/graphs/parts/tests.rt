@@ -1,3 +1,5 @@
+//! Parts of packages, links and features.
+
 ghost use Rattle.std.specs.Prelude.{◌↔◌, ◌<◌, All, IsTrue};
 
 use guppy_package_parts::{

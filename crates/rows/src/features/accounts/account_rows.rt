@@ -1,3 +1,5 @@
+//! Rows of accounts and explanations.
+
 use crate::features::accounts::rule_texts::{tell_conclusions, tell_rules};
 use crate::features::accounts::switching::tell_switching;
 use feature_account::{check_account, check_explanation, rules};

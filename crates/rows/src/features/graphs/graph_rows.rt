@@ -1,3 +1,5 @@
+//! Rows of feature graphs, and of what is asked of them.
+
 use crate::features::graphs::features::{Asked, ids_of, named_in, read_feature};
 use crate::features::graphs::lists::tell_lists;
 use crate::features::graphs::resolves::tell_resolves;

@@ -1,3 +1,5 @@
+//! Rows of the nodes and edges of feature graphs.
+
 use crate::features::nodes::texts::{tell_nodes_and_edges, tell_warnings};
 use crate::records::graph_under;
 use guppy_feature_nodes::{FeatureGraphData, FeatureName};

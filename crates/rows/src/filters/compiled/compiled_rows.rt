@@ -1,3 +1,5 @@
+//! Rows of compiled filters.
+
 ghost use Rattle.std.specs.Prelude.{◌≡◌, IfOk};
 ghost use Rattle.nextest_filter_tokens.specs.declared.filterset_kind.FiltersetKind.TheVariants as kinds;
 ghost use Rattle.nextest_filter_evaluation.specs.Groups.{AreKnown};

@@ -1,3 +1,5 @@
+//! Rows of matchers.
+
 use nextest_filter_matchers::{GenericGlob, NameMatcher};
 use regex::Regex;
 use row_program::{Answers, Row, RowFault, RowRunner};

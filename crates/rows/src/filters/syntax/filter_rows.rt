@@ -1,3 +1,5 @@
+//! Rows of filter texts.
+
 use crate::filters::spans::add_span;
 use nextest_filter_syntax::{
     ParseExprError, ParseSingleError, ParsedExpr, ParsedLeaf, parse_with_faults,

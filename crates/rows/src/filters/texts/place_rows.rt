@@ -1,3 +1,5 @@
+//! Rows of parts of filter texts.
+
 use crate::filters::spans::add_span;
 use nextest_filter_tokens::{
     FaultList, and_operator, escape_after, head_of, or_operator, pattern_from, skip_blanks,

@@ -1,3 +1,5 @@
+//! Rows of graphs of numbers.
+
 ghost use Rattle.std.specs.Prelude.{◌≡◌, ◌<◌, length, All};
 
 use crate::numbers::graphs::walked::walk_over;

@@ -1,3 +1,5 @@
+//! Rows of graphs of offers.
+
 ghost use Rattle.std.specs.Prelude.{◌≡◌, ◌<◌, All};
 
 use crate::numbers::lists::{direction_in, flags_in, nodes_in};

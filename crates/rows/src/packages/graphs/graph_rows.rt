@@ -1,3 +1,5 @@
+//! Rows of package graphs.
+
 use crate::packages::graphs::details::tell_package;
 use crate::packages::graphs::members::tell_members;
 use crate::packages::graphs::resolves::tell_resolves;

@@ -1,3 +1,5 @@
+//! Rows of sources, targets and requirements.
+
 ghost use Rattle.std.specs.Prelude.{◌↔◌, All, IsTrue};
 ghost use Rattle.guppy_package_parts.specs.Lines.{IsLineAt};
 

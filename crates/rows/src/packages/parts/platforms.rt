@@ -1,3 +1,5 @@
+//! Platforms, as rows tell of them.
+
 use guppy_package_parts::{Platform, PlatformSpec};
 use row_program::{Row, RowFault};
 use serde_json::Value;

@@ -1,3 +1,5 @@
+//! Rows of paths of members.
+
 use guppy_package_rules::{PathText, compare_paths, same_path};
 use row_program::Answers;
 use std::cmp::Ordering;

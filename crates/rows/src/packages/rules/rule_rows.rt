@@ -1,3 +1,5 @@
+//! Rows of the rules that a record keeps.
+
 use crate::packages::rules::path_rows::tell_paths;
 use guppy_package_rules::{PackageGraphError, read_rows};
 use row_program::{Answers, Row, RowFault, RowRunner, record_from};
