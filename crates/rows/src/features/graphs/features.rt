@@ -75,11 +75,11 @@ pub(crate) fn tell_members<E: Display + Drop>(
 
 /// Adds those of these features that are in a set, parted by spaces.
 pub(crate) fn add_members(set: &FeatureSet<'_>, features: &[FeatureId<'_>], answers: &mut Answers) {
-    let mut between = "";
+    let mut is_first = true;
     for id in features {
         if let Ok(true) = set.contains(*id) {
-            answers.part(between, id);
-            between = " ";
+            answers.part(if is_first { "" } else { " " }, id);
+            is_first = false;
         }
     }
 }

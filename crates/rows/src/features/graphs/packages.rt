@@ -48,19 +48,19 @@ fn tell_lists(lists: &[FeatureList<'_>], answers: &mut Answers) {
 
 /// Adds the names of features, and those of optional dependencies, with a `?` for each that the list denies.
 fn add_labels(list: &FeatureList<'_>, answers: &mut Answers) {
-    let mut between = "";
+    let mut is_first = true;
     for name in list.named_features() {
         if list.has_named_feature(name) {
-            answers.part(between, &name);
-            between = " ";
+            answers.part(if is_first { "" } else { " " }, &name);
+            is_first = false;
         }
     }
     answers.add(&"; ");
-    between = "";
+    is_first = true;
     for name in list.optional_deps() {
         if list.has_optional_dependency(name) {
-            answers.part(between, &name);
-            between = " ";
+            answers.part(if is_first { "" } else { " " }, &name);
+            is_first = false;
         }
     }
     for id in list {

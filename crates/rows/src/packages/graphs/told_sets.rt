@@ -50,10 +50,10 @@ pub(crate) fn tell_parts(
             answers.add(&"; ");
             match sorted_ids(alloc, &second) {
                 Ok(ids) => {
-                    let mut between = "";
+                    let mut is_first = true;
                     for id in &ids {
-                        answers.part(between, id);
-                        between = " ";
+                        answers.part(if is_first { "" } else { " " }, id);
+                        is_first = false;
                     }
                 }
                 Err(refused) => answers.keep(key, Err(refused)),

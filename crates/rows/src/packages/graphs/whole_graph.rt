@@ -36,11 +36,11 @@ fn add_cycle(
         ids.push(id)?;
     }
     ids.sort_unstable();
-    let mut between = "[";
+    let mut is_first = true;
     for id in &ids {
-        answers.add(&between);
+        answers.add(&if is_first { "[" } else { " " });
         answers.add(id);
-        between = " ";
+        is_first = false;
     }
     answers.add(&"]");
     Ok(())
