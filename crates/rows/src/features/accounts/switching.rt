@@ -5,7 +5,7 @@ use feature_account_making::account_of;
 use guppy_feature_graph::{
     FeatureGraph, FeatureGraphData, FeatureId, FeatureLabel, FeatureQuery, FeatureSet,
 };
-use guppy_package_graph::{PackageGraph, PackageId};
+use guppy_package_graph::{Error, PackageGraph, PackageId};
 use row_program::{Answers, Question, RowFault, add_feature};
 use std::alloc::{AllocError, Global};
 use test_select_feature_laws::LineVerdict;
@@ -88,15 +88,24 @@ fn tell_features(
     answers: &mut Answers,
 ) -> Result<(), RowFault> {
     let ids = start_ids(alloc, rules)?;
-    let mut starts = Vec::with_capacity(alloc, ids.len())?;
-    for (rule, id) in rules.iter().zip(&ids) {
-        starts.push(FeatureId::new(id, label_of(&rule.conclusion.label)))?;
-    }
-    match FeatureGraph::of(data).query_forward(alloc, &starts) {
+    match query_from(alloc, FeatureGraph::of(data), rules, &ids) {
         Ok(query) => tell_reached(alloc, query, table, on, answers)?,
         Err(error) => answers.show("resolved", &error),
     }
     Ok(())
+}
+
+fn query_from<'g>(
+    alloc: Global,
+    graph: FeatureGraph<'g>,
+    rules: &[Rule],
+    package_ids: &[PackageId],
+) -> Result<FeatureQuery<'g>, Error> {
+    let mut starts = Vec::with_capacity(alloc, package_ids.len())?;
+    for (rule, package_id) in rules.iter().zip(package_ids) {
+        starts.push(FeatureId::new(package_id, label_of(&rule.conclusion.label)))?;
+    }
+    graph.query_forward(alloc, &starts)
 }
 
 /// The ids of the packages of what has no premise.

@@ -1,6 +1,6 @@
 //! Features named by rows, as `package/name`, `package/dep:name` or `package/[base]`.
 
-use guppy_feature_graph::{FeatureGraph, FeatureId, FeatureLabel, FeatureSet};
+use guppy_feature_graph::{FeatureGraph, FeatureId, FeatureLabel, FeatureList, FeatureSet};
 use guppy_package_graph::PackageId;
 use row_program::{Answers, Row, RowFault};
 use std::alloc::{AllocError, Global};
@@ -9,8 +9,14 @@ use std::fmt::Display;
 /// A package's id, and what its feature is called.
 #[derive(Drop)]
 pub(crate) struct Named<'a> {
-    pub(crate) package_id: PackageId,
-    pub(crate) label: FeatureLabel<'a>,
+    package_id: PackageId,
+    label: FeatureLabel<'a>,
+}
+
+impl Named<'_> {
+    pub(crate) fn id(&self) -> FeatureId<'_> {
+        FeatureId::new(&self.package_id, self.label)
+    }
 }
 
 /// The feature that a text names.
@@ -45,7 +51,7 @@ pub(crate) fn ids_of<'b>(
 ) -> Result<Vec<FeatureId<'b>>, AllocError> {
     let mut ids = Vec::with_capacity(alloc, all.len())?;
     for one in all {
-        ids.push(FeatureId::new(&one.package_id, one.label))?;
+        ids.push(one.id())?;
     }
     Ok(ids)
 }
@@ -82,4 +88,10 @@ pub(crate) fn add_members(set: &FeatureSet<'_>, features: &[FeatureId<'_>], answ
             is_first = false;
         }
     }
+}
+
+/// The features of a list, as they are printed.
+pub(crate) fn shown_text(alloc: Global, list: &FeatureList<'_>) -> Result<String, AllocError> {
+    let shown = list.display_features();
+    format!(in alloc; "{shown}")
 }

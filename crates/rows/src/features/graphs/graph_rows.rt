@@ -106,9 +106,8 @@ fn tell_found(
 ) -> Result<(), RowFault> {
     if let Some(text) = row.get("find").and_then(Value::as_str) {
         let named = read_feature(alloc, text)?;
-        let id = FeatureId::new(&named.package_id, named.label);
-        answers.show("found", &graph.contains(id));
-        match graph.metadata(id) {
+        answers.show("found", &graph.contains(named.id()));
+        match graph.metadata(named.id()) {
             Ok(feature) => {
                 answers.part(", ", &feature.feature_id());
                 answers.part(" is ", &feature.label());

@@ -1,6 +1,6 @@
 //! The features of packages, default features, cycles, and what filters take.
 
-use crate::features::graphs::features::{Asked, add_members, tell_members};
+use crate::features::graphs::features::{Asked, add_members, shown_text, tell_members};
 use crate::ids::id_in;
 use guppy_feature_graph::{
     Cycles, FeatureFilter, FeatureGraph, FeatureId, StandardFeatures, default_feature_id,
@@ -42,7 +42,7 @@ fn tell_package(
 ) {
     match asked.graph.all_features_for(alloc, id) {
         Ok(list) => {
-            answers.show("features", &list.display_features());
+            answers.keep("features", shown_text(alloc, &list));
             answers.show("default", &default_feature_id(list.package()));
             match asked.graph.package_graph().metadata(list.package().id()) {
                 Ok(package) => {
@@ -69,7 +69,7 @@ fn tell_kept(
         Ok(set) => {
             answers.answered("", set.contains_package(id));
             match set.features_for(alloc, id) {
-                Ok(Some(list)) => answers.part(": ", &list.display_features()),
+                Ok(Some(list)) => answers.answered(": ", shown_text(alloc, &list)),
                 Ok(None) => answers.part(": ", &"none"),
                 Err(error) => answers.part(": ", &error),
             }

@@ -1,5 +1,6 @@
 //! The packages of a set of features, and the features of each.
 
+use crate::features::graphs::features::shown_text;
 use guppy_feature_graph::{FeatureList, FeatureQuery, FeatureSet};
 use guppy_package_graph::{DependencyDirection, PackageId};
 use row_program::Answers;
@@ -12,7 +13,7 @@ pub(crate) fn tell_packages(
     answers: &mut Answers,
 ) -> Result<(), AllocError> {
     let forward = DependencyDirection::Forward;
-    tell_lists(&one.packages_with_features(alloc, forward)?, answers);
+    tell_lists(alloc, &one.packages_with_features(alloc, forward)?, answers);
     answers.show("packages", &one.to_package_set(alloc)?.len());
     answers.show("root_count", &one.root_features(alloc, forward)?.len());
     answers.part(", ", &one.features(forward).next().is_some());
@@ -35,11 +36,11 @@ fn tell_query(
 }
 
 /// Tells each list, with what it says of its labels.
-fn tell_lists(lists: &[FeatureList<'_>], answers: &mut Answers) {
+fn tell_lists(alloc: Global, lists: &[FeatureList<'_>], answers: &mut Answers) {
     answers.begin("by_package");
     for list in lists {
         answers.part(" ", list.package().id());
-        answers.part("(", &list.display_features());
+        answers.answered("(", shown_text(alloc, list));
         answers.add(&if list.has_base() { ", base; " } else { "; " });
         add_labels(list, answers);
         answers.add(&")");
