@@ -40,7 +40,8 @@ impl Workspace {
         fs::write(file("metadata.json"), &printed)?;
         let record = output(convert()?.arg("record").arg(file("metadata.json")))?;
         fs::write(file("record.json"), &record)?;
-        fs::write(file("cfg.txt"), output(Command::new("rustc").args(["--print", "cfg"]))?)?;
+        let flags = env::var("RUSTFLAGS").unwrap_or_default();
+        fs::write(file("cfg.txt"), output(Command::new("rustc").args(["--print", "cfg"]).args(flags.split_whitespace()))?)?;
         let host = host()?;
         let table = output(convert()?.args(["table", "--triple", &host, "--record"]).arg(file("record.json")).arg(file("cfg.txt")))?;
         let choice = output(convert()?.args(["choice", "--record"]).arg(file("record.json")))?;
