@@ -64,10 +64,14 @@ other_left : {X : Type 0} (b : Bool) (x : Option X) → (b ≡ true → ⊥) →
 other_left true x = λ no. absurd (no refl)
 other_left false x = λ no. refl
 
+-- the map has no listing that it had not before
+abbrev HasNoOther : HeldListings → HeldListings → Type 0
+HasNoOther was is = (cs : List ℕ) (listing : Vec (String Global) Global) → get_by_text is cs ≡ Some listing → get_by_text was cs ≡ Some listing
+
 -- memory runs out
-pub stops_taking : (was is : HeldListings) (ids : List (List ℕ)) (result : Result (Vec (Vec (String Global) Global) Global) AskError) → IsErrAnd result (λ e. e ≡ Memory) → ((cs : List ℕ) → ¬ (Contains ids cs) → get_by_text is cs ≡ get_by_text was cs) → TakesEach was ids result is
-stops_taking was is ids (Ok taken) stopped left = absurd stopped
-stops_taking was is ids (Err e) stopped left = subst (λ e. TakesEach was ids (Err e) is) (sym stopped) (record { after = unasked was; lists = asked_nothing (unasked was) ids; missing = λ j same. absurd cc; gone = λ ok. absurd (true≢false (sym ok)); left = left })
+pub stops_taking : (was is : HeldListings) (ids : List (List ℕ)) (result : Result (Vec (Vec (String Global) Global) Global) AskError) → IsErrAnd result (λ e. e ≡ Memory) → ((cs : List ℕ) → ¬ (Contains ids cs) → get_by_text is cs ≡ get_by_text was cs) → HasNoOther was is → TakesEach was ids result is
+stops_taking was is ids (Ok taken) stopped left had = absurd stopped
+stops_taking was is ids (Err e) stopped left had = subst (λ e. TakesEach was ids (Err e) is) (sym stopped) (record { after = unasked was; lists = asked_nothing (unasked was) ids; missing = λ j same. absurd cc; gone = λ other. absurd (other refl); left = left; had = had })
 
 -- the id at place i
 module _ (was is : HeldListings) (ids : List (List ℕ)) (i : ℕ) (id : List ℕ) (within : i < length ids) (at : get_or ids i [] ≡ id) (taken : List (List (List ℕ))) (so_far : AreTaken was ids i taken is) where
@@ -96,12 +100,18 @@ module _ (was is : HeldListings) (ids : List (List ℕ)) (i : ℕ) (id : List �
   left_next : (new : HeldListings) → ((cs : List ℕ) → get_by_text new cs ≡ update bytes_eq (get_by_text is) id None cs) → (cs : List ℕ) → ¬ (Contains (take (i + 1) ids) cs) → get_by_text new cs ≡ get_by_text was cs
   left_next new changed cs apart = changed cs ∙ other_left (bytes_eq id cs) (get_by_text is cs) (λ e. apart (is_last cs ((bytes_eq-Decides id cs).0 e))) ∙ so_far.left cs (λ before. apart (is_before cs before))
 
+  gone_next : (new : HeldListings) → ((cs : List ℕ) → get_by_text new cs ≡ update bytes_eq (get_by_text is) id None cs) → (cs : List ℕ) → Contains (take (i + 1) ids) cs → get_by_text new cs ≡ None
+  gone_next new changed cs stands = changed cs ∙ none_on (bytes_eq id cs) (get_by_text is cs) (⊎_elim (λ before. inr (so_far.gone cs before)) (λ last. inl ((bytes_eq-Decides id cs).1 last)) (cases cs stands))
+
+  had_next : (new : HeldListings) → ((cs : List ℕ) → get_by_text new cs ≡ update bytes_eq (get_by_text is) id None cs) → HasNoOther was new
+  had_next new changed cs other is_other = so_far.had cs other (kept_on (bytes_eq id cs) (get_by_text is cs) other (sym (changed cs) ∙ is_other))
+
   -- its listing is taken too
   pub taken_more : (listing : Vec (String Global) Global) (new : HeldListings) → get_by_text is id ≡ Some listing → ((cs : List ℕ) → get_by_text new cs ≡ update bytes_eq (get_by_text is) id None cs) → IsWellFormed (texts listing.items) → AreTaken was ids (i + 1) (taken ++ texts listing.items ∷ []) new
   taken_more listing new there changed good = record {
     answered = answered_more ids i id within at (unasked was) now next taken so_far.answered (texts listing.items) asked_next (omega arith) (was_there listing there) good;
-    had = λ cs other is_other. so_far.had cs other (kept_on (bytes_eq id cs) (get_by_text is cs) other (sym (changed cs) ∙ is_other));
-    gone = λ cs stands. changed cs ∙ none_on (bytes_eq id cs) (get_by_text is cs) (⊎_elim (λ before. inr (so_far.gone cs before)) (λ last. inl ((bytes_eq-Decides id cs).1 last)) (cases cs stands));
+    had = had_next new changed;
+    gone = gone_next new changed;
     left = left_next new changed;
   }
 
@@ -115,8 +125,9 @@ module _ (was is : HeldListings) (ids : List (List ℕ)) (i : ℕ) (id : List �
     after = record { asked = take i ids; failures = 1; listing_of = listing_in was };
     lists = failed_at ids i id within at (unasked was) now _ taken so_far.answered (record { asked = inl (sym (append-nil (take i ids))); failures = refl; listings = refl });
     missing = λ j same. let here : i ≡ j = cc in subst (λ k. IsFirstAt ids k → listing_in was (get_or ids k []) ≡ None) here (missing_at none);
-    gone = λ ok. absurd (true≢false (sym ok));
-    left = λ cs apart. left_next new changed cs (λ stands. apart (contained_in_whole ids (i + 1) cs stands));
+    gone = λ other. gone_next new changed;
+    left = left_next new changed;
+    had = had_next new changed;
   }
 
   -- its listing has a fault
@@ -125,13 +136,14 @@ module _ (was is : HeldListings) (ids : List (List ℕ)) (i : ℕ) (id : List �
     after = next;
     lists = faulty_at ids i id within at (unasked was) now next taken so_far.answered (texts listing.items) fault asked_next (omega arith) (was_there listing there) bad;
     missing = λ j same. absurd cc;
-    gone = λ ok. absurd (true≢false (sym ok));
-    left = λ cs apart. left_next new changed cs (λ stands. apart (contained_in_whole ids (i + 1) cs stands));
+    gone = λ other. gone_next new changed;
+    left = left_next new changed;
+    had = had_next new changed;
   }
 
   -- memory runs out after it
   pub stops_after : (new : HeldListings) → ((cs : List ℕ) → get_by_text new cs ≡ update bytes_eq (get_by_text is) id None cs) → (result : Result (Vec (Vec (String Global) Global) Global) AskError) → IsErrAnd result (λ e. e ≡ Memory) → TakesEach was ids result new
-  stops_after new changed result stopped = stops_taking was new ids result stopped (λ cs apart. left_next new changed cs (λ stands. apart (contained_in_whole ids (i + 1) cs stands)))
+  stops_after new changed result stopped = stops_taking was new ids result stopped (λ cs apart. left_next new changed cs (λ stands. apart (contained_in_whole ids (i + 1) cs stands))) (had_next new changed)
 
 -- all are taken
 pub takes_all : (was is : HeldListings) (ids : List (List ℕ)) (i : ℕ) (taken : Vec (Vec (String Global) Global) Global) → length ids ≤ i → AreTaken was ids i (map (λ (v : Vec (String Global) Global). texts v.items) taken.items) is → TakesEach was ids (Ok taken) is
@@ -139,6 +151,7 @@ takes_all was is ids i taken past done = record {
   after = after_asking was (take i ids);
   lists = answered_all ids i (unasked was) (after_asking was (take i ids)) _ past done.answered;
   missing = λ j same. absurd cc;
-  gone = λ ok cs stands. done.gone cs (subst (λ xs. Contains xs cs) (sym (take_all i ids past)) stands);
+  gone = λ other cs stands. done.gone cs (subst (λ xs. Contains xs cs) (sym (take_all i ids past)) stands);
   left = others_left done;
+  had = done.had;
 }

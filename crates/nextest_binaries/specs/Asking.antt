@@ -1,5 +1,5 @@
 -- What it is to ask for several listings, one after another.
-use Rattle.std.specs.Prelude.{◌≡◌, ◌≢◌, ℕ, ◌+◌, ◌<◌, ◌≤◌, List, length, take, map, All, slice_index_or, [], Contains, IsOk, Some, None, Result, Ok, Err, Vec, String}
+use Rattle.std.specs.Prelude.{◌≡◌, ◌≢◌, ℕ, ◌+◌, ◌<◌, ◌≤◌, List, length, take, map, All, slice_index_or, [], Contains, Some, None, Result, Ok, Err, Vec, String}
 use Rattle.std.specs.BTreeMap.{get_by_text}
 use Rattle.std.specs.Global.{Global}
 use Rattle.list_facts.specs.Texts.{texts}
@@ -57,10 +57,18 @@ ListsEach old ids (Err Memory) new = AskedSome old ids new
 abbrev pub IsFirstAt : List (List ℕ) → ℕ → Type 0
 IsFirstAt ids i = (j : ℕ) → j < i → slice_index_or ids j [] ≢ slice_index_or ids i []
 
--- the listings of these ids are taken out of a map, which keeps all others: what asking a lister over it comes to, which fails for an id alone that has no listing, or whose was taken before
+-- the ids that were come to: all, or those up to the one at which the taking ended; where memory ran out, maybe all
+abbrev pub come_to : {A : Type 0} → List (List ℕ) → Result A AskError → List (List ℕ)
+come_to ids (Ok listings) = ids
+come_to ids (Err (Lister i)) = take (i + 1) ids
+come_to ids (Err (BadListing i fault)) = take (i + 1) ids
+come_to ids (Err Memory) = ids
+
+-- the listings of these ids are taken out of a map, which keeps all others as they were, also those of ids that were not come to: what asking a lister over it comes to, which fails for an id alone that has no listing, or whose was taken before
 pub record TakesEach (old : HeldListings) (ids : List (List ℕ)) (result : Result (Vec (Vec (String Global) Global) Global) AskError) (new : HeldListings) : Type 0 where
   pub after : Shown
   pub lists : ListsEach (unasked old) ids result after
   pub missing : (i : ℕ) → result ≡ Err (Lister i) → IsFirstAt ids i → listing_in old (slice_index_or ids i []) ≡ None
-  pub gone : IsOk result → (id : List ℕ) → Contains ids id → get_by_text new id ≡ None
-  pub left : (id : List ℕ) → ¬ (Contains ids id) → get_by_text new id ≡ get_by_text old id
+  pub gone : result ≢ Err Memory → (id : List ℕ) → Contains (come_to ids result) id → get_by_text new id ≡ None
+  pub left : (id : List ℕ) → ¬ (Contains (come_to ids result) id) → get_by_text new id ≡ get_by_text old id
+  pub had : (id : List ℕ) (listing : Vec (String Global) Global) → get_by_text new id ≡ Some listing → get_by_text old id ≡ Some listing

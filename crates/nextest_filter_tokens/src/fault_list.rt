@@ -23,7 +23,8 @@ impl FaultList {
 
     /// No faults.
     pub fn new(alloc: Global) -> FaultList
-        ensures { result.list.items ≡ [] }
+        ensures empty { result.list.items ≡ [] }
+        ensures open { result.is_closed ≡ false }
     {
         let list = Vec::new(alloc);
         FaultList {
@@ -53,6 +54,7 @@ impl FaultList {
         ensures added { OnOk result (self.old.is_closed ≡ false
             → self.new.list.items ≡ self.old.list.items ++ fault ∷ []) }
         ensures closed { OnOk result (self.old.is_closed ≡ true → self.new ≡ self.old) }
+        ensures open { OnOk result (self.new.is_closed ≡ self.old.is_closed) }
     {
         if self.is_closed {
             return Ok(());

@@ -8,7 +8,7 @@ use Rattle.nextest_binaries.proofs.Taking.{fails_at, finds_fault, stops_after, s
 use Rattle.nextest_binaries.proofs.ask.take_each.Goals as goal
 
 pub returns-in_err-taken : goal.returns-in_err-taken
-returns-in_err-taken c = stops_taking _ _ _ _ c.from_residual.ensures.1 (λ cs apart. refl)
+returns-in_err-taken c = stops_taking _ _ _ _ c.from_residual.ensures.1 (λ cs apart. refl) (λ cs listing h. h)
 
 pub loop-place-init : goal.loop-place-init
 loop-place-init c = rw c.in_ok-taken.ensures.items (taken_none _ _)

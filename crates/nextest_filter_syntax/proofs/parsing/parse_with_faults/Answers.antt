@@ -32,10 +32,10 @@ returns-in-Ok-clause-exact c =
     let tree = c.in_ok-tree.ensures in
     let ends = c.in-Ok.ensures in
     let faults = c.expect_end.new.faults.list.items in
-    whole_exact text c.in_ok-tree.tree c.expect_end.new.faults.list.len (syntax_faults faults) (pattern_faults faults) (all_faults faults ∙ sym c.expect_end.new.faults.list.ok.0) (spoiled_grows c.in_ok-tree.tree _ _ tree.spoils.1 ends.grows.0) (built_whole c.in_ok-tree.tree _ _ _ (ap pattern_spans c.new-faults.ensures) ends.keeps tree.spoils.0) (λ clean.
+    whole_exact text c.in_ok-tree.tree c.expect_end.new.faults.list.len (syntax_faults faults) (pattern_faults faults) (all_faults faults ∙ sym c.expect_end.new.faults.list.ok.0) (spoiled_grows c.in_ok-tree.tree _ _ tree.spoils.1 ends.grows.0) (built_whole c.in_ok-tree.tree _ _ _ (ap pattern_spans c.new-faults.ensures.empty) ends.keeps tree.spoils.0) (λ clean.
     let w = tree.read (omega (arith, clean, ends.grows.1)) in
     (w.0, (c.in_ok-tree.end, w.1, ends.read clean), w.2)) (λ t whole.
-    let w = tree.only (ap syntax_faults c.new-faults.ensures) t whole.0 whole.1 (whole_ends text whole.0 2 whole.2) in
+    let w = tree.only (ap syntax_faults c.new-faults.ensures.empty) t whole.0 whole.1 (whole_ends text whole.0 2 whole.2) in
     ends.only w.1 (ap (skip text) w.0 ∙ whole.2))
 
 pub returns-in-Ok-clause-reads : goal.returns-in-Ok-clause-reads
@@ -48,22 +48,22 @@ returns-in-Ok-clause-reads c =
           (w.0, (c.in_ok-tree.end, w.1, ends.read clean)),
       λ some.
           let whole = some.1 in
-          let w = tree.only (ap syntax_faults c.new-faults.ensures) some.0 whole.0 whole.1 (whole_ends text whole.0 2 whole.2) in
+          let w = tree.only (ap syntax_faults c.new-faults.ensures.empty) some.0 whole.0 whole.1 (whole_ends text whole.0 2 whole.2) in
           ends.only w.1 (ap (skip text) w.0 ∙ whole.2),
     )
 
 pub returns-in-Ok-clause-tree : goal.returns-in-Ok-clause-tree
 returns-in-Ok-clause-tree c t whole =
     let text = c.args.text.now in
-    let tree = c.in_ok-tree.ensures.only (ap syntax_faults c.new-faults.ensures) t whole.0 whole.1 (whole_ends text whole.0 2 whole.2) in
+    let tree = c.in_ok-tree.ensures.only (ap syntax_faults c.new-faults.ensures.empty) t whole.0 whole.1 (whole_ends text whole.0 2 whole.2) in
     whole_tree text c.in_ok-tree.end c.in_ok-tree.tree t c.new-faults.result c.tree_from.new.faults (c.in_ok-tree.ensures.read tree.1) (ap (skip text) tree.0 ∙ whole.2) whole
 
 pub returns-in-Ok-clause-built : goal.returns-in-Ok-clause-built
 returns-in-Ok-clause-built c =
-    built_whole c.in_ok-tree.tree _ _ _ (ap pattern_spans c.new-faults.ensures) c.in-Ok.ensures.keeps c.in_ok-tree.ensures.spoils.0
+    built_whole c.in_ok-tree.tree _ _ _ (ap pattern_spans c.new-faults.ensures.empty) c.in-Ok.ensures.keeps c.in_ok-tree.ensures.spoils.0
 
 pub returns-in-Ok-clause-of_tree : goal.returns-in-Ok-clause-of_tree
 returns-in-Ok-clause-of_tree c t whole =
     let text = c.args.text.now in
-    let tree = c.in_ok-tree.ensures.only (ap syntax_faults c.new-faults.ensures) t whole.0 whole.1 (whole_ends text whole.0 2 whole.2) in
-    whole_places text c.in_ok-tree.end c.in_ok-tree.tree t c.new-faults.result c.tree_from.new.faults c.expect_end.new.faults (ap pattern_spans c.new-faults.ensures) (c.in_ok-tree.ensures.read tree.1) c.in-Ok.ensures.keeps (ap (skip text) tree.0 ∙ whole.2) whole
+    let tree = c.in_ok-tree.ensures.only (ap syntax_faults c.new-faults.ensures.empty) t whole.0 whole.1 (whole_ends text whole.0 2 whole.2) in
+    whole_places text c.in_ok-tree.end c.in_ok-tree.tree t c.new-faults.result c.tree_from.new.faults c.expect_end.new.faults (ap pattern_spans c.new-faults.ensures.empty) (c.in_ok-tree.ensures.read tree.1) c.in-Ok.ensures.keeps (ap (skip text) tree.0 ∙ whole.2) whole
