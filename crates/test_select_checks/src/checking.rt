@@ -1,8 +1,10 @@
 //! Whether a record keeps the rules.
 
+ghost use Rattle.std.specs.Prelude.{IfErr};
 ghost use Rattle.test_select_checks.specs.Checks.{IsChecked};
 ghost use Rattle.test_select_checks.specs.Compiling.{AnswersFilters, ChecksFilters};
 ghost use Rattle.test_select_checks.specs.Contexts.{IsDeclaredGraph};
+ghost use Rattle.test_select_checks.specs.Errors.{RefusesGraph};
 
 use crate::checked_record::CheckedRecord;
 use crate::compiled_filters::record_filters;
@@ -26,6 +28,7 @@ pub fn check_record(alloc: Global, record: &WorkspaceRecord) -> Result<(), Recor
 /// The package graph of the record, or the first rule that it breaks.
 pub fn declared_graph(alloc: Global, record: &WorkspaceRecord) -> Result<PackageGraph, RecordError>
     ensures graph { AnswersFilters (IsDeclaredGraph record.now) record.now result }
+    ensures refused { IfErr result (RefusesGraph record.now) }
 {
     let graph = graph_of(alloc, record)?;
     Ok(graph)
