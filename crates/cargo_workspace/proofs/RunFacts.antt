@@ -8,6 +8,7 @@ use Rattle.clap.specs.declared.parser.ArgMatches.{ArgMatches}
 use Rattle.clap.proofs.OnLiterals.{clap_on_literals}
 use Rattle.list_facts.specs.Writers.{Writes}
 use Rattle.workspace_record.specs.Records.{Text}
+use Rattle.cargo_workspace.specs.Failures.{IsBadLine}
 use Rattle.cargo_workspace.specs.Files.{Answer, Asks}
 use Rattle.cargo_workspace.specs.Maker.{maker}
 use Rattle.cargo_workspace.specs.Running.{EndsRun, Makes, MakesAsked, MakesIfAny, conversion_named}
@@ -82,3 +83,8 @@ module _ {R : List ℕ → Text → Answer → List ℕ → Type 0} {s t : List 
   -- the end of a run by the words that were parsed
   pub ends_as : (below asked : Option (Text × List Row)) (result : Result (Unit {0}) Failure) (old new : Option Text) → below ≡ asked → Asks R s t (EndsRun below result old new) → Asks R s t (EndsRun asked result old new)
   ends_as below asked result old new same ends = subst (λ (w : Option (Text × List Row)). Asks R s t (EndsRun w result old new)) same ends
+
+-- want of memory refuses words too
+pub memory_refuses : (result : Result (Unit {0}) Failure) → IsErrAnd result (λ f. f ≡ Memory) → IsErrAnd result IsBadLine
+memory_refuses (Ok x) is = absurd is
+memory_refuses (Err f) is = inl is

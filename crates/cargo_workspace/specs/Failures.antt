@@ -1,5 +1,5 @@
 -- The statuses of a run that fails, the lines that tell of it, and why a file is refused.
-use Rattle.std.specs.Prelude.{ℕ, ◌++◌, List, Option, Some, None, Result, Ok, Err, codes}
+use Rattle.std.specs.Prelude.{◌≡◌, ◌⊎◌, ℕ, ◌++◌, List, Option, Some, None, Result, Ok, Err, codes}
 use Rattle.std.specs.Borrow.{Bor}
 use Rattle.workspace_record.specs.Records.{Text}
 use Rattle.cargo_files.specs.declared.refusal.Refusal.{Refusal}
@@ -14,6 +14,10 @@ status_of (CannotRead name) = 1
 status_of (Refused file) = 1
 status_of CannotWrite = 1
 status_of Memory = 1
+
+-- a command line is refused, with status 2, or memory ran out
+abbrev pub IsBadLine : Failure → Type 0
+IsBadLine failure = (failure ≡ Memory) ⊎ (status_of failure ≡ 2)
 
 -- the lines that tell of a failure, where they are known; of a bad command line `clap` tells, and of a file that is refused the library that refuses it
 abbrev pub failure_lines : Failure → Option Text

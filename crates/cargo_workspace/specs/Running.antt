@@ -1,11 +1,12 @@
 -- How a run of the program ends, by its words and by what its files answered.
-use Rattle.std.specs.Prelude.{◌≡◌, ◌⊎◌, ◌++◌, ℕ, List, [], Option, Some, None, Result, Ok, Err, IfErr, bytes_eq, codes, if◌then◌else◌}
+use Rattle.std.specs.Prelude.{◌≡◌, ◌⊎◌, ◌++◌, ℕ, List, [], Option, Some, None, Result, Ok, Err, IfErr, IsErrAnd, bytes_eq, codes, if◌then◌else◌}
 use Rattle.clap.specs.Words.{Row, fault_of, subcommand_of}
 use Rattle.list_facts.specs.Writers.{Writes}
 use Rattle.workspace_record.specs.Records.{Text}
 use Rattle.test_select_files.specs.Telling.{Tells}
 use Rattle.cargo_workspace.specs.Conversions.{MakesChoice, MakesListings, MakesRecord, MakesTable}
-use Rattle.cargo_workspace.specs.Failures.{failure_lines, status_of}
+use Rattle.test_select_files.specs.Mistakes.{AreMistakes}
+use Rattle.cargo_workspace.specs.Failures.{IsBadLine, failure_lines, status_of}
 use Rattle.cargo_workspace.specs.Files.{Answer, Asked, Asks}
 use Rattle.cargo_workspace.specs.Maker.{maker}
 use Rattle.cargo_workspace.specs.declared.conversions.Conversion.{Conversion}
@@ -61,9 +62,10 @@ abbrev pub TellsOutcome : Result (Unit {0}) Failure → Option Text → Option T
 TellsOutcome (Ok x) old new = new ≡ old
 TellsOutcome (Err failure) old new = Tells (failure_lines failure) old new
 
--- a run on these words ends with the status, has told of its failure, and has printed what the words ask for, where `clap` finds no fault in them
+-- a run on these words ends with the status, has told of its failure, and has printed what the words ask for, where `clap` finds no fault in them; where it finds mistakes, they are refused, no file is asked for, and nothing printed
 pub record EndsProgram (words : List Text) (R : List ℕ → Text → Answer → List ℕ → Type 0) (s t : List ℕ) (old new err_old err_new : Option Text) (status : ℕ) : Type 0 where
   pub outcome : Result (Unit {0}) Failure
   pub is_status : status ≡ status_by outcome
   pub told : TellsOutcome outcome err_old err_new
   pub ends : fault_of maker words ≡ [] → Asks R s t (EndsRun (subcommand_of maker words) outcome old new)
+  pub mistakes : AreMistakes (fault_of maker words) → IsErrAnd outcome IsBadLine × (new ≡ old) × (t ≡ s)

@@ -3,7 +3,7 @@
 ghost use Rattle.std.specs.Prelude.{◌≡◌};
 ghost use Rattle.clap.specs.Words.{kind_of};
 ghost use Rattle.clap.specs.declared.error.ErrorKind.TheVariants.{OutOfMemory};
-ghost use Rattle.cargo_workspace.specs.Failures.{status_of};
+ghost use Rattle.cargo_workspace.specs.Failures.{IsBadLine, status_of};
 ghost use Rattle.cargo_workspace.specs.declared.failure.Failure.TheVariants.{CannotWrite, Memory};
 
 use cargo_files::RefusedFile;
@@ -56,7 +56,7 @@ impl fmt::Display for Failure<'_> {
 }
 
 impl From<clap::Error> for Failure<'_> {
-    ghost from_gives = { λ e f. kind_of e ≡ OutOfMemory → f ≡ Memory };
+    ghost from_gives = { λ e f. (kind_of e ≡ OutOfMemory → f ≡ Memory) × IsBadLine f };
 
     fn from(error: clap::Error) -> Self {
         match error.kind() {

@@ -1,10 +1,11 @@
 //! The program, over any files and any two streams.
 
-ghost use Rattle.std.specs.Prelude.{◌≡◌, ◌≤◌, ◌++◌, [], Err, IfErr, codes, map};
+ghost use Rattle.std.specs.Prelude.{◌≡◌, ◌≢◌, ◌≤◌, ◌++◌, [], Err, IfErr, IsErrAnd, codes, map};
 ghost use Rattle.clap.specs.Words.{fault_of, kind_of, subcommand_of, subcommand_rows_of};
-ghost use Rattle.clap.specs.declared.error.ErrorKind.TheVariants.{OutOfMemory};
+ghost use Rattle.clap.specs.declared.error.ErrorKind.TheVariants.{DisplayHelp, DisplayVersion, OutOfMemory};
 ghost use Rattle.list_facts.specs.Writers.{Writes};
-ghost use Rattle.cargo_workspace.specs.Failures.{status_of};
+ghost use Rattle.test_select_files.specs.Mistakes.{AreMistakes};
+ghost use Rattle.cargo_workspace.specs.Failures.{IsBadLine, status_of};
 ghost use Rattle.cargo_workspace.specs.Files.{Asks};
 ghost use Rattle.cargo_workspace.specs.Maker.{maker};
 ghost use Rattle.cargo_workspace.specs.Running.{EndsProgram, EndsRun};
@@ -70,6 +71,9 @@ fn try_run<'a, S: AsStr, O: Write>(
         → Asks (answers files.old) (state files.old) (state files.new)
         (EndsRun (subcommand_of maker (map S.text words.now)) result (O.contents out.old)
         (O.contents out.new)) }
+    ensures mistakes { AreMistakes (fault_of maker (map S.text words.now))
+        → IsErrAnd result IsBadLine
+        × (O.contents out.new ≡ O.contents out.old) × (state files.new ≡ state files.old) }
 {
     match command(alloc)?.try_get_matches_from(words) {
         Ok(matches) => print_made(alloc, &matches, files, out),
@@ -84,6 +88,8 @@ fn show<'a, O: Write>(shown: Error, out: &mut O) -> Result<(), Failure<'a>>
         → O.contents out.new ≡ O.contents out.old) }
     ensures memory { kind_of shown ≡ OutOfMemory → (result ≡ Err Memory)
         × (O.contents out.new ≡ O.contents out.old) }
+    ensures refused { kind_of shown ≢ DisplayHelp → kind_of shown ≢ DisplayVersion
+        → IsErrAnd result IsBadLine × (O.contents out.new ≡ O.contents out.old) }
 {
     if shown.use_stderr() {
         return Err(Failure::from(shown));

@@ -1,11 +1,13 @@
 -- What the words of a command line come to, where they have no fault.
-use Rattle.std.proofs.Common.{◌≡◌, ◌∙◌, ℕ, List, [], refl, ap, subst, true, inl, inr, Result, Err}
-use Rattle.std.specs.Prelude.{Option}
+use Rattle.std.proofs.Common.{◌≡◌, ◌∙◌, ℕ, List, [], refl, ap, subst, sym, true, inl, inr, Result, Ok, Err}
+use Rattle.std.specs.Prelude.{IfErr, IsErrAnd, Option}
 use Rattle.clap.specs.Words.{App, HasMatchesOf, Row, Text, found_of, is_simple, matches_of, rows_of}
 use Rattle.clap.specs.Faults.{is_simple_and_free}
 use Rattle.clap.specs.declared.parser.ArgMatches.{ArgMatches}
 use Rattle.clap.proofs.OnLiterals.{clap_on_literals}
 use Rattle.test_select_files.specs.Files.{Answer}
+use Rattle.test_select_files.specs.Failures.{status_of}
+use Rattle.test_select_files.specs.Mistakes.{IsBadLine}
 use Rattle.test_select_files.specs.Reading.{Asks}
 use Rattle.test_select_files.specs.Verdicts.{EndsCheck}
 use Rattle.test_select_files.specs.declared.run_failure.RunFailure.{RunFailure}
@@ -25,6 +27,15 @@ checker_is_free = refl
 -- what a command line that is taken asks for
 pub rows_are : (a : App) (words : List Text) (m : ArgMatches) → a ≡ checker → HasMatchesOf a words m → rows_of (found_of m) ≡ matches_of checker words
 rows_are a words m is h = (h (ap is_simple is ∙ checker_is_simple)).0 ∙ ap (λ (x : App). matches_of x words) is
+
+-- want of memory refuses too
+pub memory_refuses : (result : Result (Unit {0}) RunFailure) → IsErrAnd result (λ f. f ≡ Memory) → IsErrAnd result IsBadLine
+memory_refuses (Ok x) is = absurd is
+memory_refuses (Err f) is = inl is
+
+-- and has status 1
+pub memory_is_one : (result : Result (Unit {0}) RunFailure) → result ≡ Err Memory → IfErr result (λ f. status_of f ≡ 1)
+memory_is_one result is = subst (λ (r : Result (Unit {0}) RunFailure). IfErr r (λ f. status_of f ≡ 1)) (sym is) refl
 
 module _ {R : List ℕ → Text → Answer → List ℕ → Type 0} {s : List ℕ} where
   -- where memory ran out no file was asked for

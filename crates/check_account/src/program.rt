@@ -1,8 +1,9 @@
 //! The program, over any files and any two streams.
 
-ghost use Rattle.std.specs.Prelude.{◌≡◌, ◌≤◌, [], Err, IfErr, IfOk, map, Ok};
+ghost use Rattle.std.specs.Prelude.{◌≡◌, ◌≤◌, [], Err, IfErr, IfOk, IsErrAnd, map, Ok};
 ghost use Rattle.clap.specs.Words.{app_of, fault_of, matches_of};
 ghost use Rattle.test_select_files.specs.Failures.{failure_lines, is_denial, status_of};
+ghost use Rattle.test_select_files.specs.Mistakes.{AreMistakes, IsBadLine};
 ghost use Rattle.test_select_files.specs.Reading.{Asks};
 ghost use Rattle.test_select_files.specs.Telling.{TellsUnless};
 ghost use Rattle.test_select_files.specs.Verdicts.{EndsCheck};
@@ -40,6 +41,11 @@ pub(crate) fn run<S: AsStr, O: Write, E: Write>(
         (EndsCheck (matches_of checker (map S.text words.now)) (Err f) (O.contents out.old)
         (O.contents out.new))
         × TellsUnless (is_denial f) (failure_lines f) (E.contents err.old) (E.contents err.new) }
+    ensures accepted { fault_of checker (map S.text words.now) ≡ [] → result ≤ 1 }
+    ensures mistaken { AreMistakes (fault_of checker (map S.text words.now))
+        → (f : RunFailure) × IsBadLine f × (result ≡ status_of f)
+        × TellsUnless (is_denial f) (failure_lines f) (E.contents err.old) (E.contents err.new)
+        × (O.contents out.new ≡ O.contents out.old) × (state files.new ≡ state files.old) }
 {
     match try_run(alloc, words, files, out) {
         Ok(()) => 0,
@@ -64,6 +70,11 @@ fn try_run<'a, S: AsStr, O: Write>(
         → Asks (answers files.old) (state files.old) (state files.new)
         (EndsCheck (matches_of checker (map S.text words.now)) result (O.contents out.old)
         (O.contents out.new)) }
+    ensures accepted { fault_of checker (map S.text words.now) ≡ []
+        → IfErr result (λ f. status_of f ≡ 1) }
+    ensures mistaken { AreMistakes (fault_of checker (map S.text words.now))
+        → IsErrAnd result IsBadLine
+        × (O.contents out.new ≡ O.contents out.old) × (state files.new ≡ state files.old) }
 {
     match command(alloc)?.try_get_matches_from(words) {
         Ok(matches) => print_verdict(alloc, &matches, files, out),

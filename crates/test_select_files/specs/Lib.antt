@@ -3,6 +3,7 @@ pub mod Defaults
 pub mod Failures
 pub mod Files
 pub mod Listed
+pub mod Mistakes
 pub mod Reading
 pub mod Refusals
 pub mod Verdicts

@@ -1,10 +1,11 @@
 //! What a program prints.
 
-ghost use Rattle.std.specs.Prelude.{◌≡◌, Err, IfErr};
+ghost use Rattle.std.specs.Prelude.{◌≡◌, ◌≢◌, Err, IfErr, IsErrAnd};
 ghost use Rattle.clap.specs.Words.{kind_of};
-ghost use Rattle.clap.specs.declared.error.ErrorKind.TheVariants.{OutOfMemory};
+ghost use Rattle.clap.specs.declared.error.ErrorKind.TheVariants.{DisplayHelp, DisplayVersion, OutOfMemory};
 ghost use Rattle.list_facts.specs.Writers.{Writes};
 ghost use Rattle.test_select_files.specs.Failures.{status_of};
+ghost use Rattle.test_select_files.specs.Mistakes.{IsBadLine};
 ghost use Rattle.test_select_files.specs.declared.run_failure.RunFailure.TheVariants.{Memory};
 
 use crate::run_failure::RunFailure;
@@ -19,6 +20,8 @@ pub fn show<'a, O: Write>(shown: Error, out: &mut O) -> Result<(), RunFailure<'a
         → O.contents out.new ≡ O.contents out.old) }
     ensures memory { kind_of shown ≡ OutOfMemory → (result ≡ Err Memory)
         × (O.contents out.new ≡ O.contents out.old) }
+    ensures refused { kind_of shown ≢ DisplayHelp → kind_of shown ≢ DisplayVersion
+        → IsErrAnd result IsBadLine × (O.contents out.new ≡ O.contents out.old) }
 {
     if shown.use_stderr() {
         return Err(RunFailure::from(shown));

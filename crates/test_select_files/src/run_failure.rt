@@ -5,6 +5,7 @@ ghost use Rattle.std.specs.Fmt.{WritesOnOk};
 ghost use Rattle.clap.specs.Words.{kind_of};
 ghost use Rattle.clap.specs.declared.error.ErrorKind.TheVariants.{OutOfMemory};
 ghost use Rattle.test_select_files.specs.Failures.{bad_shape_line, is_denial, status_of};
+ghost use Rattle.test_select_files.specs.Mistakes.{IsBadLine};
 ghost use Rattle.test_select_files.specs.Refusals.{refused, unread};
 ghost use Rattle.test_select_files.specs.declared.run_failure.RunFailure.TheVariants.{CannotWrite, Memory};
 
@@ -56,7 +57,7 @@ impl<'a> RunFailure<'a> {
 
     /// Whether the output says it all, so that standard error gets nothing.
     pub fn is_denial(&self) -> bool
-        ensures { result ≡ is_denial self.now }
+        ensures denial { result ≡ is_denial self.now }
     {
         matches!(self, RunFailure::Denied)
     }
@@ -105,7 +106,7 @@ fn write_bad_shape<W: fmt::Write>(
 }
 
 impl From<clap::Error> for RunFailure<'_> {
-    ghost from_gives = { λ e f. kind_of e ≡ OutOfMemory → f ≡ Memory };
+    ghost from_gives = { λ e f. (kind_of e ≡ OutOfMemory → f ≡ Memory) × IsBadLine f };
 
     fn from(error: clap::Error) -> Self {
         match error.kind() {
