@@ -6,7 +6,7 @@ ghost use Rattle.list_facts.specs.Texts.{texts};
 ghost use Rattle.cargo_metadata.specs.declared.key.Key.TheVariants as key;
 ghost use Rattle.cargo_metadata.specs.Outcomes.{Gives};
 ghost use Rattle.cargo_metadata.specs.Packages.{contents_of, features_of, is_new_optional, optional_names, package_of};
-ghost use Rattle.cargo_metadata.specs.Values.{required, texts_of};
+ghost use Rattle.cargo_metadata.specs.Values.{required};
 
 use crate::called::at_package;
 use crate::dependency::Dependency;
@@ -119,18 +119,11 @@ fn features_at(alloc: Global, value: &Value) -> Result<Vec<FeatureRecord>, Metad
     };
     let mut features = Vec::new(alloc);
     for (name, value) in members.iter() {
-        features.push(feature_of(alloc, name.as_str(), value)?)?;
+        let enables = texts_of(alloc, value, Key::Features)?;
+        let name = String::from_str(alloc, name.as_str())?;
+        features.push(FeatureRecord { name, enables })?;
     }
     Ok(features)
-}
-
-fn feature_of(alloc: Global, name: &str, value: &Value) -> Result<FeatureRecord, MetadataError>
-    ensures enables { Gives (λ f. f.enables) result (texts_of key.Features (view value.now)) }
-    ensures name { IfOk result (λ f. f.name ≡ name.now) }
-{
-    let enables = texts_of(alloc, value, Key::Features)?;
-    let name = String::from_str(alloc, name)?;
-    Ok(FeatureRecord { name, enables })
 }
 
 /// The names of the optional dependencies, each once.

@@ -8,4 +8,4 @@ loop-name-preserved c =
     let front = c.loop-name.features.items in
     let steps : c.loop-name.name-iterator ≡ (c.in-Some-2.name.now, c.in-Some-2.value.now) ∷ c.next.new.self = c.in-Some-2.ensures.steps in
     let was = rw steps at c.loop-name.invariant in
-    feature_step c.in_ok-feature_of.field-0 (string_bytes c.in-Some-2.name.now) (view c.in-Some-2.value.now) (members_view c.next.new.self) front c.push.new.self.items _ (c.in_ok-feature_of.ensures.name ∙ c.as_str.ensures.value) c.in_ok-feature_of.ensures.enables c.in_ok-push.ensures.items was
+    feature_step _ (string_bytes c.in-Some-2.name.now) (view c.in-Some-2.value.now) (members_view c.next.new.self) front c.push.new.self.items _ (c.in_ok-name.ensures.ok ∙ c.as_str.ensures.value) c.in_ok-enables.ensures c.in_ok-push.ensures.items was
