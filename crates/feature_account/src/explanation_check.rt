@@ -69,7 +69,8 @@ fn verdict_on_use(
     if !ends_in(rules, goal, entries) {
         return Ok(Verdict::NotGoal);
     }
-    match first_unused(alloc, rules, entries)? {
+    let mut needed: IndexSet<&FeatureRef<'_>> = IndexSet::new(alloc);
+    match first_unneeded(&mut needed, rules, entries)? {
         None => Ok(Verdict::Accepted),
         Some(place) => Ok(Verdict::Unused(place)),
     }
@@ -89,21 +90,7 @@ fn ends_in(rules: &[LentRule<'_>], goal: &Feature, entries: &[usize]) -> bool
 }
 
 // The first entry but the last whose conclusion is no premise of a later one, if there is one: the last
-// that is found on the way from the end.
-fn first_unused(
-    alloc: Global,
-    rules: &[LentRule<'_>],
-    entries: &[usize],
-) -> Result<Option<usize>, AllocError>
-    requires { IsSound rules.now entries.now }
-    ensures { IfOk result (λ o. MatchOption o (EachIsUsed rules.now entries.now)
-        (IsFirstUnused rules.now entries.now)) }
-{
-    let mut needed: IndexSet<&FeatureRef<'_>> = IndexSet::new(alloc);
-    first_unneeded(&mut needed, rules, entries)
-}
-
-/// The same, by a set for the premises of later entries, which is empty yet.
+// that is found on the way from the end. The set is for the premises of later entries, and empty yet.
 fn first_unneeded<'r, 'a>(
     needed: &mut IndexSet<&'r FeatureRef<'a>>,
     rules: &'r [LentRule<'a>],
