@@ -3,9 +3,8 @@
 ghost use Rattle.std.specs.Prelude.{◌≡◌, [], ◌∷◌, ◌++◌, OnOk, IfOk, map, filter, string_bytes, if◌then◌else◌};
 ghost use Rattle.std.specs.List.{flat_map};
 ghost use Rattle.workspace_record.specs.EntryView.{entry_view};
-ghost use Rattle.workspace_record.specs.Entries.{entry_value};
 ghost use Rattle.feature_account_rules.specs.Lines.{counts, counting_lines};
-ghost use Rattle.feature_account_rules.specs.RuleList.{given, implies, named_of, dep_of, has_feature, has_optional, base_rules, is_slash_link, slash_lines, dependency_features, strong_targets, strong_features, weak_rule, weak_rules, rules_of_entry, feature_rules, entry_rules, line_start, asked_features, line_features, line_rules, link_rules, rule_list};
+ghost use Rattle.feature_account_rules.specs.RuleList.{given, implies, named_of, dep_of, has_feature, has_optional, base_rules, is_slash_link, slash_lines, dependency_features, strong_targets, strong_features, weak_rule, weak_rules, rules_of_entry, feature_rules, entry_rules, line_start, line_features, line_rules, link_rules, rule_list};
 
 use crate::feature_ref::FeatureRef;
 use crate::lent_rule::{LentRule, copies_of};
@@ -390,27 +389,6 @@ fn push_weak_entry<'a>(
     }
 }
 
-fn push_rules_of_entries<'a>(
-    alloc: Global,
-    index: &RecordIndex<'a>,
-    table: &PlatformTable,
-    owner: &PackageIndex<'a>,
-    premise: &FeatureRef<'a>,
-    entries: &'a [String],
-    rules: &mut Vec<LentRule<'a>>,
-) -> Result<(), AllocError>
-    ensures { OnOk result (rules.new.items
-        ≡ rules.old.items ++ flat_map
-        (λ e. rules_of_entry index.now table.now owner.now premise.now (entry_value e))
-        (map string_bytes entries.entry.now)) }
-{
-    for entry in entries {
-        let entry = entry_of(entry.as_str());
-        push_rules_of_entry(alloc, index, table, owner, premise, entry, rules)?;
-    }
-    Ok(())
-}
-
 fn push_feature_rules<'a>(
     alloc: Global,
     index: &RecordIndex<'a>,
@@ -424,15 +402,11 @@ fn push_feature_rules<'a>(
 {
     let row = owner.row();
     let premise = FeatureRef::named(row.id.as_str(), feature.name.as_str());
-    push_rules_of_entries(
-        alloc,
-        index,
-        table,
-        owner,
-        &premise,
-        &feature.enables,
-        rules,
-    )
+    for entry in &feature.enables {
+        let entry = entry_of(entry.as_str());
+        push_rules_of_entry(alloc, index, table, owner, &premise, entry, rules)?;
+    }
+    Ok(())
 }
 
 fn push_entry_rules<'a>(
@@ -478,21 +452,6 @@ fn line_start<'a>(link: &'a LinkRecord, line: &LineRecord) -> FeatureRef<'a>
     }
 }
 
-fn push_asked_features<'a>(
-    id: &'a str,
-    line: &'a LineRecord,
-    target: &PackageIndex<'_>,
-    features: &mut Vec<FeatureRef<'a>>,
-) -> Result<(), AllocError>
-    ensures { OnOk result (features.new.items
-        ≡ features.old.items ++ asked_features id.entry.now line.entry.now target.now) }
-{
-    if line.default_features && target.has_feature(DEFAULT) {
-        features.push(FeatureRef::named(id, DEFAULT))?;
-    }
-    push_listed_features(id, &line.features, target, features)
-}
-
 fn push_listed_features<'a>(
     id: &'a str,
     names: &'a [String],
@@ -519,10 +478,14 @@ fn line_features<'a>(
 ) -> Result<Vec<FeatureRef<'a>>, AllocError>
     ensures { IfOk result (λ v. v.items ≡ line_features index.now link.entry.now line.entry.now) }
 {
+    let id = link.to.as_str();
     let mut features = Vec::new(alloc);
-    features.push(FeatureRef::base(link.to.as_str()))?;
-    if let Some(target) = index.package_of(link.to.as_str()) {
-        push_asked_features(link.to.as_str(), line, target, &mut features)?;
+    features.push(FeatureRef::base(id))?;
+    if let Some(target) = index.package_of(id) {
+        if line.default_features && target.has_feature(DEFAULT) {
+            features.push(FeatureRef::named(id, DEFAULT))?;
+        }
+        push_listed_features(id, &line.features, target, &mut features)?;
     }
     Ok(features)
 }
