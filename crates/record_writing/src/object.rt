@@ -1,7 +1,7 @@
 //! The members of objects.
 
 ghost use Rattle.std.specs.Prelude.{◌≡◌, IfOk, OnOk, map, string_bytes};
-ghost use Rattle.serde_json.specs.Data.{Data, no_members, put, string};
+ghost use Rattle.serde_json.specs.Data.{Data, no_members, put};
 ghost use Rattle.serde_json.specs.View.{members_view, view};
 ghost use Rattle.record_writing.specs.Members.{value_of, members_data, put_all, texts_data};
 
@@ -94,15 +94,9 @@ fn value_of(alloc: Global, member: Member<'_>) -> Result<Value, AllocError>
 pub(crate) fn texts_value(alloc: Global, texts: &[String]) -> Result<Value, AllocError>
     ensures { IfOk result (λ v. view v ≡ texts_data (map string_bytes texts.now)) }
 {
-    Ok(Value::Array(text_values(alloc, texts)?))
-}
-
-fn text_values(alloc: Global, texts: &[String]) -> Result<Vec<Value>, AllocError>
-    ensures { IfOk result (λ v. map view v.items ≡ map string (map string_bytes texts.now)) }
-{
     let mut values = Vec::with_capacity(alloc, texts.len())?;
     for text in texts {
         values.push(Value::try_from_str(alloc, text.as_str())?)?;
     }
-    Ok(values)
+    Ok(Value::Array(values))
 }
