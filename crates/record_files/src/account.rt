@@ -2,11 +2,10 @@
 
 ghost use Rattle.std.specs.Prelude.{◌≡◌};
 ghost use Rattle.record_files.specs.Trees.{seen, seen_items};
-ghost use Rattle.record_files.specs.declared.key.Key.TheVariants as key;
 ghost use Rattle.record_files.specs.Files.{ReadsFile};
 ghost use Rattle.record_files.specs.Outcomes.{Gives};
-ghost use Rattle.record_files.specs.Values.{each, optional, required};
-ghost use Rattle.record_files.specs.Accounts.{rule_of, rules_of, goal_of, account_of, account_file};
+ghost use Rattle.record_files.specs.Values.{each};
+ghost use Rattle.record_files.specs.Accounts.{rule_of, account_of, account_file};
 
 use crate::account_file::AccountFile;
 use crate::error::ReadError;
@@ -34,27 +33,15 @@ pub fn read_account(alloc: Global, bytes: &[u8]) -> Result<AccountFile, ReadErro
 fn account_of(alloc: Global, value: &Value<'_>) -> Result<AccountFile, ReadError>
     ensures { Gives (λ f. f) result (account_of (seen value.now)) }
 {
-    let rules = rules_at(alloc, value)?;
-    let goal = goal_at(alloc, value)?;
+    let Some(values) = given(value, Key::Rules).and_then(as_array) else {
+        return Err(ReadError::at(Key::Rules));
+    };
+    let rules = each_rule(alloc, values, Key::Rules)?;
+    let goal = match given(value, Key::Goal) {
+        None => None,
+        Some(value) => Some(Feature::from_value(alloc, object_of(value, Key::Goal)?)?),
+    };
     Ok(AccountFile { rules, goal })
-}
-
-fn goal_at(alloc: Global, value: &Value<'_>) -> Result<Option<Feature>, ReadError>
-    ensures { Gives (λ o. o) result (optional goal_of key.Goal (seen value.now)) }
-{
-    match given(value, Key::Goal) {
-        None => Ok(None),
-        Some(value) => Ok(Some(Feature::from_value(alloc, object_of(value, Key::Goal)?)?)),
-    }
-}
-
-fn rules_at(alloc: Global, value: &Value<'_>) -> Result<Vec<usize>, ReadError>
-    ensures { Gives (λ v. v.items) result (required rules_of key.Rules (seen value.now)) }
-{
-    match given(value, Key::Rules).and_then(as_array) {
-        None => Err(ReadError::at(Key::Rules)),
-        Some(values) => each_rule(alloc, values, Key::Rules),
-    }
 }
 
 fn each_rule(alloc: Global, values: &[Value<'_>], key: Key) -> Result<Vec<usize>, ReadError>

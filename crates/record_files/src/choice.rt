@@ -3,11 +3,9 @@
 ghost use Rattle.std.specs.Prelude.{◌≡◌, IfOk};
 ghost use Rattle.record_files.specs.Trees.{seen};
 ghost use Rattle.workspace_record.specs.LabelView.{label_view};
-ghost use Rattle.record_files.specs.declared.key.Key.TheVariants as key;
 ghost use Rattle.record_files.specs.Files.{ReadsFile};
 ghost use Rattle.record_files.specs.Outcomes.{Gives};
-ghost use Rattle.record_files.specs.Values.{otherwise};
-ghost use Rattle.record_files.specs.Choices.{standard_named, standard_of, label_of, choice_of, choice_file};
+ghost use Rattle.record_files.specs.Choices.{standard_named, label_of, choice_of, choice_file};
 
 use crate::error::ReadError;
 use crate::file::value_of;
@@ -35,22 +33,17 @@ pub fn read_choice(alloc: Global, bytes: &[u8]) -> Result<FeatureChoice, ReadErr
 fn choice_of(alloc: Global, value: &Value<'_>) -> Result<FeatureChoice, ReadError>
     ensures { Gives (λ c. c) result (choice_of (seen value.now)) }
 {
-    let standard = standard_at(value)?;
+    let standard = match given(value, Key::Standard) {
+        None => Standard::Default,
+        Some(name) => {
+            let standard = name.as_str().and_then(standard_named);
+            standard.ok_or(ReadError::at(Key::Standard))?
+        }
+    };
     let none = Vec::new(alloc);
     let extra_values = objects_or_none(value, Key::Extras, &none)?;
     let extras = each_of::<Feature>(alloc, extra_values)?;
     Ok(FeatureChoice { standard, extras })
-}
-
-fn standard_at(value: &Value<'_>) -> Result<Standard, ReadError>
-    ensures { Gives (λ s. s) result (otherwise Standard.Default standard_of key.Standard
-        (seen value.now)) }
-{
-    let Some(value) = given(value, Key::Standard) else {
-        return Ok(Standard::Default);
-    };
-    let standard = value.as_str().and_then(standard_named);
-    standard.ok_or(ReadError::at(Key::Standard))
 }
 
 fn standard_named(name: &str) -> Option<Standard>

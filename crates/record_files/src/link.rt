@@ -1,11 +1,7 @@
 //! Links read from a record's file.
 
 ghost use Rattle.std.specs.Prelude.{◌≡◌};
-ghost use Rattle.record_files.specs.Trees.{seen};
-ghost use Rattle.record_files.specs.declared.key.Key.TheVariants as key;
-ghost use Rattle.record_files.specs.Outcomes.{Gives};
-ghost use Rattle.record_files.specs.Values.{otherwise};
-ghost use Rattle.record_files.specs.Links.{line_kind, line_kind_of};
+ghost use Rattle.record_files.specs.Links.{line_kind};
 
 use crate::error::ReadError;
 use crate::key::Key;
@@ -52,7 +48,13 @@ impl FromValue for LineRecord {
 
     #[tactic(auto, unfolding(crate::specs::Links::line_of))]
     fn from_value(alloc: Global, value: &Value<'_>) -> Result<LineRecord, ReadError> {
-        let kind = line_kind_at(value)?;
+        let kind = match given(value, Key::Kind) {
+            None => LineKind::Normal,
+            Some(name) => {
+                let kind = name.as_str().and_then(line_kind);
+                kind.ok_or(ReadError::at(Key::Kind))?
+            }
+        };
         let optional = flag_or(value, Key::Optional, false)?;
         let default_features = flag_or(value, Key::DefaultFeatures, true)?;
         let features = texts_at(alloc, value, Key::Features)?;
@@ -65,17 +67,6 @@ impl FromValue for LineRecord {
             spec,
         })
     }
-}
-
-fn line_kind_at(value: &Value<'_>) -> Result<LineKind, ReadError>
-    ensures { Gives (λ k. k) result (otherwise LineKind.Normal line_kind_of key.Kind
-        (seen value.now)) }
-{
-    let Some(value) = given(value, Key::Kind) else {
-        return Ok(LineKind::Normal);
-    };
-    let kind = value.as_str().and_then(line_kind);
-    kind.ok_or(ReadError::at(Key::Kind))
 }
 
 fn line_kind(name: &str) -> Option<LineKind>

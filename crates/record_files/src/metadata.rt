@@ -8,7 +8,7 @@ ghost use Rattle.serde_json.specs.Written.{has_float, items_have_float, members_
 ghost use Rattle.record_files.specs.declared.key.Key.TheVariants as key;
 ghost use Rattle.record_files.specs.Outcomes.{Gives};
 ghost use Rattle.record_files.specs.Trees.{seen, seen_items, members_data};
-ghost use Rattle.record_files.specs.Values.{json_of, optional_json_at};
+ghost use Rattle.record_files.specs.Values.{optional_json_at};
 
 use crate::error::ReadError;
 use crate::key::Key;
@@ -26,20 +26,14 @@ pub(crate) fn metadata_at(
     ensures { Gives (option_map string_bytes) result
         (optional_json_at key.Metadata (seen value.now)) }
 {
-    match given(value, Key::Metadata) {
-        None => Ok(None),
-        Some(value) => Ok(Some(json_of(alloc, value, Key::Metadata)?)),
-    }
-}
-
-fn json_of(alloc: Global, value: &json::Value<'_>, key: Key) -> Result<String, ReadError>
-    ensures { Gives string_bytes result (json_of key (seen value.now)) }
-{
+    let Some(value) = given(value, Key::Metadata) else {
+        return Ok(None);
+    };
     let value = owned(alloc, value)?;
     if has_float(&value) {
-        return Err(ReadError::at(key));
+        return Err(ReadError::at(Key::Metadata));
     }
-    Ok(value.to_string(alloc)?)
+    Ok(Some(value.to_string(alloc)?))
 }
 
 /// The value with texts of its own; of a key that comes twice the last member counts.

@@ -7,7 +7,7 @@ ghost use Rattle.serde_json.specs.Find.{get, as_array, as_object};
 ghost use Rattle.record_files.specs.Faults.{Fault};
 ghost use Rattle.record_files.specs.Outcomes.{Gives};
 ghost use Rattle.record_files.specs.Trees.{seen, seen_items};
-ghost use Rattle.record_files.specs.Values.{given, text_of, each, each_text, as_texts, text_at, optional_text_at, text_or, texts_of, texts_at, optional_texts_at, flag_of, flag_or, object_of, object_at, objects_of, objects_at, objects_or_none};
+ghost use Rattle.record_files.specs.Values.{given, text_of, each, as_texts, text_at, optional_text_at, text_or, texts_of, texts_at, optional_texts_at, flag_of, flag_or, object_of, object_at, objects_of, objects_at, objects_or_none};
 
 use crate::error::ReadError;
 use crate::key::Key;
@@ -107,10 +107,14 @@ fn is_object(value: &Value<'_>) -> bool
     matches!(value, Value::Object(_))
 }
 
-fn each_text(alloc: Global, values: &[Value<'_>]) -> Result<Option<Vec<String>>, AllocError>
+/// The texts of a list, if the value is one.
+pub(crate) fn as_texts(alloc: Global, value: &Value<'_>) -> Result<Option<Vec<String>>, AllocError>
     ensures { IfOk result (λ o. option_map (λ v. map string_bytes v.items) o
-        ≡ each_text (seen_items values.now)) }
+        ≡ as_texts (seen value.now)) }
 {
+    let Some(values) = as_array(value) else {
+        return Ok(None);
+    };
     let mut texts = Vec::with_capacity(alloc, values.len())?;
     for value in values {
         let Some(text) = value.as_str() else {
@@ -119,17 +123,6 @@ fn each_text(alloc: Global, values: &[Value<'_>]) -> Result<Option<Vec<String>>,
         texts.push(String::from_str(alloc, text)?)?;
     }
     Ok(Some(texts))
-}
-
-/// The texts of a list, if the value is one.
-pub(crate) fn as_texts(alloc: Global, value: &Value<'_>) -> Result<Option<Vec<String>>, AllocError>
-    ensures { IfOk result (λ o. option_map (λ v. map string_bytes v.items) o
-        ≡ as_texts (seen value.now)) }
-{
-    match as_array(value) {
-        None => Ok(None),
-        Some(values) => each_text(alloc, values),
-    }
 }
 
 pub(crate) fn texts_of(alloc: Global, value: &Value<'_>, key: Key) -> Result<Vec<String>, ReadError>

@@ -1,11 +1,7 @@
 //! Targets read from a record's file.
 
 ghost use Rattle.std.specs.Prelude.{◌≡◌};
-ghost use Rattle.record_files.specs.Trees.{seen};
-ghost use Rattle.record_files.specs.declared.key.Key.TheVariants as key;
-ghost use Rattle.record_files.specs.Outcomes.{Gives};
-ghost use Rattle.record_files.specs.Values.{required};
-ghost use Rattle.record_files.specs.Packages.{target_kind, target_kind_of};
+ghost use Rattle.record_files.specs.Packages.{target_kind};
 
 use crate::edition::DEFAULT_EDITION;
 use crate::error::ReadError;
@@ -22,7 +18,8 @@ impl FromValue for TargetRecord {
 
     #[tactic(auto, unfolding(crate::specs::Packages::target_of))]
     fn from_value(alloc: Global, value: &Value<'_>) -> Result<TargetRecord, ReadError> {
-        let kind = target_kind_at(value)?;
+        let kind = given(value, Key::Kind).and_then(Value::as_str);
+        let kind = kind.and_then(target_kind).ok_or(ReadError::at(Key::Kind))?;
         let name = text_at(alloc, value, Key::Name)?;
         let required_features = texts_at(alloc, value, Key::RequiredFeatures)?;
         let tested = flag_or(value, Key::Tested, true)?;
@@ -46,14 +43,6 @@ impl FromValue for TargetRecord {
             info,
         })
     }
-}
-
-fn target_kind_at(value: &Value<'_>) -> Result<TargetKind, ReadError>
-    ensures { Gives (λ k. k) result (required target_kind_of key.Kind (seen value.now)) }
-{
-    let name = given(value, Key::Kind).and_then(Value::as_str);
-    let kind = name.and_then(target_kind);
-    kind.ok_or(ReadError::at(Key::Kind))
 }
 
 fn target_kind(name: &str) -> Option<TargetKind>
