@@ -1,9 +1,8 @@
 //! The rules on members.
 
-ghost use Rattle.std.specs.Prelude.{◌≡◌, List, [], ◌∷◌, ◌++◌, IfOk, OnOk, map, not, position};
+ghost use Rattle.std.specs.Prelude.{◌≡◌, IfOk, map, not, position};
 ghost use Rattle.std.specs.Ordering.{eq_by_cmp};
 ghost use Rattle.std.specs.Str.{bytes_eq};
-ghost use Rattle.workspace_record.specs.Records.{Package};
 ghost use Rattle.guppy_package_rules.specs.Paths.{path_cmp};
 ghost use Rattle.guppy_package_rules.specs.Places.{first_repeat};
 ghost use Rattle.guppy_package_rules.specs.Rules.{earlier, is_member_id, is_package_id, member_name};
@@ -29,22 +28,10 @@ pub(crate) fn first_bad_member(
         (first_repeat bytes_eq (map (λ m. m.package_id) workspace.now.members))) }
 {
     let ids = workspace.member_ids(alloc)?;
-    let unknown = first_unknown_id(alloc, packages, &ids)?;
-    Ok(earlier(unknown, first_repeated_text(alloc, &ids)?))
-}
-
-fn first_unknown_id(
-    alloc: Global,
-    packages: &[PackageRecord],
-    ids: &[&str],
-) -> Result<Option<usize>, AllocError>
-    ensures { IfOk result (λ place. place
-        ≡ position (λ id. not (is_package_id packages.now id)) (map (λ t. t.now) ids.now)) }
-{
     let known = package_id_set(alloc, packages)?;
-    let place = ids.iter().position(|id| !known.contains(*id));
+    let unknown = ids.iter().position(|id| !known.contains(*id));
     drop(known);
-    Ok(place)
+    Ok(earlier(unknown, first_repeated_text(alloc, &ids)?))
 }
 
 fn earlier(a: Option<usize>, b: Option<usize>) -> Option<usize>
@@ -85,22 +72,11 @@ fn package_names<'a>(
 {
     let mut names: BTreeMap<&'a str, &'a str> = BTreeMap::new(alloc);
     for row in packages {
-        add_name(&mut names, row)?;
+        if !names.contains_key(row.id.as_str()) {
+            names.insert(row.id.as_str(), row.name.as_str())?;
+        }
     }
     Ok(names)
-}
-
-fn add_name<'a>(
-    names: &mut BTreeMap<&'a str, &'a str>,
-    row: &'a PackageRecord,
-) -> Result<(), AllocError>
-    ensures { OnOk result ((packages : List Package) → HoldsNames names.old packages
-        → HoldsNames names.new (packages ++ row.entry.now ∷ [])) }
-{
-    if !names.contains_key(row.id.as_str()) {
-        names.insert(row.id.as_str(), row.name.as_str())?;
-    }
-    Ok(())
 }
 
 /// The first member whose path has the components of an earlier one's.
