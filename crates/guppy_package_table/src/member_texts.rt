@@ -1,7 +1,6 @@
 //! What members are found by.
 
 ghost use Rattle.std.specs.Prelude.{◌≡◌};
-ghost use Rattle.guppy_package_table.specs.Tables.{id_at};
 ghost use Rattle.guppy_package_table.specs.Members as members;
 
 use crate::table::PackageTable;
@@ -10,17 +9,12 @@ use crate::table::PackageTable;
 pub fn path_at(table: &PackageTable, place: usize) -> &str
     ensures { result.now ≡ members.path_at table.now place }
 {
-    match table.member(id_text(table, place)) {
-        Some(member) => member.path.as_str(),
-        None => "",
-    }
-}
-
-fn id_text(table: &PackageTable, place: usize) -> &str
-    ensures { result.now ≡ id_at table.now place }
-{
-    match table.ids().get(place) {
+    let id = match table.ids().get(place) {
         Some(id) => id.repr(),
+        None => "",
+    };
+    match table.member(id) {
+        Some(member) => member.path.as_str(),
         None => "",
     }
 }

@@ -1,7 +1,6 @@
 //! Which packages are members of the workspace.
 
-ghost use Rattle.std.specs.Prelude.{◌≡◌, ◌≢◌, AllPairs, IfOk, find, map, option_copied, slice_get, string_bytes};
-ghost use Rattle.std.specs.Str.{bytes_eq};
+ghost use Rattle.std.specs.Prelude.{◌≡◌, ◌≢◌, AllPairs, IfOk, map, option_copied, slice_get, string_bytes};
 ghost use Rattle.guppy_package_table.specs.MemberPlaces.{AreMembers};
 ghost use Rattle.guppy_package_table.specs.Tables.{place_among};
 
@@ -104,18 +103,6 @@ fn default_places(
         .iter()
         .map(|member| place_of_id(ids, member.as_str()))
         .collect(alloc)
-}
-
-/// The member whose package has an id.
-pub(crate) fn member_among<'a>(
-    ids: &IndexSet<PackageId>,
-    members: &'a [MemberRow],
-    id: &str,
-) -> Option<&'a MemberRow>
-    requires { ids.now.keys ≡ map (λ m. m.package_id) members.now }
-    ensures { option_copied result ≡ find (λ m. bytes_eq id.now m.package_id) members.entry.now }
-{
-    member_at(members, place_of_id(ids, id))
 }
 
 /// The member with a number, if there is one.

@@ -53,7 +53,7 @@ fn members_by_path(alloc: Global, table: &PackageTable) -> Result<Vec<usize>, Al
             ensures { result ≡ path_cmp a.now.0.now b.now.0.now }
         { compare_paths(a.0, b.0) },
     );
-    let places = places_of(alloc, &members)?;
+    let places: Vec<usize> = members.iter().map(|member| member.1).collect(alloc)?;
     Ok(places)
 }
 
@@ -86,10 +86,4 @@ fn with_paths<'t>(
         members.push((path_at(table, *place), *place))?;
     }
     Ok(members)
-}
-
-fn places_of(alloc: Global, members: &[(&str, usize)]) -> Result<Vec<usize>, AllocError>
-    ensures { IfOk result (λ places. places.items ≡ map (λ m. m.1) members.now) }
-{
-    members.iter().map(|member| member.1).collect(alloc)
 }

@@ -1,7 +1,7 @@
 //! Names of links as Rust writes them.
 
 ghost use Rattle.std.specs.Prelude.{◌≡◌, IfOk, map, string_bytes};
-ghost use Rattle.guppy_package_table.specs.LinkRows.{char_in_rust, name_in_rust};
+ghost use Rattle.guppy_package_table.specs.LinkRows.{name_in_rust};
 
 use guppy_package_parts::LinkRow;
 use std::alloc::{AllocError, Global};
@@ -24,13 +24,7 @@ fn rust_name(alloc: Global, name: &str) -> Result<String, AllocError>
     let mut text = String::with_capacity(alloc, name.len())?;
     let mut letters = name.chars();
     while let Some(letter) = letters.next() {
-        text.push(in_rust(letter))?;
+        text.push(if letter == '-' { '_' } else { letter })?;
     }
     Ok(text)
-}
-
-fn in_rust(letter: char) -> char
-    ensures { result ≡ char_in_rust letter }
-{
-    if letter == '-' { '_' } else { letter }
 }

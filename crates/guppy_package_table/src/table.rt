@@ -5,7 +5,7 @@ ghost use Rattle.std.specs.Option.{option_copied};
 ghost use Rattle.std.specs.Str.{bytes_eq};
 ghost use Rattle.numbered_graph.specs.Listings.{IsListing};
 ghost use Rattle.numbered_graph.specs.Sets.{has};
-ghost use Rattle.guppy_package_rules.specs.Kept.{AreKept, IsRequirement};
+ghost use Rattle.guppy_package_rules.specs.Kept.{AreKept};
 ghost use Rattle.guppy_package_rules.specs.Readings.{AreReadIn, AreRequirementsOf, AreVersionsOf};
 ghost use Rattle.guppy_package_rules.specs.Refusals.{IsRefusal};
 ghost use Rattle.guppy_package_table.specs.Indices.{ArePackagesKept, IndexesPackages};
@@ -16,7 +16,7 @@ ghost use Rattle.guppy_package_table.specs.Tables.{AreKnownEnds, IsClear, IsFirs
 
 use crate::indices::{LinkIndices, SharedRows, link_indices, package_indices};
 use crate::link_details::LinkDetails;
-use crate::members::{member_among, member_at};
+use crate::members::member_at;
 use crate::package_details::PackageDetails;
 use crate::package_ids::{find_id, place_of_id};
 use crate::table_links::TableLinks;
@@ -72,7 +72,14 @@ impl PackageTable {
             × IsTableOf packages.items links.items workspace t) }
         ensures refused { IfErr result (IsRefusal packages.items links.items workspace) }
     {
-        let rows = rows_of(alloc, packages, links, workspace)?;
+        let record = WorkspaceRecord {
+            packages,
+            links,
+            workspace,
+            groups: Vec::new(alloc),
+            default_filter: None,
+        };
+        let rows = Rc::new(alloc, record)?;
         PackageTable::from_shared(alloc, rows)
     }
 
@@ -88,7 +95,8 @@ impl PackageTable {
         ensures refused { IfErr result (IsRefusal rows.value.packages rows.value.links
             rows.value.workspace) }
     {
-        let readings = read_record(alloc, rows.as_ref())?;
+        let record = rows.as_ref();
+        let readings = read_rows(alloc, &record.packages, &record.links, &record.workspace)?;
         let table = PackageTable::of_kept(alloc, rows, readings)?;
         Ok(table)
     }
@@ -118,7 +126,10 @@ impl PackageTable {
         requires kept { AreKept self.now.packages links.items self.now.workspace }
         ensures built { IfOk result (IsTableOf self.now.packages links.items self.now.workspace) }
     {
-        let requirements = requirements_of(alloc, &links)?;
+        // The links keep the rules, so that want of memory is all that stops it.
+        let Ok(requirements) = read_requirements(alloc, &links) else {
+            return Err(AllocError);
+        };
         PackageTable::over(
             alloc,
             self.shared.clone()?,
@@ -158,23 +169,9 @@ impl PackageTable {
     {
         let listing = Vec::from_slice(alloc, self.listing())?;
         let links = copy_links(alloc, self.links())?;
-        let table = self.with_links(alloc, links)?;
-        Ok(table.listed_so(listing))
-    }
-
-    /// The same rows, with their packages listed in this order.
-    fn listed_so(mut self, listing: Vec<usize>) -> PackageTable
-        requires { IsListing (numbered_links self) (has (firm_flags self.links))
-            (λ v. nat_lt v (length self.packages)) listing.items }
-        ensures { result ≡ record {
-          packages = self.packages;
-          links = self.links;
-          workspace = self.workspace;
-          listing = listing.items;
-        } }
-    {
-        self.indices.listing = listing;
-        self
+        let mut table = self.with_links(alloc, links)?;
+        table.indices.listing = listing;
+        Ok(table)
     }
 
     /// The packages' rows, in the order of the record.
@@ -253,7 +250,8 @@ impl PackageTable {
         ensures { option_copied result ≡ member_of self.now id.now }
     {
         let shared = self.shared.as_ref();
-        member_among(&shared.indices.members.ids, &shared.workspace().members, id)
+        let number = place_of_id(&shared.indices.members.ids, id);
+        member_at(&shared.workspace().members, number)
     }
 
     /// What the row of the package at a place says.
@@ -307,48 +305,6 @@ impl PackageTable {
             (length self.now.links)) }
     {
         first_link_between(self.graph(), from, to)
-    }
-}
-
-/// A record of these rows, without groups and a default filter, that tables may share.
-fn rows_of(
-    alloc: Global,
-    packages: Vec<PackageRow>,
-    links: Vec<LinkRow>,
-    workspace: WorkspaceRow,
-) -> Result<Rc<WorkspaceRecord>, AllocError>
-    ensures packages { IfOk result (λ rows. rows.value.packages ≡ packages.items) }
-    ensures links { IfOk result (λ rows. rows.value.links ≡ links.items) }
-    ensures workspace { IfOk result (λ rows. rows.value.workspace ≡ workspace) }
-{
-    let record = WorkspaceRecord {
-        packages,
-        links,
-        workspace,
-        groups: Vec::new(alloc),
-        default_filter: None,
-    };
-    let rows = Rc::new(alloc, record)?;
-    Ok(rows)
-}
-
-/// What is read of the record's rows, which keep the rules on packages, links and members.
-fn read_record(alloc: Global, rows: &WorkspaceRecord) -> Result<RowReadings, PackageGraphError>
-    ensures kept { IfOk result (λ _. AreKept rows.now.packages rows.now.links rows.now.workspace) }
-    ensures read { IfOk result (AreReadIn rows.now.packages rows.now.links) }
-    ensures refused { IfErr result (IsRefusal rows.now.packages rows.now.links rows.now.workspace) }
-{
-    read_rows(alloc, &rows.packages, &rows.links, &rows.workspace)
-}
-
-/// The requirements of links that keep the rules, so that want of memory is all that stops it.
-fn requirements_of(alloc: Global, links: &[LinkRow]) -> Result<Vec<VersionReq>, AllocError>
-    requires { All (λ l. IsRequirement l.requirement) links.now }
-    ensures { IfOk result (λ requirements. AreRequirementsOf links.now requirements.items) }
-{
-    match read_requirements(alloc, links) {
-        Ok(requirements) => Ok(requirements),
-        Err(_) => Err(AllocError),
     }
 }
 

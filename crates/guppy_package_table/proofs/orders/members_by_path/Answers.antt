@@ -1,7 +1,9 @@
-use Rattle.std.proofs.Common.{◌≡◌, ◌∙◌, ◌<◌, All, length, map, subst, sym, ap, IsPermutation, IsSorted, rules}
+use Rattle.std.proofs.Common.{◌≡◌, ◌∙◌, ◌<◌, All, length, map, subst, sym, ap, IsPermutation, IsSorted, Ok, rules}
 use Rattle.std.specs.Ordering.{is_lt}
+use Rattle.std.specs.declared.alloc.AllocError.{AllocError}
 use Rattle.std.proofs.lemmas.Cmp.{on_total}
 use Rattle.std.proofs.lemmas.Fn.{always_returns_same}
+use Rattle.std.proofs.lemmas.Iterator.{YieldsList-from_map, YieldsList-from_slice, items_from_collect}
 use Rattle.std.proofs.lemmas.List.Sorted.{All-permutation, IsPermutation-map, ranks_by}
 use Rattle.guppy_package_rules.specs.Paths.{path_cmp, path_cmp_total}
 use Rattle.guppy_package_table.specs.Members.{member_places, order_by, path_at, AreByPath}
@@ -21,5 +23,5 @@ returns c =
     let order : IsSorted (order_by path_cmp (path_at t)) places = sorted_places path_cmp (path_at t) (λ m. m.0.now) (λ m. m.1) sorted paths by_path in
     let moved : IsPermutation (member_places t) places = subst (λ xs. IsPermutation xs places) (c.in_ok-members.ensures.places ∙ c.members.ensures.value) (IsPermutation-map (λ m. m.1) members sorted facts.permutation) in
     let known = All-permutation (λ v. v < length t.packages) (member_places t) places moved (subst (All (λ v. v < length t.packages)) c.members.ensures.value c.members.ensures.within) in
-    let found = c.in_ok-places.ensures ∙ ap (map (λ m. m.1)) c.deref.ensures.value in
+    let found = items_from_collect {E = AllocError} (Ok c.in_ok-places.places) c.in_ok-places.ensures.ran (YieldsList-from_map _ (λ m. m.1) (YieldsList-from_slice c.deref.result.now cc) c.map.ensures.closure (λ x r q k. search rules)) ∙ ap (map (λ m. m.1)) c.deref.ensures.value in
     record { ordered = subst (AreByPath t) (sym found) (ascending_from_sorted (on_total (path_at t) path_cmp_total) (member_places t) places moved order (paths_apart t c.requires), known) }

@@ -14,7 +14,7 @@ over-requires-clause-ends c =
 
 pub over-requires-clause-read : goal.over-requires-clause-read
 over-requires-clause-read c =
-    subst (λ ls. AreRequirementsOf ls c.in_ok-requirements.requirements.items) c.deref.ensures.value c.in_ok-requirements.ensures
+    subst (λ ls. AreRequirementsOf ls c.in-Ok.requirements.items) c.deref.ensures.value c.in-Ok.ensures.read
 
 pub over-requires-clause-indexed : goal.over-requires-clause-indexed
 over-requires-clause-indexed c =
