@@ -19,23 +19,10 @@ pub(crate) fn has_line(
 ) -> bool
     ensures { result ≡ list_any (declares_kind_at links.now shown kind) places.now }
 {
-    places
-        .iter()
-        .any(|place| declares_kind_at(links, shown, kind, *place))
-}
-
-fn declares_kind_at(
-    links: &[LinkRow],
-    shown: LinkDeclarations,
-    kind: LineKind,
-    place: (usize, usize),
-) -> bool
-    ensures { result ≡ declares_kind_at links.now shown kind place }
-{
-    match line_at(links, place) {
+    places.iter().any(|place| match line_at(links, *place) {
         Some(line) => line.kind == kind && declares(shown, line),
         None => false,
-    }
+    })
 }
 
 /// Whether the line at a place is one of those that declare what is shown.

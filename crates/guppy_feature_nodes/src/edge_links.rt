@@ -1,13 +1,13 @@
 //! The links of the lines behind an edge.
 
-ghost use Rattle.std.specs.Prelude.{◌≡◌, ◌-◌, IfOk, OnOk, Some, length, nat_eq, slice_get, true, if◌then◌else◌};
+ghost use Rattle.std.specs.Prelude.{◌≡◌, ◌-◌, IfOk, OnOk, Some, length, nat_eq, slice_get, true};
 ghost use Rattle.std.specs.List.{list_any};
 ghost use Rattle.std.specs.List.Sorted.{IsStrictlySortedBy};
 ghost use Rattle.indexmap.specs.IndexSet.{insert_key};
 ghost use Rattle.guppy_feature_nodes.specs.Joining.{place_cmp};
 ghost use Rattle.guppy_feature_demands.specs.declared.link_declarations.LinkDeclarations.TheVariants.{Optional, Required, Unsplit};
 ghost use Rattle.guppy_feature_nodes.specs.EdgeLinkViews.{AreEdgeLinks, joined, shown_of};
-ghost use Rattle.guppy_feature_nodes.specs.Lines.{declares_at, links_shown};
+ghost use Rattle.guppy_feature_nodes.specs.Lines.{links_shown};
 
 use crate::edge_lines::declares_at;
 use guppy_feature_demands::LinkDeclarations;
@@ -104,28 +104,12 @@ fn links_declaring(
 {
     let mut numbers = Vec::new(alloc);
     for place in places {
-        push_link(links, shown, *place, &mut numbers)?;
+        // The link is the last one where it is there already.
+        if declares_at(links, shown, *place) {
+            push_new(place.0, &mut numbers)?;
+        }
     }
     Ok(numbers)
-}
-
-// Adds the link of a line that declares what is shown, unless it is the last one, which it is where it is there.
-fn push_link(
-    links: &[LinkRow],
-    shown: LinkDeclarations,
-    place: (usize, usize),
-    numbers: &mut Vec<usize>,
-) -> Result<(), AllocError>
-    requires { list_any (nat_eq place.0) numbers.old.items ≡ true
-        → slice_get numbers.old.items (length numbers.old.items - 1) ≡ Some place.0 }
-    ensures { OnOk result (numbers.new.items
-        ≡ (if declares_at links.now shown place then insert_key nat_eq numbers.old.items place.0
-        else numbers.old.items)) }
-{
-    if declares_at(links, shown, place) {
-        push_new(place.0, numbers)?;
-    }
-    Ok(())
 }
 
 fn push_new(number: usize, numbers: &mut Vec<usize>) -> Result<(), AllocError>

@@ -1,12 +1,12 @@
 //! Edges, joined from demands.
 
-ghost use Rattle.std.specs.Prelude.{◌∷◌, ◌++◌, [], IfOk, List, OnOk, map};
+ghost use Rattle.std.specs.Prelude.{IfOk, map};
 ghost use Rattle.indexmap.specs.IndexMap.{values};
 ghost use Rattle.guppy_feature_demands.specs.DemandViews.{numbered_view};
 ghost use Rattle.guppy_feature_nodes.specs.GroupViews.{group_view};
 ghost use Rattle.guppy_feature_nodes.specs.Groups.{AreKept};
 ghost use Rattle.guppy_feature_nodes.specs.JoinedViews.{joined_view};
-ghost use Rattle.guppy_feature_nodes.specs.Joining.{AreJoined, JoinedValue};
+ghost use Rattle.guppy_feature_nodes.specs.Joining.{AreJoined};
 ghost use Rattle.guppy_feature_nodes.specs.KeyViews.{key_view};
 ghost use Rattle.guppy_feature_nodes.specs.Weights.{FindsWeights};
 
@@ -68,27 +68,13 @@ fn edges_of<'g>(
     let mut edges: Vec<JoinedEdge<'g>> = Vec::with_capacity(alloc, groups.map.len())?;
     let map = groups.into_map();
     for group in map.into_values() {
-        push_kept(weights, group, &mut edges)?;
+        if !gives_way(weights, group.first) {
+            let Group { first, lines } = group;
+            edges.push(JoinedEdge {
+                head: first,
+                lines: SortedSet::new(lines),
+            })?;
+        }
     }
     Ok(edges)
-}
-
-fn push_kept<'g>(
-    weights: &IndexSet<EdgeKey<'g>>,
-    group: Group<'g>,
-    edges: &mut Vec<JoinedEdge<'g>>,
-) -> Result<(), AllocError>
-    ensures { OnOk result ((gs : List JoinedValue)
-        → AreKept (map key_view weights.now.keys) gs (map joined_view edges.old.items)
-        → AreKept (map key_view weights.now.keys) (gs ++ group_view group.entry ∷ [])
-        (map joined_view edges.new.items)) }
-{
-    if !gives_way(weights, group.first) {
-        let Group { first, lines } = group;
-        edges.push(JoinedEdge {
-            head: first,
-            lines: SortedSet::new(lines),
-        })?;
-    }
-    Ok(())
 }

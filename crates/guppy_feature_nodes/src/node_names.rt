@@ -1,10 +1,9 @@
 //! Nodes as a graph keeps them: the place of the package, and the label. They lend nothing, so what
 //! lends a graph carries no texts of its packages with it.
 
-ghost use Rattle.std.specs.Prelude.{◌≡◌, ◌≢◌, AllPairs, Contains, IfOk, OnOk, map};
+ghost use Rattle.std.specs.Prelude.{◌≡◌, ◌≢◌, AllPairs, Contains, IfOk, map};
 ghost use Rattle.workspace_record.specs.Features.{FeatureValue};
 ghost use Rattle.workspace_record.specs.LabelView as kept;
-ghost use Rattle.indexmap.specs.IndexSet.{insert_key};
 ghost use Rattle.guppy_feature_demands.specs.IdViews.{id_view};
 ghost use Rattle.guppy_feature_demands.specs.LabelViews.{label_view};
 ghost use Rattle.guppy_package_table.specs.Tables.{ids_of};
@@ -159,23 +158,9 @@ pub(crate) fn node_names(
 {
     let mut names: IndexSet<NodeName> = IndexSet::with_capacity(alloc, features.len())?;
     for feature in features {
-        insert_name(alloc, graph, *feature, &mut names)?;
+        let place = graph.number_of(feature.package_id().repr());
+        let label = owned_label(alloc, feature.label())?;
+        names.insert(NodeName { place, label })?;
     }
     Ok(names)
-}
-
-fn insert_name(
-    alloc: Global,
-    graph: &PackageGraph,
-    feature: FeatureId<'_>,
-    names: &mut IndexSet<NodeName>,
-) -> Result<(), AllocError>
-    ensures { OnOk result (names.new.keys
-        ≡ insert_key node_eq names.old.keys
-        (node_of (ids_of graph.now.packages) (id_view feature.entry))) }
-{
-    let place = graph.number_of(feature.package_id().repr());
-    let label = owned_label(alloc, feature.label())?;
-    names.insert(NodeName { place, label })?;
-    Ok(())
 }

@@ -1,7 +1,6 @@
 //! Edges as links between nodes, the order in which the nodes are listed, and the default features.
 
 ghost use Rattle.std.specs.Prelude.{◌≡◌, ◌<◌, [], All, IfOk, length, map, slice_index_or};
-ghost use Rattle.std.specs.List.{list_any};
 ghost use Rattle.guppy_feature_demands.specs.Nodes.{base_of};
 ghost use Rattle.guppy_feature_nodes.specs.EdgeViews.{edge_view, form_view};
 ghost use Rattle.guppy_feature_nodes.specs.GraphEdges.{AreEdgesWithin, edge_ends};
@@ -88,13 +87,8 @@ fn firm_edges(alloc: Global, links: &[LinkRow], edges: &[NodeEdge]) -> Result<Ve
 fn is_firm_edge(links: &[LinkRow], edge: &NodeEdge) -> bool
     ensures { result ≡ is_firm_edge links.now (edge_view edge.now) }
 {
-    edge.edge.is_unconditional() || has_firm_line(links, edge.edge.lines())
-}
-
-fn has_firm_line(links: &[LinkRow], lines: &[(usize, usize)]) -> bool
-    ensures { result ≡ list_any (is_firm_line links.now) lines.now }
-{
-    lines.iter().any(|place| is_firm_line(links, *place))
+    let lines = edge.edge.lines();
+    edge.edge.is_unconditional() || lines.iter().any(|place| is_firm_line(links, *place))
 }
 
 fn is_firm_line(links: &[LinkRow], place: (usize, usize)) -> bool

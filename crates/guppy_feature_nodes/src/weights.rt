@@ -1,11 +1,11 @@
 //! The demands that give way to others.
 
-ghost use Rattle.std.specs.Prelude.{◌≡◌, ◌||◌, [], IfOk, OnOk, map, true};
+ghost use Rattle.std.specs.Prelude.{◌≡◌, [], IfOk, OnOk, map};
 ghost use Rattle.std.specs.List.{list_any};
 ghost use Rattle.guppy_feature_demands.specs.DemandViews.{form_view, numbered_view};
-ghost use Rattle.guppy_feature_nodes.specs.Joining.{Key, ends_of, gives_way_to, key_eq, weight_key};
+ghost use Rattle.guppy_feature_nodes.specs.Joining.{ends_of, gives_way_to, key_eq};
 ghost use Rattle.guppy_feature_nodes.specs.KeyViews.{key_view};
-ghost use Rattle.guppy_feature_nodes.specs.Weights.{FindsWeights, is_weighty};
+ghost use Rattle.guppy_feature_nodes.specs.Weights.{FindsWeights};
 
 use crate::edge_key::EdgeKey;
 use guppy_feature_demands::{EdgeKind, NumberedDemand};
@@ -40,23 +40,10 @@ fn insert_weights<'g>(
         (map key_view set.new.keys)) }
 {
     for demand in demands {
-        insert_weight(set, *demand)?;
-    }
-    Ok(())
-}
-
-fn insert_weight<'g>(
-    set: &mut IndexSet<EdgeKey<'g>>,
-    demand: NumberedDemand<'g>,
-) -> Result<(), AllocError>
-    ensures { OnOk result ((key : Key) → is_weighty key ≡ true
-        → list_any (key_eq key) (map key_view set.new.keys)
-        ≡ (list_any (key_eq key) (map key_view set.old.keys)
-        || key_eq key (weight_key (numbered_view demand.entry)))) }
-{
-    let weight = EdgeKey::weight(demand);
-    if weight.sort < 2 {
-        set.insert(weight)?;
+        let weight = EdgeKey::weight(*demand);
+        if weight.sort < 2 {
+            set.insert(weight)?;
+        }
     }
     Ok(())
 }
