@@ -5,7 +5,7 @@ use Rattle.std.proofs.lemmas.Grind.{flat_map-append}
 use Rattle.list_facts.proofs.Membership.{Contains-append_cases, Contains-append_left, Contains-append_right, Contains-cons_cases, Contains-first, Contains-none}
 use Rattle.workspace_record.specs.Records.{Text, Line, Link}
 use Rattle.cargo_metadata.specs.Dependencies.{Declared, name_of}
-use Rattle.cargo_record.specs.Lines.{IsLink, IsLinkAt, IsOneMore, line_rows, no_link, row_in, row_of}
+use Rattle.cargo_record.specs.Lines.{IsLink, IsLinkAt, IsOneMore, line_rows, link_of, no_link, row_in, row_of}
 
 module _ {X : Type 0} where
   pub one_of : (x y : X) → Contains (x ∷ []) y → x ≡ y
@@ -36,7 +36,7 @@ module _ {X : Type 0} where
   )
 
 -- a link with a line more
-abbrev with_line : Link → Line → Link
+abbrev pub with_line : Link → Line → Link
 with_line link line = record link { lines = link.lines ++ line ∷ [] }
 
 rows_with_line : (link : Link) (line : Line) → map (row_in link) (with_line link line).lines ≡ map (row_in link) link.lines ++ row_in link line ∷ []
@@ -60,24 +60,22 @@ more_links links link line is =
 row_is : (link : Link) (from to : Text) (d : Declared) (line : Line) → IsLink link from to (name_of d) → line ≡ d.line → row_in link line ≡ row_of from to d
 row_is link from to d line is same = λ i. record { from = is.0 i; to = is.1 i; name = is.2 i; line = same i }
 
--- a line more in the link at a place
-pub pushed_in : (links : List Link) (i : ℕ) (f t nm rq : Text) (ls new : List Line) (rg pa : Option Text) (from to : Text) (d : Declared) (line : Line)
-    → i < length links
-    → IsLinkAt links i from to (name_of d)
+-- the links with a line more in that at a place
+abbrev pub lined : List Link → ℕ → Line → List Link
+lined links i line = set links i (with_line (get_or links i no_link) line)
+
+pub lined_is : (links : List Link) (i : ℕ) (f t nm rq : Text) (ls new : List Line) (rg pa : Option Text) (line : Line)
     → record { from = f; to = t; name = nm; requirement = rq; lines = ls; registry = rg; path = pa } ≡ get_or links i no_link
-    → line ≡ d.line
     → new ≡ ls ++ line ∷ []
-    → IsOneMore (line_rows links) (row_of from to d) (line_rows (set links i (record { from = f; to = t; name = nm; requirement = rq; lines = new; registry = rg; path = pa })))
-pushed_in links i f t nm rq ls new rg pa from to d line lt at is same items =
-    let one : IsOneMore (line_rows links) (row_in (get_or links i no_link) line) (line_rows (set links i (with_line (get_or links i no_link) line))) = more_at links i no_link line lt in
-    let row : row_in (get_or links i no_link) line ≡ row_of from to d = row_is (get_or links i no_link) from to d line at same in
-    let whole : with_line (get_or links i no_link) line ≡ record { from = f; to = t; name = nm; requirement = rq; lines = new; registry = rg; path = pa } = ap (λ l. with_line l line) (sym is) ∙ ap (λ (x : List Line). record { from = f; to = t; name = nm; requirement = rq; lines = x; registry = rg; path = pa }) (sym items) in
-    let here : IsOneMore (line_rows links) (row_of from to d) (line_rows (set links i (with_line (get_or links i no_link) line))) = subst (λ r. IsOneMore (line_rows links) r (line_rows (set links i (with_line (get_or links i no_link) line)))) row one in
-    subst (λ l. IsOneMore (line_rows links) (row_of from to d) (line_rows (set links i l))) whole here
+    → lined links i line ≡ set links i (record { from = f; to = t; name = nm; requirement = rq; lines = new; registry = rg; path = pa })
+lined_is links i f t nm rq ls new rg pa line is items =
+    ap (set links i) (ap (λ l. with_line l line) (sym is) ∙ ap (λ (x : List Line). record { from = f; to = t; name = nm; requirement = rq; lines = x; registry = rg; path = pa }) (sym items))
+
+-- a line more in the link at a place
+pub pushed_in : (links : List Link) (i : ℕ) (from to : Text) (d : Declared) (line : Line) → i < length links → IsLinkAt links i from to (name_of d) → line ≡ d.line → IsOneMore (line_rows links) (row_of from to d) (line_rows (lined links i line))
+pushed_in links i from to d line lt at same =
+    subst (λ r. IsOneMore (line_rows links) r (line_rows (lined links i line))) (row_is (get_or links i no_link) from to d line at same) (more_at links i no_link line lt)
 
 -- a link more
-pub pushed_new : (links new : List Link) (link : Link) (from to : Text) (d : Declared) → IsLink link from to (name_of d) → link.lines ≡ d.line ∷ [] → new ≡ links ++ link ∷ [] → IsOneMore (line_rows links) (row_of from to d) (line_rows new)
-pushed_new links new link from to d is lines items =
-    let one : IsOneMore (line_rows links) (row_in link d.line) (line_rows (links ++ link ∷ [])) = more_links links link d.line lines in
-    let row : row_in link d.line ≡ row_of from to d = row_is link from to d d.line is refl in
-    subst (λ ls. IsOneMore (line_rows links) (row_of from to d) (line_rows ls)) (sym items) (subst (λ r. IsOneMore (line_rows links) r (line_rows (links ++ link ∷ []))) row one)
+pub pushed_new : (links : List Link) (from to : Text) (d : Declared) → IsOneMore (line_rows links) (row_of from to d) (line_rows (links ++ link_of from to d [] ∷ []))
+pushed_new links from to d = more_links links (link_of from to d []) d.line refl

@@ -1,5 +1,5 @@
 -- The lines of a record, each a declared dependency that Cargo resolved.
-use Rattle.std.specs.Prelude.{ℕ, slice_index_or, ◌≡◌, ◌↔◌, ◌⊎◌, ◌||◌, Bool, true, false, not, List, [], map, flat_map, Contains, nat_eq, Some, None}
+use Rattle.std.specs.Prelude.{ℕ, slice_index_or, ◌≡◌, ◌↔◌, ◌⊎◌, ◌||◌, Bool, true, false, not, List, [], ◌∷◌, map, flat_map, All, Contains, nat_eq, Some, None}
 use Rattle.std.specs.List.{list_any}
 use Rattle.workspace_record.specs.Kinds.{line_kind_index}
 use Rattle.workspace_record.specs.Records.{Text, Line, Link, Workspace}
@@ -44,6 +44,25 @@ IsLinkAt links i from to name = IsLink (slice_index_or links i no_link) from to 
 -- what a dependency of a package is as a line to the package with an id
 abbrev pub row_of : Text → Text → Declared → LineRow
 row_of from to d = record { from = from; to = to; name = name_of d; line = d.line }
+
+-- the link of a dependency of a package, which has its requirement, registry and path, and its line first
+abbrev pub link_of : Text → Text → Declared → List Line → Link
+link_of from to d more =
+    record { from = from; to = to; name = name_of d; requirement = d.requirement; lines = d.line ∷ more; registry = d.registry; path = d.path }
+
+-- the link is of a dependency that one of the packages declares
+pub record IsDeclaredLink (packages : List Declaring) (link : Link) : Type 0 where
+  pub owner : Declaring
+  pub declared : Declared
+  pub more : List Line
+  pub is_owner : Contains packages owner
+  pub is_declared : Contains owner.dependencies declared
+  pub is : link ≡ link_of owner.row.id link.to declared more
+
+-- declared links stay so, if a package with the id declares the dependency
+abbrev pub StayDeclared : Text → Declared → List Link → List Link → Type 0
+StayDeclared id d old new =
+    (packages : List Declaring) (p : Declaring) → Contains packages p → p.row.id ≡ id → Contains p.dependencies d → All (IsDeclaredLink packages) old → All (IsDeclaredLink packages) new
 
 -- just one more element
 abbrev pub IsOneMore : {X : Type 0} → List X → X → List X → Type 0

@@ -73,7 +73,7 @@ are_names m (Named all) = list_all (λ name. is_member_name m name.now) all.now
 are_names m Workspace = true
 are_names m Default = true
 
--- the workspace of the record: its folders, the members that are asked about, and the default members among these
+-- the workspace of the record: its folders, the members that are asked about, the default members among these, and no metadata
 -- (from Cargo's reference, "Workspaces", "cargo test")
 pub record IsWorkspaceOf (m : Metadata) (wanted : RequestedMembers) (w : WorkspaceDetails) : Type 0 where
   pub root : w.root ≡ m.workspace.root
@@ -81,3 +81,4 @@ pub record IsWorkspaceOf (m : Metadata) (wanted : RequestedMembers) (w : Workspa
   pub build_directory : w.build_directory ≡ m.workspace.build_directory
   pub members : w.members ≡ map (member_with m) (asked m wanted)
   pub default_members : w.default_members ≡ filter (is_among (ids w.members)) (named_defaults m.workspace.default_members)
+  pub metadata : w.metadata ≡ None

@@ -1,6 +1,6 @@
 //! The links of the record, with their lines.
 
-ghost use Rattle.std.specs.Prelude.{◌<◌, ◌≡◌, ◌↔◌, Contains, IfErr, IfOk, IfSome, IsTrue, List, OnOk, Some, [], ◌∷◌, false, length, slice_get, string_bytes, true};
+ghost use Rattle.std.specs.Prelude.{◌<◌, ◌≡◌, ◌↔◌, All, Contains, IfErr, IfOk, IfSome, IsTrue, List, OnOk, Some, [], ◌∷◌, false, length, slice_get, string_bytes, true};
 ghost use Rattle.std.specs.List.{list_all, list_any};
 ghost use Rattle.workspace_record.specs.Records.{Workspace};
 ghost use Rattle.workspace_record.specs.Packages.{is_member};
@@ -9,7 +9,7 @@ ghost use Rattle.cargo_metadata.specs.Packages.{Declaring};
 ghost use Rattle.cargo_metadata.specs.Resolved.{Entry};
 ghost use Rattle.cargo_record.specs.Fitting.{IsResolution, fits, several_fit};
 ghost use Rattle.cargo_record.specs.Kept.{owns_targets, requires_own};
-ghost use Rattle.cargo_record.specs.Lines.{AreLines, AreLinesOf, IsLink, IsLinkAt, IsOneMore, IsPushed, TakesUp, counts, line_rows, row_of};
+ghost use Rattle.cargo_record.specs.Lines.{AreLines, AreLinesOf, IsDeclaredLink, IsLinkAt, IsOneMore, IsPushed, StayDeclared, TakesUp, counts, line_rows, link_of, row_of};
 ghost use Rattle.cargo_record.specs.Refused.{HasNoLine, RefusesLinks, RefusesOne, RefusesPackages, RefusesTargets};
 
 use crate::fault::RecordFault;
@@ -28,6 +28,7 @@ pub(crate) fn links_of(
 ) -> Result<Vec<LinkRecord>, RecordFault>
     ensures lines { IfOk result (λ links. AreLinesOf rows.now metadata.now
         (line_rows links.items)) }
+    ensures links { IfOk result (λ links. All (IsDeclaredLink metadata.now.packages) links.items) }
     ensures own { IfOk result (λ _. list_all (owns_targets rows.now) metadata.now.packages ≡ true) }
     ensures refused { IfErr result (RefusesLinks rows.now metadata.now) }
 {
@@ -47,6 +48,7 @@ fn all_links(
 ) -> Result<Vec<LinkRecord>, RecordFault>
     ensures lines { IfOk result (λ links. AreLines index.now packages.now nodes.now
         (line_rows links.items)) }
+    ensures links { IfOk result (λ links. All (IsDeclaredLink packages.now) links.items) }
     ensures own { IfOk result (λ _. list_all (owns_targets index.now) packages.now ≡ true) }
     ensures refused { IfErr result (RefusesPackages index.now packages.now nodes.now) }
 {
@@ -126,6 +128,9 @@ fn push_links(
 ) -> Result<(), RecordFault>
     ensures taken { OnOk result (TakesUp index.now «package».now node.now «package».now.dependencies
         (line_rows links.old.items) (line_rows links.new.items)) }
+    ensures declared { OnOk result ((packages : List Declaring) → Contains packages «package».now
+        → All (IsDeclaredLink packages) links.old.items
+        → All (IsDeclaredLink packages) links.new.items) }
     ensures refused { IfErr result (RefusesOne index.now «package».now.row.id node.now.dependencies
         «package».now.dependencies) }
 {
@@ -148,6 +153,8 @@ fn push_dependency(
 ) -> Result<(), RecordFault>
     ensures taken { OnOk result (TakesUp index.now «package».now node.now (dependency.now ∷ [])
         (line_rows links.old.items) (line_rows links.new.items)) }
+    ensures declared { OnOk result (StayDeclared «package».now.row.id dependency.now
+        links.old.items links.new.items) }
     ensures refused { IfErr result (λ e. (counts index.now «package».now.row.id dependency.now
         ≡ true) × HasNoLine index.now «package».now.row.id node.now.dependencies dependency.now e) }
 {
@@ -185,6 +192,8 @@ fn push_resolved(
 ) -> Result<(), RecordFault>
     ensures pushed { OnOk result (IsPushed index.now id.now dependency.now found.entry
         (line_rows links.old.items) (line_rows links.new.items)) }
+    ensures declared { OnOk result (StayDeclared id.now dependency.now links.old.items
+        links.new.items) }
     ensures refused { IfErr result (λ e. (entries : List Entry)
         → IsResolution index.now dependency.now entries found.entry
         → HasNoLine index.now id.now entries dependency.now e) }
@@ -241,8 +250,10 @@ fn push_line(
     to: &str,
     dependency: &Dependency,
 ) -> Result<(), AllocError>
-    ensures { OnOk result (IsOneMore (line_rows links.old.items)
+    ensures more { OnOk result (IsOneMore (line_rows links.old.items)
         (row_of from.now to.now dependency.now) (line_rows links.new.items)) }
+    ensures declared { OnOk result (StayDeclared from.now dependency.now links.old.items
+        links.new.items) }
 {
     match place_of(links, start, from, to, dependency.name()) {
         Some(place) => {
@@ -276,8 +287,7 @@ fn new_link(
     to: &str,
     dependency: &Dependency,
 ) -> Result<LinkRecord, AllocError>
-    ensures is { IfOk result (λ l. IsLink l from.now to.now (name_of dependency.now)) }
-    ensures lines { IfOk result (λ l. l.lines ≡ dependency.now.line ∷ []) }
+    ensures { IfOk result (λ l. l ≡ link_of from.now to.now dependency.now []) }
 {
     let from = String::from_str(alloc, from)?;
     let to = String::from_str(alloc, to)?;

@@ -1,6 +1,6 @@
 //! The members that are asked about.
 
-ghost use Rattle.std.specs.Prelude.{◌≡◌, ◌&&◌, Contains, IfErr, IfNone, IfOk, IfSome, Some, bytes_eq, false, filter, map, option_copied, option_map, string_bytes, true};
+ghost use Rattle.std.specs.Prelude.{◌≡◌, ◌&&◌, Contains, IfErr, IfNone, IfOk, IfSome, None, Some, bytes_eq, false, filter, map, option_copied, option_map, string_bytes, true};
 ghost use Rattle.std.specs.List.{list_all, list_any};
 ghost use Rattle.workspace_record.specs.Records.{Text};
 ghost use Rattle.cargo_record.specs.Members as spec;
@@ -50,6 +50,7 @@ fn workspace_named(
     ensures default_members { IfOk result (λ w. w.default_members
         ≡ filter (spec.is_among (spec.ids members.items))
         (spec.named_defaults names.now.default_members)) }
+    ensures metadata { IfOk result (λ w. w.metadata ≡ None) }
 {
     let default_members = default_members_of(alloc, &names.default_members, &members)?;
     let root = String::from_str(alloc, names.root.as_str())?;

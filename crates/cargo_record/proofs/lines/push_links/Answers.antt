@@ -1,4 +1,4 @@
-use Rattle.std.proofs.Common.{◌≡◌, [], ◌∷◌, ◌∙◌, ap, subst, sym}
+use Rattle.std.proofs.Common.{◌≡◌, [], ◌∷◌, ◌∙◌, ap, refl, subst, sym}
 use Rattle.std.proofs.lemmas.Result.{err_from_is_err_and}
 use Rattle.cargo_record.specs.Lines.{TakesUp, line_rows}
 use Rattle.cargo_record.proofs.LineFacts.{takes_all, takes_next, takes_no_dependencies}
@@ -6,7 +6,7 @@ use Rattle.cargo_record.proofs.RefusalFacts.{one_refuses}
 use Rattle.cargo_record.proofs.lines.push_links.Goals as goal
 
 pub loop-dependency-init : goal.loop-dependency-init
-loop-dependency-init c = takes_no_dependencies c.args.index.now c.args.«package».now c.args.node.now (line_rows c.args.links.now.items)
+loop-dependency-init c = record { taken = takes_no_dependencies c.args.index.now c.args.«package».now c.args.node.now (line_rows c.args.links.now.items); declared = λ packages here all. all }
 
 pub loop-dependency-preserved : goal.loop-dependency-preserved
 loop-dependency-preserved c =
@@ -14,12 +14,17 @@ loop-dependency-preserved c =
     let mid = line_rows c.loop-dependency.links.items in
     let new = line_rows c.push_dependency.new.links.items in
     let all : c.deref-dependency-items.result.now ≡ c.args.«package».now.dependencies = c.deref-dependency-items.ensures.value ∙ ap (λ p. p.dependencies) c.«package».view_is in
-    takes_next c.args.index.now p c.args.node.now p.dependencies c.loop-dependency.dependency-index c.dependency-item.result (line_rows c.args.links.now.items) mid new (rw all at c.loop-dependency-test.true) c.loop-dependency.invariant (subst (λ x. TakesUp c.args.index.now p c.args.node.now (x ∷ []) mid new) (rw all at c.dependency-item.is) c.in_ok-push_dependency.ensures.taken)
+    let lt = rw all at c.loop-dependency-test.true in
+    let is = rw all at c.dependency-item.is in
+    record {
+      taken = takes_next c.args.index.now p c.args.node.now p.dependencies c.loop-dependency.dependency-index c.dependency-item.result (line_rows c.args.links.now.items) mid new lt c.loop-dependency.invariant.taken (subst (λ x. TakesUp c.args.index.now p c.args.node.now (x ∷ []) mid new) is c.in_ok-push_dependency.ensures.taken);
+      declared = λ packages here old. c.in_ok-push_dependency.ensures.declared packages p here refl (c.loop-dependency.dependency-index, lt, sym is) (c.loop-dependency.invariant.declared packages here old);
+    }
 
 pub returns-clause-taken : goal.returns-clause-taken
 returns-clause-taken c =
     let all : c.deref-dependency-items.result.now ≡ c.args.«package».now.dependencies = c.deref-dependency-items.ensures.value ∙ ap (λ p. p.dependencies) c.«package».view_is in
-    takes_all c.args.index.now c.args.«package».now c.args.node.now c.args.«package».now.dependencies c.loop-dependency.dependency-index (line_rows c.args.links.now.items) (line_rows c.loop-dependency.links.items) (rw all at c.loop-dependency-test.false) c.loop-dependency.invariant
+    takes_all c.args.index.now c.args.«package».now c.args.node.now c.args.«package».now.dependencies c.loop-dependency.dependency-index (line_rows c.args.links.now.items) (line_rows c.loop-dependency.links.items) (rw all at c.loop-dependency-test.false) c.loop-dependency.invariant.taken
 
 pub returns-in_err-push_dependency-clause-refused : goal.returns-in_err-push_dependency-clause-refused
 returns-in_err-push_dependency-clause-refused c =

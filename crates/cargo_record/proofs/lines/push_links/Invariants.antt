@@ -1,7 +1,10 @@
-use Rattle.std.proofs.Common.{take}
-use Rattle.cargo_record.specs.Lines.{TakesUp, line_rows}
+use Rattle.std.proofs.Common.{List, All, Contains, take}
+use Rattle.cargo_metadata.specs.Packages.{Declaring}
+use Rattle.cargo_record.specs.Lines.{IsDeclaredLink, TakesUp, line_rows}
 use Rattle.cargo_record.proofs.lines.push_links.Given as goal
 
 abbrev pub invariant-loop-dependency : goal.invariant-loop-dependency
-invariant-loop-dependency l =
-    TakesUp l.index l.«package» l.node (take l.dependency-index l.«package».dependencies) (line_rows l.fn.links.items) (line_rows l.links.items)
+invariant-loop-dependency l = record {
+  taken : TakesUp l.index l.«package» l.node (take l.dependency-index l.«package».dependencies) (line_rows l.fn.links.items) (line_rows l.links.items);
+  declared : (packages : List Declaring) → Contains packages l.«package» → All (IsDeclaredLink packages) l.fn.links.items → All (IsDeclaredLink packages) l.links.items;
+}
