@@ -1,6 +1,6 @@
 -- How a run of the program ends.
 use mathlib.Core.Bool.{false≢true, true≢false}
-use Rattle.std.proofs.Common.{◌≡◌, ◌∙◌, ◌∷◌, ℕ, Bool, false, List, [], append-nil, ap, ap₂, arith, inl, inr, refl, subst, sym, true, Result, Ok, Err}
+use Rattle.std.proofs.Common.{◌≡◌, ◌≢◌, ◌⊎◌, ◌∙◌, ◌∷◌, ℕ, Bool, false, List, [], append-nil, ap, ap₂, arith, inl, inr, refl, subst, sym, true, Result, Ok, Err}
 use Rattle.std.specs.Prelude.{Option, Some, None, IfErr, IsErrAnd, codes, is_some, option_map, unwrap_or}
 use Rattle.std.specs.Option.{option_map_or}
 use Rattle.std.specs.Result.{is_ok}
@@ -11,7 +11,7 @@ use Rattle.clap.specs.Kinds.{HasKind, Kinds}
 use Rattle.clap.specs.Values.{kind_of}
 use Rattle.clap.specs.Words.{App, HasMatchesOf, Row, fault_of, is_simple, subcommand_name_of, subcommand_rows_of}
 use Rattle.clap.specs.declared.error.Error.{Error}
-use Rattle.clap.specs.declared.error.ErrorKind.TheVariants.{OutOfMemory}
+use Rattle.clap.specs.declared.error.ErrorKind.TheVariants.{DisplayHelp, DisplayVersion, OutOfMemory}
 use Rattle.clap.specs.declared.parser.ArgMatches.{ArgMatches}
 use Rattle.workspace_record.specs.Records.{Text}
 use Rattle.record_files.specs.Accounts.{AccountValue}
@@ -24,14 +24,16 @@ use Rattle.test_select_files.specs.Words.{files_named, is_given}
 use Rattle.test_select_files.specs.declared.inputs.FeatureQuestion.{FeatureQuestion}
 use Rattle.test_select_files.specs.declared.run_failure.RunFailure.{RunFailure}
 use Rattle.test_select_files.specs.declared.run_failure.RunFailure.TheVariants as run
+use Rattle.test_select_files.specs.Mistakes.{IsBadLine}
 use Rattle.test_select_files.proofs.ReadingFacts.{asks_such}
+use Rattle.test_select_files.proofs.RunFacts.{no_request_told}
 use Rattle.test_select.specs.AccountCommands.{PrintsAccount, PrintsExplanation, feature_named}
 use Rattle.test_select.specs.Asking.{AsksNoPart, RefusesNoPart}
 use Rattle.test_select.specs.Changes.{PrintsChanged, ReadsChanges}
 use Rattle.test_select.specs.Failures.{status_of}
 use Rattle.test_select.specs.FeatureCommands.{PrintsFeatures, PrintsOrder, PrintsRules}
 use Rattle.test_select.specs.Printing.{EndsReading, Prints}
-use Rattle.test_select.specs.Running.{EndsAs, EndsIfAny, EndsRun, EndsTask, EndsVerdict, HasNoPart, Means, as_run}
+use Rattle.test_select.specs.Running.{EndsAs, EndsIfAny, EndsRun, EndsTask, EndsVerdict, HasNoPart, Means, RefusesMistakes, as_run}
 use Rattle.test_select.specs.Selections.{PrintsBinaries, PrintsTests, PrintsWhy, ReadsTests}
 use Rattle.test_select.specs.Tasks.{IsSelector, selector_by, task_named}
 use Rattle.test_select.specs.declared.changes.ChangedInputs.{ChangedInputs}
@@ -229,9 +231,14 @@ shown_memory failure (Err f) shown is failed ran_out =
 -- ---- words that ask for no part
 
 -- they stand behind the name of a task
-no_part : (below : Option (Text × List Row)) (text : Text) → AsksNoPart (option_map_or (λ b. b.1) below []) text → HasNoPart below
-no_part (Some b) text asks = (text, asks)
+no_part : (below : Option (Text × List Row)) (text : Text) → AsksNoPart (option_map_or (λ b. b.1) below []) text → HasNoPart below text
+no_part (Some b) text asks = asks
 no_part None text asks = absurd (false≢true (ap is_some asks.0))
+
+-- words that are not refused do not
+a_part : (below : Option (Text × List Row)) → RefusesNoPart (option_map_or (λ b. b.1) below []) (Ok tt) → (text : Text) → HasNoPart below text → ⊥
+a_part (Some b) asks = asks
+a_part None asks text none = none
 
 module _ {R : List ℕ → Text → Answer → List ℕ → Type 0} {s : List ℕ} (below : Option (Text × List Row)) (old : Option Text) where
   refused_as : (f : Failure) → RefusesNoPart (option_map_or (λ b. b.1) below []) (Err f) → Asks R s s (EndsAs below (Err f) old old)
@@ -248,14 +255,19 @@ module _ {R : List ℕ → Text → Answer → List ℕ → Type 0} {s : List �
   refused_ends f (Err g) is refuses = subst (λ (h : Failure). Asks R s s (EndsAs below (Err h) old old)) (sym is) (refused_as f refuses)
 
 -- other words end as their task does
-pub as_ends : (below : Option (Text × List Row)) (result : Result (Unit {0}) Failure) (old new : Option Text) (asked : Asked) → IfErr result (λ f. status_of f ≡ 1) → EndsRun below result old new asked → EndsAs below result old new asked
-as_ends below (Ok x) old new asked one ends = ends
-as_ends below (Err (Run failure)) old new asked one ends = ends
-as_ends below (Err (Refused error)) old new asked one ends = ends
-as_ends below (Err (NotText name)) old new asked one ends = ends
-as_ends below (Err (BadGlob text error)) old new asked one ends = ends
-as_ends below (Err (NotBelow path)) old new asked one ends = ends
-as_ends below (Err (BadPartition text)) old new asked one ends = absurd (omega arith)
+pub as_ends : (below : Option (Text × List Row)) (result : Result (Unit {0}) Failure) (old new : Option Text) (asked : Asked) → RefusesNoPart (option_map_or (λ b. b.1) below []) (Ok tt) → IfErr result (λ f. status_of f ≡ 1) → EndsRun below result old new asked → EndsAs below result old new asked
+as_ends below (Ok x) old new asked part one ends = (a_part below part, ends)
+as_ends below (Err (Run run.Memory)) old new asked part one ends = ends
+as_ends below (Err (Run (run.CommandLine error))) old new asked part one ends = absurd (omega arith)
+as_ends below (Err (Run (run.CannotRead name))) old new asked part one ends = (a_part below part, ends)
+as_ends below (Err (Run (run.BadFile name error))) old new asked part one ends = (a_part below part, ends)
+as_ends below (Err (Run run.Denied)) old new asked part one ends = (a_part below part, ends)
+as_ends below (Err (Run run.CannotWrite)) old new asked part one ends = (a_part below part, ends)
+as_ends below (Err (Refused error)) old new asked part one ends = (a_part below part, ends)
+as_ends below (Err (NotText name)) old new asked part one ends = (a_part below part, ends)
+as_ends below (Err (BadGlob text error)) old new asked part one ends = (a_part below part, ends)
+as_ends below (Err (NotBelow path)) old new asked part one ends = (a_part below part, ends)
+as_ends below (Err (BadPartition text)) old new asked part one ends = absurd (omega arith)
 
 -- ---- what words mean
 
@@ -292,3 +304,39 @@ module _ (words : List Text) (Holds : Option (Text × List Row) → Type 0) wher
         let free = ap is_simple_and_free is.told ∙ selector_is_free is.formats in
         all (elim (subst (λ (k : Kinds). HasKind k e) none (kinds free)) [ inl h ↦ h | inr h ↦ absurd h ]) _;
   }
+
+-- ---- words that are mistakes
+
+module _ (words : List Text) {s : List ℕ} {old : Option Text} where
+  -- memory ran out before they were looked at
+  pub memory_refuses : (result : Result (Unit {0}) Failure) → IsErrAnd result (λ f. f ≡ Run run.Memory) → RefusesMistakes words s s old old result
+  memory_refuses (Ok x) is = absurd is
+  memory_refuses (Err f) is = record {
+    app = selector_by (one_among some_formats (codes "format"));
+    is_selector = record { formats = some_formats; named = refl; told = refl };
+    refuses = λ mistakes. (inl is, refl, refl);
+  }
+
+module _ (words : List Text) (a : App) (is : IsSelector a) where
+  free : is_simple_and_free a ≡ true
+  free = ap is_simple_and_free is.told ∙ selector_is_free is.formats
+
+  -- words that were taken are none
+  pub taken_refuses : {s t : List ℕ} {old new : Option Text} (result : Result (Unit {0}) Failure) → (is_simple_and_free a ≡ true → fault_of a words ≡ []) → RefusesMistakes words s t old new result
+  taken_refuses result none = record { app = a; is_selector = is; refuses = λ mistakes. absurd (mistakes.some (none free)) }
+
+  -- the error of such words is shown as one
+  pub shown_refuses : {s : List ℕ} {old new : Option Text} (e : Error) (result : Result (Unit {0}) Failure) → (is_simple_and_free a ≡ true → HasKind (fault_of a words) e) → (kind_of e ≢ DisplayHelp → kind_of e ≢ DisplayVersion → IsErrAnd result (λ f. (f ≡ Run run.Memory) ⊎ (status_of f ≡ 2)) × (new ≡ old)) → RefusesMistakes words s s old new result
+  shown_refuses e result kinds refused = record {
+    app = a;
+    is_selector = is;
+    refuses = λ mistakes.
+        let told = no_request_told a a words e free refl kinds mistakes in
+        let bad = refused told.0 told.1 in
+        (bad.0, bad.1, refl);
+  }
+
+-- the failure of what is shown is that of the run
+pub run_is_bad : (failure : RunFailure) (result : Result (Unit {0}) Failure) → IsErrAnd result (λ f. f ≡ Run failure) → IsBadLine failure → IsErrAnd result (λ f. (f ≡ Run run.Memory) ⊎ (status_of f ≡ 2))
+run_is_bad failure (Ok x) is bad = absurd is
+run_is_bad failure (Err f) is bad = subst (λ (g : Failure). (g ≡ Run run.Memory) ⊎ (status_of g ≡ 2)) (sym is) (elim bad [ inl h ↦ inl (ap (λ (x : RunFailure). Run x) h) | inr h ↦ inr h ])

@@ -1,8 +1,10 @@
 -- What a command that selects or explains comes to, by the files that it read and what it answered.
-use Rattle.std.proofs.Common.{◌≡◌, ℕ, List, Bool, false, refl, ap, sym, subst, inl, Result, Ok, Err}
-use Rattle.std.specs.Prelude.{Option, IsErrAnd, codes}
+use Rattle.std.proofs.Common.{◌≡◌, ◌∙◌, ℕ, List, Bool, false, true≢false, refl, ap, sym, subst, inl, Result, Ok, Err, String, Vec, Global, string_bytes}
+use Rattle.std.specs.Prelude.{Option, Some, None, IsErrAnd, codes, is_some, option_map}
+use Rattle.std.specs.BTreeMap.{get_by_text}
 use Rattle.std.specs.Io.KnownBytes.{Appends}
 use Rattle.clap.specs.Words.{Row, first_of}
+use Rattle.list_facts.specs.Texts.{texts}
 use Rattle.list_facts.specs.Writers.{AddsUpTo}
 use Rattle.workspace_record.specs.Records.{Text}
 use Rattle.test_select_checks.specs.declared.select_error.SelectError.{SelectError}
@@ -19,9 +21,9 @@ use Rattle.test_select.specs.Runs.{AnswersQuestion, ExplainsQuestion}
 use Rattle.test_select_tests.specs.Choosing.{BlamesUnlisted}
 use Rattle.test_select_tests.specs.declared.asked_binaries.AskedBinaries.{AskedBinaries}
 use Rattle.test_select_tests.specs.declared.scope.LinkScope.{LinkScope}
-use Rattle.test_select.specs.Selections.{IsTextOf, Listings, PrintsShown, SaysWhy, Selects, ShowsTests, asks_for_json, tests_of}
-use Rattle.nextest_binaries.specs.Listers.{Shown, unasked}
-use Rattle.test_select_checks.specs.declared.select_error.SelectError.TheVariants.{Memory}
+use Rattle.test_select.specs.Selections.{IsTextOf, Listings, PrintsShown, ExplainsBy, SaysWhy, Selects, ShowsTests, asks_for_json, tests_of, unblamed}
+use Rattle.nextest_binaries.specs.Listers.{Shown, listing_in, unasked}
+use Rattle.test_select_checks.specs.declared.select_error.SelectError.TheVariants.{BadListing, Filter, Lister, Memory, Record, UnknownExtra}
 use Rattle.test_select_tests.specs.Selections.{Selected}
 use Rattle.test_select_tests.specs.declared.reason.Reason.{Reason}
 use Rattle.test_select.specs.declared.failure.Failure.{Failure}
@@ -91,9 +93,9 @@ text_of_part words selection is_json tests form of text shows =
 
 module _ (words : List Row) (q : FeatureQuestion) (listings : Listings) where
   -- an explanation without one
-  pub memory_says : (result : Result Reason SelectError) → IsErrAnd result (λ e. e ≡ Memory) → SaysWhy words q listings result
-  memory_says (Ok x) is = absurd is
-  memory_says (Err e) is = subst (λ (e : SelectError). SaysWhy words q listings (Err e)) (sym is) (unasked listings, inl refl)
+  pub memory_explains : (result : Result Reason SelectError) → IsErrAnd result (λ e. e ≡ Memory) → ExplainsBy words q listings result
+  memory_explains (Ok x) is = absurd is
+  memory_explains (Err e) is = subst (λ (e : SelectError). ExplainsBy words q listings (Err e)) (sym is) (unasked listings, inl refl)
 
 -- ---- by a lister that was asked nothing before
 
@@ -109,7 +111,7 @@ module _ (words : List Row) (q : FeatureQuestion) (listings : Listings) where
   )
 
   -- what such a lister explains
-  pub explained_by : (result : Result Reason SelectError) (scope : LinkScope) (texts : List Text) (id : Text) (test : Option Text) (old new : Shown) → scope ≡ scope_in words → texts ≡ filters_in words → id ≡ word_or_empty (codes "binary") words → test ≡ first_of (codes "test") words → old ≡ unasked listings → ExplainsQuestion q scope texts id test old result new → SaysWhy words q listings result
+  pub explained_by : (result : Result Reason SelectError) (scope : LinkScope) (texts : List Text) (id : Text) (test : Option Text) (old new : Shown) → scope ≡ scope_in words → texts ≡ filters_in words → id ≡ word_or_empty (codes "binary") words → test ≡ first_of (codes "test") words → old ≡ unasked listings → ExplainsQuestion q scope texts id test old result new → ExplainsBy words q listings result
   explained_by result scope texts id test old new is_scope are_texts is_id is_test is_old h = (
     new,
     subst (λ (s : LinkScope). ExplainsQuestion q s (filters_in words) (word_or_empty (codes "binary") words) (first_of (codes "test") words) (unasked listings) result new) is_scope
@@ -118,3 +120,36 @@ module _ (words : List Row) (q : FeatureQuestion) (listings : Listings) where
         (subst (λ (t : Option Text). ExplainsQuestion q scope texts id t (unasked listings) result new) is_test
         (subst (λ (s : Shown). ExplainsQuestion q scope texts id test s result new) is_old h)))),
   )
+
+-- ---- the binary that is blamed
+
+-- it has the id of which it was asked
+blamed_id : (q : FeatureQuestion) (scope : LinkScope) (texts : List Text) (id : Text) (test : Option Text) (old new : Shown) (named : String Global) → ExplainsQuestion q scope texts id test old (Err (Lister named)) new → string_bytes named ≡ id
+blamed_id q scope texts id (Some t) old new named h = h.told.3.1.0 ∙ h.told.2
+blamed_id q scope texts id None old new named h = absurd h.told.3.1
+
+-- an id without a listing
+unlisted : (listings : Listings) (id : Text) → is_some (get_by_text listings id) ≡ false → listing_in listings id ≡ None
+unlisted listings id none = go (get_by_text listings id) none
+  where
+    go : (o : Option (Vec (String Global) Global)) → is_some o ≡ false → option_map (λ (l : Vec (String Global) Global). texts l.items) o ≡ None
+    go None e = refl
+    go (Some l) e = absurd (true≢false e)
+
+module _ (words : List Row) (q : FeatureQuestion) (listings : Listings) where
+  -- it has no listing
+  pub unlisted_says : (result : Result Reason SelectError) (id : Text) → id ≡ word_or_empty (codes "binary") words → false ≡ is_some (get_by_text listings id) → ExplainsBy words q listings result → SaysWhy words q listings result
+  unlisted_says result id is none explains = (explains, λ named blamed.
+      let blames = subst (λ (r : Result Reason SelectError). ExplainsQuestion q (scope_in words) (filters_in words) (word_or_empty (codes "binary") words) (first_of (codes "test") words) (unasked listings) r explains.0) blamed explains.1 in
+      let same : string_bytes named ≡ id = blamed_id q (scope_in words) (filters_in words) (word_or_empty (codes "binary") words) (first_of (codes "test") words) (unasked listings) explains.0 named blames ∙ sym is in
+      subst (λ t. listing_in listings t ≡ None) (sym same) (unlisted listings id (sym none)))
+
+  -- it has one, so memory ran out
+  pub unblamed_says : (result : Result Reason SelectError) → ExplainsBy words q listings result → SaysWhy words q listings (unblamed result)
+  unblamed_says (Ok x) explains = (explains, λ named same. absurd cc)
+  unblamed_says (Err (Record e)) explains = (explains, λ named same. absurd cc)
+  unblamed_says (Err (UnknownExtra place)) explains = (explains, λ named same. absurd cc)
+  unblamed_says (Err (Filter place faults)) explains = (explains, λ named same. absurd cc)
+  unblamed_says (Err (Lister id)) explains = ((unasked listings, inl refl), λ named same. absurd cc)
+  unblamed_says (Err (BadListing id fault)) explains = (explains, λ named same. absurd cc)
+  unblamed_says (Err Memory) explains = (explains, λ named same. absurd cc)

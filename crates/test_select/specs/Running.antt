@@ -1,13 +1,15 @@
 -- How a run of the program ends, by its words and by what its files answered.
-use Rattle.std.specs.Prelude.{◌≡◌, ℕ, List, [], Option, Some, None, Result, Ok, Err}
+use Rattle.std.specs.Prelude.{◌≡◌, ◌⊎◌, ℕ, List, [], IsErrAnd, Option, Some, None, Result, Ok, Err}
 use Rattle.std.specs.Io.KnownBytes.{Keeps}
 use Rattle.clap.specs.Words.{App, Row, fault_of, subcommand_of}
 use Rattle.workspace_record.specs.Records.{Text}
 use Rattle.test_select_files.specs.Files.{Answer}
+use Rattle.test_select_files.specs.Mistakes.{AreMistakes}
 use Rattle.test_select_files.specs.Reading.{Asked, Asks}
 use Rattle.test_select_files.specs.Telling.{TellsUnless}
 use Rattle.test_select_files.specs.Verdicts.{EndsCheck}
 use Rattle.test_select_files.specs.declared.run_failure.RunFailure.{RunFailure}
+use Rattle.test_select_files.specs.declared.run_failure.RunFailure.TheVariants as run
 use Rattle.test_select.specs.AccountCommands.{EndsAccount, EndsExplanation}
 use Rattle.test_select.specs.Asking.{AsksNoPart}
 use Rattle.test_select.specs.Changes.{EndsChanged}
@@ -53,15 +55,26 @@ abbrev pub EndsRun : Option (Text × List Row) → Result (Unit {0}) Failure →
 EndsRun (Some below) result old new asked = EndsIfAny (task_named below.0) below.1 result old new asked
 EndsRun None result old new asked = Keeps old new × (asked ≡ [])
 
--- the words behind the name ask for no part of the tests
-abbrev pub HasNoPart : Option (Text × List Row) → Type 0
-HasNoPart (Some below) = (text : Text) × AsksNoPart below.1 text
-HasNoPart None = ⊥
+-- the words behind the name ask for no part of the tests, by this text
+abbrev pub HasNoPart : Option (Text × List Row) → Text → Type 0
+HasNoPart (Some below) text = AsksNoPart below.1 text
+HasNoPart None text = ⊥
 
--- words that ask for no part are refused before any file is read; else a run ends as its task does
+-- a run ends as its task does, and its words do not ask for no part
+abbrev pub EndsAsked : Option (Text × List Row) → Result (Unit {0}) Failure → Option Text → Option Text → Asked → Type 0
+EndsAsked below result old new asked = ((text : Text) → HasNoPart below text → ⊥) × EndsRun below result old new asked
+
+-- words that ask for no part are refused by that text before any file is read; or a run ends as its task does; or memory ran out, where of such words nothing is said
 abbrev pub EndsAs : Option (Text × List Row) → Result (Unit {0}) Failure → Option Text → Option Text → Asked → Type 0
-EndsAs below (Err (BadPartition text)) old new asked = HasNoPart below × (new ≡ old) × (asked ≡ [])
-EndsAs below result old new asked = EndsRun below result old new asked
+EndsAs below (Err (BadPartition text)) old new asked = HasNoPart below text.now × (new ≡ old) × (asked ≡ [])
+EndsAs below (Err (Run run.Memory)) old new asked = EndsRun below (Err (Run run.Memory)) old new asked
+EndsAs below result old new asked = EndsAsked below result old new asked
+
+-- words in which `clap` finds mistakes are refused, with status 2, or memory ran out; no file is asked for, and nothing printed
+pub record RefusesMistakes (words : List Text) (s t : List ℕ) (old new : Option Text) (result : Result (Unit {0}) Failure) : Type 0 where
+  pub app : App
+  pub is_selector : IsSelector app
+  pub refuses : AreMistakes (fault_of app words) → IsErrAnd result (λ f. (f ≡ Run run.Memory) ⊎ (status_of f ≡ 2)) × (new ≡ old) × (t ≡ s)
 
 -- what the words ask for, by the program as `clap` is told of it, where it finds no fault in them
 pub record Means (words : List Text) (Holds : Option (Text × List Row) → Type 0) : Type 0 where
@@ -85,3 +98,4 @@ pub record EndsProgram (words : List Text) (R : List ℕ → Text → Answer →
   pub is_status : status ≡ status_by outcome
   pub told : TellsOutcome outcome err_old err_new
   pub means : Means words (λ below. Asks R s t (EndsAs below outcome old new))
+  pub mistakes : RefusesMistakes words s t old new outcome

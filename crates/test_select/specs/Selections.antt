@@ -1,5 +1,5 @@
 -- What the commands print that select tests or say why: the tests that run, the binaries that are asked for theirs, and why a test is chosen or a binary asked.
-use Rattle.std.specs.Prelude.{◌≡◌, ℕ, Bool, true, false, not, List, ◌++◌, Option, Some, None, Result, Ok, String, Vec, codes, flat_map, map}
+use Rattle.std.specs.Prelude.{◌≡◌, ℕ, Bool, true, false, not, List, ◌++◌, Option, Some, None, Result, Ok, Err, String, Vec, codes, flat_map, map}
 use Rattle.std.specs.BTreeMap.{BTreeMap}
 use Rattle.std.specs.Global.{Global}
 use Rattle.clap.specs.Words.{Row, first_of}
@@ -9,6 +9,7 @@ use Rattle.record_files.specs.Listings.{listing, listings_file}
 use Rattle.record_writing.specs.Maps.{listings_line}
 use Rattle.nextest_binaries.specs.Listers.{Shown, unasked}
 use Rattle.test_select_checks.specs.declared.select_error.SelectError.{SelectError}
+use Rattle.test_select_checks.specs.declared.select_error.SelectError.TheVariants.{Lister, Memory}
 use Rattle.test_select_files.specs.Reading.{Asked, ReadsAs, ReadsBoth, ReadsQuestion}
 use Rattle.test_select_files.specs.Words.{files_named, says, word_or_empty}
 use Rattle.test_select_files.specs.declared.inputs.FeatureQuestion.{FeatureQuestion}
@@ -96,9 +97,18 @@ EndsTests words = EndsReading (ReadsTests words) (λ files. PrintsTests words fi
 -- ---- why a test is chosen, or a binary asked
 
 -- why the test that the words name is chosen or not, or why the binary is asked or not, by a lister over the listings that was asked nothing before
-abbrev pub SaysWhy : List Row → FeatureQuestion → Listings → Result Reason SelectError → Type 0
-SaysWhy words q listings reason =
+abbrev pub ExplainsBy : List Row → FeatureQuestion → Listings → Result Reason SelectError → Type 0
+ExplainsBy words q listings reason =
     (after : Shown) × ExplainsQuestion q (scope_in words) (filters_in words) (word_or_empty (codes "binary") words) (first_of (codes "test") words) (unasked listings) reason after
+
+-- the same; the binary is blamed only where no listing is its
+abbrev pub SaysWhy : List Row → FeatureQuestion → Listings → Result Reason SelectError → Type 0
+SaysWhy words q listings reason = ExplainsBy words q listings reason × BlamesUnlisted listings reason
+
+-- memory ran out, in place of a failure of the lister
+abbrev pub unblamed : Result Reason SelectError → Result Reason SelectError
+unblamed (Err (Lister id)) = Err Memory
+unblamed reason = reason
 
 -- the line of a reason
 abbrev pub reason_line : Reason → Text

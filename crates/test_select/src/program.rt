@@ -2,6 +2,7 @@
 
 ghost use Rattle.std.specs.Prelude.{◌≡◌, ◌≤◌, IfErr, map};
 ghost use Rattle.clap.specs.Words.{found_of, rows_of, subcommand_rows_of};
+ghost use Rattle.test_select_files.specs.Files.{SameAnswers};
 ghost use Rattle.test_select_files.specs.Reading.{Asks};
 ghost use Rattle.test_select.specs.Failures.{status_of};
 ghost use Rattle.test_select.specs.Running.{
@@ -11,6 +12,7 @@ ghost use Rattle.test_select.specs.Running.{
   EndsTask,
   EndsVerdict,
   Means,
+  RefusesMistakes,
 };
 
 use crate::accounts::print_account;
@@ -81,6 +83,7 @@ pub fn run<S: AsStr, O: Write, E: Write>(
     ensures ends { EndsProgram (map S.text words.now) (answers files.old) (state files.old)
         (state files.new) (O.contents out.old) (O.contents out.new) (E.contents err.old)
         (E.contents err.new) result }
+    ensures same { SameAnswers (answers files.old) (answers files.new) }
 {
     match try_run(alloc, words, files, out) {
         Ok(()) => 0,
@@ -104,6 +107,9 @@ fn try_run<'a, S: AsStr, O: Write>(
     ensures ends { Means (map S.text words.now) (λ below.
         Asks (answers files.old) (state files.old) (state files.new)
         (EndsAs below result (O.contents out.old) (O.contents out.new))) }
+    ensures mistakes { RefusesMistakes (map S.text words.now) (state files.old) (state files.new)
+        (O.contents out.old) (O.contents out.new) result }
+    ensures same { SameAnswers (answers files.old) (answers files.new) }
 {
     match command(alloc)?.try_get_matches_from(words) {
         Ok(matches) => {
@@ -124,6 +130,7 @@ fn carry_out<'a, O: Write>(
     ensures status { IfErr result (λ f. status_of f ≡ 1) }
     ensures ends { Asks (answers files.old) (state files.old) (state files.new)
         (EndsRun (subcommand_rows_of matches.now) result (O.contents out.old) (O.contents out.new)) }
+    ensures same { SameAnswers (answers files.old) (answers files.new) }
 {
     print_asked(alloc, matches, files, out)?;
     out.flush()?;
@@ -140,6 +147,7 @@ fn print_asked<'a, O: Write>(
     ensures status { IfErr result (λ f. status_of f ≡ 1) }
     ensures ends { Asks (answers files.old) (state files.old) (state files.new)
         (EndsRun (subcommand_rows_of matches.now) result (O.contents out.old) (O.contents out.new)) }
+    ensures same { SameAnswers (answers files.old) (answers files.new) }
 {
     let Some((name, asked)) = matches.subcommand() else {
         return Ok(());
@@ -162,6 +170,7 @@ fn print_task<'a, O: Write>(
     ensures ends { Asks (answers files.old) (state files.old) (state files.new)
         (EndsTask task (rows_of (found_of asked.now)) result (O.contents out.old)
         (O.contents out.new)) }
+    ensures same { SameAnswers (answers files.old) (answers files.new) }
 {
     match task {
         Task::Tests => print_tests(alloc, asked, files, out),
@@ -188,6 +197,7 @@ fn print_check<'a, O: Write>(
     ensures ends { Asks (answers files.old) (state files.old) (state files.new)
         (EndsVerdict (rows_of (found_of asked.now)) result (O.contents out.old)
         (O.contents out.new)) }
+    ensures same { SameAnswers (answers files.old) (answers files.new) }
 {
     Ok(print_verdict(alloc, asked, files, out)?)
 }

@@ -5,7 +5,7 @@ ghost use Rattle.clap.specs.Words.{found_of, rows_of};
 ghost use Rattle.test_select_files.specs.Files.{SameAnswers};
 ghost use Rattle.test_select_files.specs.Reading.{Asks};
 ghost use Rattle.test_select.specs.Failures.{status_of};
-ghost use Rattle.test_select.specs.Selections.{EndsWhy, reason_line, SaysWhy};
+ghost use Rattle.test_select.specs.Selections.{EndsWhy, ExplainsBy, reason_line, SaysWhy, unblamed};
 
 use crate::command_line::link_scope;
 use crate::failure::Failure;
@@ -46,8 +46,8 @@ pub(crate) fn print_why<'a, O: Write>(
     }
 }
 
-/// The reason over the links of the scope. A lister over the listings is asked for the binary alone, if
-/// at all.
+// A lister over listings fails for one that they have only where there is no memory for its copy.
+/// The reason over the links of the scope. The binary is blamed only where the listings have none of it.
 fn reason_in<'q, 'a: 'q>(
     alloc: Global,
     asked: &ArgMatches<'a>,
@@ -55,6 +55,20 @@ fn reason_in<'q, 'a: 'q>(
     listings: BTreeMap<String, Listing>,
 ) -> Result<Reason<'q>, SelectError>
     ensures says { SaysWhy (rows_of (found_of asked.now)) question.entry.now listings result }
+{
+    let is_listed = listings.contains_key(required(asked, "binary"));
+    let reason = reason_by(alloc, asked, question, listings);
+    if is_listed { unblamed(reason) } else { reason }
+}
+
+/// The reason by a lister over the listings, which is asked for the binary alone, if at all.
+fn reason_by<'q, 'a: 'q>(
+    alloc: Global,
+    asked: &ArgMatches<'a>,
+    question: &'q FeatureQuestion,
+    listings: BTreeMap<String, Listing>,
+) -> Result<Reason<'q>, SelectError>
+    ensures explains { ExplainsBy (rows_of (found_of asked.now)) question.entry.now listings result }
 {
     let mut lister = FileLister::new(alloc, listings)?;
     let (record, choice, table) = (&question.record, &question.choice, &question.table);
@@ -71,6 +85,16 @@ fn reason_in<'q, 'a: 'q>(
         test,
         &mut lister,
     )
+}
+
+/// The same, where memory ran out in place of a failure of the lister.
+fn unblamed<'q>(reason: Result<Reason<'q>, SelectError>) -> Result<Reason<'q>, SelectError>
+    ensures { result ≡ unblamed reason.entry }
+{
+    match reason {
+        Err(SelectError::Lister(_)) => Err(SelectError::Memory),
+        told => told,
+    }
 }
 
 /// The line that says it, with its line feed.

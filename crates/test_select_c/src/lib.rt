@@ -6,7 +6,7 @@
 #![tactic(auto)]
 
 ghost use Rattle.std.specs.Prelude.{◌≡◌, ◌↔◌, ◌≤◌, ◌<◌, ◌⊎◌, length};
-ghost use Rattle.test_select_c.specs.Calls.{Answers};
+ghost use Rattle.test_select_c.specs.Calls.{Answers, Refuses};
 ghost use Rattle.test_select_c.specs.Pieces.{IsCall};
 ghost use Rattle.test_select_c.specs.Rooms.{Holds};
 
@@ -52,6 +52,8 @@ pub extern "C" fn test_select_run(
     ensures malformed { result.status ≡ 4 → IsCall words.now files.now → ⊥ }
     ensures ran { IsCall words.now files.now → Answers words.now files.now result out.old out.new
         err.old err.new }
+    ensures refused { (IsCall words.now files.now → ⊥)
+        → Refuses result out.old out.new err.old err.new }
     ensures too_small { (result.status ≡ 3)
         ↔ ((length out.old < result.out_length) ⊎ (length err.old < result.err_length)) }
     ensures out_held { Holds result.out_length out.old out.new }

@@ -1,7 +1,7 @@
 //! What a call prints, before it is written into the caller's rooms.
 
-ghost use Rattle.std.specs.Prelude.{◌≡◌, ◌≤◌, ◌⊎◌, length, IfOk, IfSome, IsSome, ◌↔◌};
-ghost use Rattle.test_select_c.specs.Calls.{LacksMemory, Prints};
+ghost use Rattle.std.specs.Prelude.{◌≡◌, ◌≤◌, ◌⊎◌, [], length, IfOk, IfSome, IsSome, ◌↔◌};
+ghost use Rattle.test_select_c.specs.Calls.{LacksMemory, Prints, PrintsNothing};
 ghost use Rattle.test_select_c.specs.CallParts.{EndsOver, IsTakenFrom};
 ghost use Rattle.test_select_c.specs.Pieces.{IsCall};
 
@@ -34,6 +34,8 @@ pub(crate) fn printed_by(alloc: Global, words: &[u8], files: &[u8]) -> Printed
     ensures malformed { result.status ≡ 4 → IsCall words.now files.now → ⊥ }
     ensures prints { IsCall words.now files.now
         → Prints words.now files.now result.out.items result.err.items result.status }
+    ensures refused { (IsCall words.now files.now → ⊥)
+        → PrintsNothing result.out.items result.err.items result.status }
     ensures quiet { result.status ≡ 0 → length result.err.items ≡ 0 }
     ensures bad_words { result.status ≡ 2 → length result.out.items ≡ 0 }
 {
@@ -81,8 +83,8 @@ fn printed_of(alloc: Global, call: &Call<'_>) -> Printed
 
 fn nothing_printed(alloc: Global, status: u32) -> Printed
     ensures status { result.status ≡ status }
-    ensures out { length result.out.items ≡ 0 }
-    ensures err { length result.err.items ≡ 0 }
+    ensures out { result.out.items ≡ [] }
+    ensures err { result.err.items ≡ [] }
 {
     Printed {
         status,

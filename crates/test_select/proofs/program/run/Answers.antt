@@ -19,4 +19,5 @@ returns-after-not-is_denial-clause-ends g c = record {
     | else-not-is_denial w ↦ of_a_denial _ _ _ _ (sym c.is_denial.ensures ∙ w.if-not-is_denial.false) (ap (λ e. g.E.Write.contents e) w.err-is)
   ];
   means = c.in-Err.ensures.ends;
+  mistakes = c.in-Err.ensures.mistakes;
 }
