@@ -237,7 +237,7 @@ no_part None text asks = absurd (false≢true (ap is_some asks.0))
 
 -- words that are not refused do not
 a_part : (below : Option (Text × List Row)) → RefusesNoPart (option_map_or (λ b. b.1) below []) (Ok tt) → (text : Text) → HasNoPart below text → ⊥
-a_part (Some b) asks = asks
+a_part (Some b) asks text none = asks text none
 a_part None asks text none = none
 
 module _ {R : List ℕ → Text → Answer → List ℕ → Type 0} {s : List ℕ} (below : Option (Text × List Row)) (old : Option Text) where
