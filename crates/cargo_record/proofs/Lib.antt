@@ -4,5 +4,6 @@ pub mod RowFacts
 pub mod FittingFacts
 pub mod LineFacts
 pub mod LinkFacts
+pub mod ApartFacts
 pub mod OwnFacts
 pub mod PathFacts

@@ -1,5 +1,5 @@
 -- The lines of a record, each a declared dependency that Cargo resolved.
-use Rattle.std.specs.Prelude.{ℕ, slice_index_or, ◌≡◌, ◌↔◌, ◌⊎◌, ◌||◌, Bool, true, false, not, List, [], ◌∷◌, map, flat_map, All, Contains, nat_eq, Some, None}
+use Rattle.std.specs.Prelude.{ℕ, ◌<◌, ◌≤◌, length, slice_index_or, ◌≡◌, ◌≢◌, ◌↔◌, ◌⊎◌, ◌||◌, Bool, true, false, not, List, [], ◌∷◌, map, flat_map, All, AllPairs, Contains, nat_eq, Some, None}
 use Rattle.std.specs.List.{list_any}
 use Rattle.workspace_record.specs.Kinds.{line_kind_index}
 use Rattle.workspace_record.specs.Records.{Text, Line, Link, Workspace}
@@ -40,6 +40,16 @@ no_link =
 -- such a link stands at the place
 abbrev pub IsLinkAt : List Link → ℕ → Text → Text → Text → Type 0
 IsLinkAt links i from to name = IsLink (slice_index_or links i no_link) from to name
+
+-- no two of the links have one name between the same packages
+abbrev pub AreApart : List Link → Type 0
+AreApart links = AllPairs (λ a b. ¬ IsLink a b.from b.to b.name) links
+
+-- so, and those before the place are of other packages than that with the id
+pub record AreApartFrom (start : ℕ) (id : Text) (links : List Link) : Type 0 where
+  pub within : start ≤ length links
+  pub before : (k : ℕ) → k < start → (slice_index_or links k no_link).from ≢ id
+  pub apart : AreApart links
 
 -- what a dependency of a package is as a line to the package with an id
 abbrev pub row_of : Text → Text → Declared → LineRow

@@ -1,6 +1,6 @@
 //! The links of the record, with their lines.
 
-ghost use Rattle.std.specs.Prelude.{◌<◌, ◌≡◌, ◌↔◌, All, Contains, IfErr, IfOk, IfSome, IsTrue, List, OnOk, Some, [], ◌∷◌, false, length, slice_get, string_bytes, true};
+ghost use Rattle.std.specs.Prelude.{◌<◌, ◌≡◌, ◌≢◌, ◌≤◌, ◌↔◌, ℕ, All, AllPairs, Contains, IfErr, IfNone, IfOk, IfSome, IsTrue, List, OnOk, Some, [], ◌∷◌, false, length, slice_get, string_bytes, true};
 ghost use Rattle.std.specs.List.{list_all, list_any};
 ghost use Rattle.workspace_record.specs.Records.{Workspace};
 ghost use Rattle.workspace_record.specs.Packages.{is_member};
@@ -9,7 +9,7 @@ ghost use Rattle.cargo_metadata.specs.Packages.{Declaring};
 ghost use Rattle.cargo_metadata.specs.Resolved.{Entry};
 ghost use Rattle.cargo_record.specs.Fitting.{IsResolution, fits, several_fit};
 ghost use Rattle.cargo_record.specs.Kept.{owns_targets, requires_own};
-ghost use Rattle.cargo_record.specs.Lines.{AreLines, AreLinesOf, IsDeclaredLink, IsLinkAt, IsOneMore, IsPushed, StayDeclared, TakesUp, counts, line_rows, link_of, row_of};
+ghost use Rattle.cargo_record.specs.Lines.{AreApart, AreApartFrom, AreLines, AreLinesOf, IsDeclaredLink, IsLinkAt, IsOneMore, IsPushed, StayDeclared, TakesUp, counts, line_rows, link_of, row_of};
 ghost use Rattle.cargo_record.specs.Refused.{HasNoLine, RefusesLinks, RefusesOne, RefusesPackages, RefusesTargets};
 
 use crate::fault::RecordFault;
@@ -29,6 +29,8 @@ pub(crate) fn links_of(
     ensures lines { IfOk result (λ links. AreLinesOf rows.now metadata.now
         (line_rows links.items)) }
     ensures links { IfOk result (λ links. All (IsDeclaredLink metadata.now.packages) links.items) }
+    ensures apart { IfOk result (λ links. AllPairs (λ p q. p.row.id ≢ q.row.id)
+        metadata.now.packages → AreApart links.items) }
     ensures own { IfOk result (λ _. list_all (owns_targets rows.now) metadata.now.packages ≡ true) }
     ensures refused { IfErr result (RefusesLinks rows.now metadata.now) }
 {
@@ -49,6 +51,8 @@ fn all_links(
     ensures lines { IfOk result (λ links. AreLines index.now packages.now nodes.now
         (line_rows links.items)) }
     ensures links { IfOk result (λ links. All (IsDeclaredLink packages.now) links.items) }
+    ensures apart { IfOk result (λ links. AllPairs (λ p q. p.row.id ≢ q.row.id) packages.now
+        → AreApart links.items) }
     ensures own { IfOk result (λ _. list_all (owns_targets index.now) packages.now ≡ true) }
     ensures refused { IfErr result (RefusesPackages index.now packages.now nodes.now) }
 {
@@ -131,6 +135,8 @@ fn push_links(
     ensures declared { OnOk result ((packages : List Declaring) → Contains packages «package».now
         → All (IsDeclaredLink packages) links.old.items
         → All (IsDeclaredLink packages) links.new.items) }
+    ensures apart { OnOk result (All (λ l. l.from ≢ «package».now.row.id) links.old.items
+        → AreApart links.old.items → AreApart links.new.items) }
     ensures refused { IfErr result (RefusesOne index.now «package».now.row.id node.now.dependencies
         «package».now.dependencies) }
 {
@@ -155,6 +161,8 @@ fn push_dependency(
         (line_rows links.old.items) (line_rows links.new.items)) }
     ensures declared { OnOk result (StayDeclared «package».now.row.id dependency.now
         links.old.items links.new.items) }
+    ensures apart { OnOk result (AreApartFrom start «package».now.row.id links.old.items
+        → AreApartFrom start «package».now.row.id links.new.items) }
     ensures refused { IfErr result (λ e. (counts index.now «package».now.row.id dependency.now
         ≡ true) × HasNoLine index.now «package».now.row.id node.now.dependencies dependency.now e) }
 {
@@ -194,6 +202,8 @@ fn push_resolved(
         (line_rows links.old.items) (line_rows links.new.items)) }
     ensures declared { OnOk result (StayDeclared id.now dependency.now links.old.items
         links.new.items) }
+    ensures apart { OnOk result (AreApartFrom start id.now links.old.items
+        → AreApartFrom start id.now links.new.items) }
     ensures refused { IfErr result (λ e. (entries : List Entry)
         → IsResolution index.now dependency.now entries found.entry
         → HasNoLine index.now id.now entries dependency.now e) }
@@ -254,6 +264,8 @@ fn push_line(
         (row_of from.now to.now dependency.now) (line_rows links.new.items)) }
     ensures declared { OnOk result (StayDeclared from.now dependency.now links.old.items
         links.new.items) }
+    ensures apart { OnOk result (AreApartFrom start from.now links.old.items
+        → AreApartFrom start from.now links.new.items) }
 {
     match place_of(links, start, from, to, dependency.name()) {
         Some(place) => {
@@ -270,6 +282,8 @@ fn push_line(
 fn place_of(links: &[LinkRecord], start: usize, from: &str, to: &str, name: &str) -> Option<usize>
     ensures within { IfSome result (λ place. place < length links.now) }
     ensures is { IfSome result (λ place. IsLinkAt links.now place from.now to.now name.now) }
+    ensures none { IfNone result ((k : ℕ) → start ≤ k → k < length links.now
+        → ¬ IsLinkAt links.now k from.now to.now name.now) }
 {
     for place in start..links.len() {
         let link = &links[place];

@@ -1,9 +1,9 @@
 //! The whole record.
 
-ghost use Rattle.std.specs.Prelude.{◌≡◌, [], All, IfErr, IfOk, None, Some, map, true};
+ghost use Rattle.std.specs.Prelude.{◌≡◌, ◌≢◌, [], All, AllPairs, IfErr, IfOk, None, Some, map, true};
 ghost use Rattle.std.specs.List.{list_all};
 ghost use Rattle.cargo_record.specs.Kept as spec;
-ghost use Rattle.cargo_record.specs.Lines.{AreLinesOf, IsDeclaredLink, line_rows, unlinked};
+ghost use Rattle.cargo_record.specs.Lines.{AreApart, AreLinesOf, IsDeclaredLink, line_rows, unlinked};
 ghost use Rattle.cargo_record.specs.Members.{IsWorkspaceOf, are_names};
 ghost use Rattle.cargo_record.specs.Refused.{RefusesRecord};
 
@@ -27,6 +27,8 @@ pub fn record_of(
     ensures workspace { IfOk result (λ w. IsWorkspaceOf metadata.now wanted.entry w.workspace) }
     ensures lines { IfOk result (λ w. AreLinesOf (unlinked w) metadata.now (line_rows w.links)) }
     ensures links { IfOk result (λ w. All (IsDeclaredLink metadata.now.packages) w.links) }
+    ensures apart { IfOk result (λ w. AllPairs (λ p q. p.row.id ≢ q.row.id) metadata.now.packages
+        → AreApart w.links) }
     ensures own { IfOk result (λ w. list_all (spec.owns_targets (unlinked w)) metadata.now.packages
         ≡ true) }
     ensures rest { IfOk result (λ w. (w.groups ≡ []) × (w.default_filter ≡ None)) }
