@@ -13,7 +13,7 @@ use crate::members::{RequestedMembers, workspace_of};
 use crate::packages::kept_rows;
 use cargo_metadata::Metadata;
 use std::alloc::Global;
-use workspace_record::{LinkRecord, PackageRecord, WorkspaceInfo, WorkspaceRecord};
+use workspace_record::WorkspaceRecord;
 
 /// The record of a workspace, of which these members are asked about. It has the packages that Cargo
 /// lists, in order, without those targets that require a feature of another package, and a line for
@@ -41,32 +41,13 @@ pub fn record_of(
     };
     let workspace = workspace_of(alloc, metadata, wanted)?;
     let packages = kept_rows(alloc, &metadata.packages)?;
-    let rows = without_links(alloc, packages, workspace);
-    let links = links_of(alloc, &rows, metadata)?;
-    Ok(linked(rows, links))
-}
-
-fn without_links(
-    alloc: Global,
-    packages: Vec<PackageRecord>,
-    workspace: WorkspaceInfo,
-) -> WorkspaceRecord
-    ensures packages { result.packages ≡ packages.items }
-    ensures links { result.links ≡ [] }
-    ensures workspace { result.workspace ≡ workspace }
-    ensures rest { (result.groups ≡ []) × (result.default_filter ≡ None) }
-{
-    WorkspaceRecord {
+    let rows = WorkspaceRecord {
         packages,
         links: Vec::new(alloc),
         workspace,
         groups: Vec::new(alloc),
         default_filter: None,
-    }
-}
-
-fn linked(rows: WorkspaceRecord, links: Vec<LinkRecord>) -> WorkspaceRecord
-    ensures { result ≡ record rows { links = links.items } }
-{
-    WorkspaceRecord { links, ..rows }
+    };
+    let links = links_of(alloc, &rows, metadata)?;
+    Ok(WorkspaceRecord { links, ..rows })
 }

@@ -19,7 +19,8 @@ enum Mark {
 /// The marks, in the order in which they are looked at.
 const MARKS: [Mark; 3] = [Mark::Name, Mark::Version, Mark::Source];
 
-/// The package that the dependency means, if these leave one.
+/// The package that the dependency means, if these leave one: of entries with several packages each
+/// mark leaves those that have it, if some have it.
 pub(crate) fn meant<'a>(
     alloc: Global,
     index: &RecordIndex<'_>,
@@ -28,7 +29,12 @@ pub(crate) fn meant<'a>(
 ) -> Result<Option<&'a str>, AllocError> {
     let mut left = entries;
     for mark in &MARKS {
-        left = narrowed(alloc, index, dependency, *mark, left)?;
+        if only_package(&left).is_none() {
+            let marked = marked(alloc, index, dependency, *mark, &left)?;
+            if !marked.is_empty() {
+                left = marked;
+            }
+        }
     }
     Ok(only_package(&left))
 }
@@ -42,21 +48,6 @@ fn only_package<'a>(entries: &[&'a ResolvedDependency]) -> Option<&'a str> {
     } else {
         None
     }
-}
-
-/// Of entries with several packages those that have the mark, if some have it.
-fn narrowed<'a>(
-    alloc: Global,
-    index: &RecordIndex<'_>,
-    dependency: &Dependency,
-    mark: Mark,
-    entries: Vec<&'a ResolvedDependency>,
-) -> Result<Vec<&'a ResolvedDependency>, AllocError> {
-    if only_package(&entries).is_some() {
-        return Ok(entries);
-    }
-    let marked = marked(alloc, index, dependency, mark, &entries)?;
-    Ok(if marked.is_empty() { entries } else { marked })
 }
 
 fn marked<'a>(
@@ -92,20 +83,16 @@ fn has_mark(
     }
 }
 
-/// Whether the library's name is the one that the manifest gives, as Rust writes it.
+/// Whether the library's name is the one that the manifest gives, as Rust writes it: with `_` for each
+/// `-`.
 fn has_name(dependency: &Dependency, entry: &ResolvedDependency) -> bool {
-    match &dependency.rename {
-        Some(name) => is_rust_name(name.as_str(), entry.name.as_str()),
-        None => true,
-    }
-}
-
-/// Whether the second name is the first with `_` for each `-`.
-fn is_rust_name(name: &str, rust_name: &str) -> bool {
-    name.len() == rust_name.len()
+    let Some(name) = &dependency.rename else {
+        return true;
+    };
+    name.len() == entry.name.len()
         && name
             .bytes()
-            .zip(rust_name.bytes())
+            .zip(entry.name.bytes())
             .all(|(a, b)| a == b || a == b'-' && b == b'_')
 }
 

@@ -17,17 +17,11 @@ pub(crate) fn kept_rows(
 {
     let mut rows = Vec::with_capacity(alloc, packages.len())?;
     for package in packages {
-        rows.push(kept_row(alloc, &package.row)?)?;
+        let row = package.row.copy(alloc)?;
+        let targets = own_targets(alloc, &row.features, &row.targets)?;
+        rows.push(PackageRecord { targets, ..row })?;
     }
     Ok(rows)
-}
-
-fn kept_row(alloc: Global, row: &PackageRecord) -> Result<PackageRecord, AllocError>
-    ensures { IfOk result (λ p. p ≡ spec.kept row.now) }
-{
-    let targets = own_targets(alloc, &row.features, &row.targets)?;
-    let row = row.copy(alloc)?;
-    Ok(PackageRecord { targets, ..row })
 }
 
 fn own_targets(
