@@ -107,27 +107,11 @@ fn lowest_above<'g>(
 {
     let mut lowest: Option<&'g str> = None;
     for line in lines {
-        lowest = lowest_of_line(line, test, last, lowest);
+        if test.passes(line) {
+            lowest = lowest_of(&line.features, last, lowest);
+        }
     }
     lowest
-}
-
-fn lowest_of_line<'g>(
-    line: &'g LineRecord,
-    test: LineTest<'g>,
-    last: Option<&'g str>,
-    least: Option<&'g str>,
-) -> Option<&'g str>
-    ensures { option_map (λ t. t.now) result
-        ≡ lowest_from (option_map (λ t. t.now) least.entry)
-        (filter (is_above (option_map (λ t. t.now) last.entry))
-        (listed (filter (is_line_of test.entry) (line.entry.now ∷ [])))) }
-{
-    if test.passes(line) {
-        lowest_of(&line.features, last, least)
-    } else {
-        least
-    }
 }
 
 fn lowest_of<'g>(
