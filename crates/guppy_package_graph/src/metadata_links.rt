@@ -6,7 +6,7 @@ ghost use Rattle.guppy_package_table.specs.Tables.{numbered_links};
 ghost use Rattle.guppy_package_parts.specs.declared.dependency_direction.DependencyDirection.TheVariants.{Forward, Reverse};
 ghost use Rattle.guppy_package_graph.specs.DirectViews.{direct_graph_of, links_left, links_of_place};
 ghost use Rattle.guppy_package_graph.specs.Directions.{direction_of};
-ghost use Rattle.guppy_package_graph.specs.LinkAnswers.{AnswersLink, SaysFirst, SaysLink};
+ghost use Rattle.guppy_package_graph.specs.LinkAnswers.{AnswersLink, SaysFirst};
 ghost use Rattle.guppy_package_graph.specs.Views.{graph_of, place_of};
 
 use crate::dependency_direction::direction_of;
@@ -27,9 +27,12 @@ impl<'g> PackageMetadata<'g> {
         ensures answer { AnswersLink (graph_of self.now) (place_of self.now) direction
             package_id.now result }
     {
-        let graph = self.graph();
+        let (graph, place) = (self.graph(), self.place());
         match graph.place_of(package_id) {
-            Ok(other) => Ok(link_in_direction(graph, self.place(), other, direction)),
+            Ok(other) => match direction {
+                DependencyDirection::Forward => Ok(first_link(graph, place, other)),
+                DependencyDirection::Reverse => Ok(first_link(graph, other, place)),
+            },
             Err(error) => Err(error),
         }
     }
@@ -76,21 +79,6 @@ impl<'g> PackageMetadata<'g> {
             numbered.Reverse (place_of self.now) }
     {
         self.direct_links_directed(DependencyDirection::Reverse)
-    }
-}
-
-fn link_in_direction(
-    graph: &PackageGraph,
-    near: usize,
-    far: usize,
-    direction: DependencyDirection,
-) -> Option<PackageLink<'_>>
-    requires { (near < length graph.now.packages) × (far < length graph.now.packages) }
-    ensures { SaysLink graph.now near far direction result }
-{
-    match direction {
-        DependencyDirection::Forward => first_link(graph, near, far),
-        DependencyDirection::Reverse => first_link(graph, far, near),
     }
 }
 

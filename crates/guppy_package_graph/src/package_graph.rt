@@ -162,7 +162,7 @@ impl PackageGraph {
     pub fn same_packages(&self, other: &PackageGraph) -> bool
         ensures same { IsTrue result ↔ (ids_of self.now.packages ≡ ids_of other.now.packages) }
     {
-        same_ids(self.package_ids(), other.package_ids())
+        self.package_ids() == other.package_ids()
     }
 
     /// How many packages there are.
@@ -246,12 +246,6 @@ impl PackageGraph {
     {
         Ok(())
     }
-}
-
-fn same_ids(a: &[PackageId], b: &[PackageId]) -> bool
-    ensures { IsTrue result ↔ (a.now ≡ b.now) }
-{
-    a == b
 }
 
 impl fmt::Debug for PackageGraph {

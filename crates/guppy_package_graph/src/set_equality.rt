@@ -2,27 +2,20 @@
 
 ghost use Rattle.std.specs.Prelude.{◌≡◌};
 ghost use Rattle.std.specs.List.{list_all};
-ghost use Rattle.guppy_package_graph.specs.SetEquality.{agree_on, has_id, is_in};
+ghost use Rattle.guppy_package_graph.specs.SetEquality.{agree_on, has_id};
 
 use crate::package_set::PackageSet;
 use guppy_package_parts::PackageId;
-use numbered_graph::NodeSet;
 
 impl PackageSet<'_> {
     /// Whether a package of the set has the id.
     fn has_id(&self, id: &PackageId) -> bool
         ensures { result ≡ has_id self.now id.now }
     {
-        is_in(self.included(), self.graph().table().find(id))
-    }
-}
-
-fn is_in(included: &NodeSet, place: Option<usize>) -> bool
-    ensures { result ≡ is_in included.now place }
-{
-    match place {
-        Some(place) => included.contains(place),
-        None => false,
+        match self.graph().table().find(id) {
+            Some(place) => self.included().contains(place),
+            None => false,
+        }
     }
 }
 
