@@ -1,6 +1,6 @@
 //! The account as text.
 
-ghost use Rattle.std.specs.Prelude.{◌≡◌, ◌++◌, OnOk, IfOk, string_bytes, decimal, codes, flat_map};
+ghost use Rattle.std.specs.Prelude.{◌≡◌, ◌++◌, OnOk, IfOk, string_bytes, decimal};
 ghost use Rattle.list_facts.specs.Writers.{Writes};
 ghost use Rattle.feature_account_making.specs.AccountText.{account_text, numbers_text, LeavesWhereMemoryFails};
 
@@ -44,20 +44,11 @@ pub fn push_numbers(alloc: Global, text: &mut String, numbers: &[usize]) -> Resu
     ensures appended { OnOk result (string_bytes text.new
         ≡ string_bytes text.old ++ numbers_text numbers.now) }
 {
-    match numbers.split_first() {
-        None => Ok(()),
-        Some((first, others)) => {
-            push_number(alloc, text, *first)?;
-            push_others(alloc, text, others)
-        }
-    }
-}
-
-fn push_others(alloc: Global, text: &mut String, numbers: &[usize]) -> Result<(), AllocError>
-    ensures { OnOk result (string_bytes text.new
-        ≡ string_bytes text.old ++ flat_map (λ n. codes "," ++ decimal n) numbers.now) }
-{
-    for number in numbers {
+    let Some((first, others)) = numbers.split_first() else {
+        return Ok(());
+    };
+    push_number(alloc, text, *first)?;
+    for number in others {
         text.push_str(",")?;
         push_number(alloc, text, *number)?;
     }

@@ -1,6 +1,6 @@
 //! What is on, and why, by the rules alone.
 
-ghost use Rattle.std.specs.Prelude.{◌≡◌, ◌↔◌, [], ◌∷◌, ◌++◌, IfOk, OnOk, IfSome, IsSome, Contains};
+ghost use Rattle.std.specs.Prelude.{◌≡◌, ◌↔◌, IfOk, IfSome, IsSome, Contains};
 ghost use Rattle.std.specs.List.Sorted.{IsStrictlySortedBy};
 ghost use Rattle.workspace_record.specs.Features.{FeatureValue, feature_cmp};
 ghost use Rattle.feature_account.specs.Accounts.{conclusions};
@@ -97,29 +97,15 @@ fn explained_by(
     explanation_of(alloc, rules, &account.rules, feature)
 }
 
-/// What the entries conclude, in their order.
+/// What the entries conclude, in their order; a number that no rule has concludes nothing.
 fn concluded(alloc: Global, rules: &[Rule], entries: &[usize]) -> Result<Vec<Feature>, AllocError>
     ensures { IfOk result (λ v. v.items ≡ conclusions rules.now entries.now) }
 {
     let mut features = Vec::new(alloc);
     for number in entries {
-        push_conclusion(alloc, rules, *number, &mut features)?;
+        if let Some(rule) = rules.get(*number) {
+            features.push(rule.conclusion.copy(alloc)?)?;
+        }
     }
     Ok(features)
-}
-
-/// Adds what the rule with this number concludes, if there is one.
-fn push_conclusion(
-    alloc: Global,
-    rules: &[Rule],
-    number: usize,
-    features: &mut Vec<Feature>,
-) -> Result<(), AllocError>
-    ensures { OnOk result (features.new.items
-        ≡ features.old.items ++ conclusions rules.now (number ∷ [])) }
-{
-    match rules.get(number) {
-        Some(rule) => Ok(features.push(rule.conclusion.copy(alloc)?)?),
-        None => Ok(()),
-    }
 }

@@ -60,12 +60,16 @@ fn push_goal(alloc: Global, text: &mut String, goal: &Feature) -> Result<(), All
 }
 
 // Appends the key as it is given, and then the words as JSON.
+#[tactic(auto, unfolding(crate::specs::ExplanationText::json_text))]
 fn push_member(alloc: Global, text: &mut String, key: &str, words: &str) -> Result<(), AllocError>
     ensures { OnOk result (string_bytes text.new
         ≡ string_bytes text.old ++ (key.now ++ json_text words.now)) }
 {
     text.push_str(key)?;
-    push_json(alloc, text, words)
+    let value = Value::String(String::from_str(alloc, words)?);
+    let json = value.to_string(alloc)?;
+    text.push_str(json.as_str())?;
+    Ok(())
 }
 
 fn label_text(alloc: Global, label: &Label) -> Result<String, AllocError>
@@ -80,14 +84,4 @@ fn label_text(alloc: Global, label: &Label) -> Result<String, AllocError>
             Ok(text)
         }
     }
-}
-
-#[tactic(auto, unfolding(crate::specs::ExplanationText::json_text))]
-fn push_json(alloc: Global, text: &mut String, words: &str) -> Result<(), AllocError>
-    ensures { OnOk result (string_bytes text.new ≡ string_bytes text.old ++ json_text words.now) }
-{
-    let value = Value::String(String::from_str(alloc, words)?);
-    let json = value.to_string(alloc)?;
-    text.push_str(json.as_str())?;
-    Ok(())
 }

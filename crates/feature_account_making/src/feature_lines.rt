@@ -1,6 +1,6 @@
 //! Features, a line for each.
 
-ghost use Rattle.std.specs.Prelude.{◌≡◌, ◌++◌, IfOk, OnOk, flat_map, string_bytes};
+ghost use Rattle.std.specs.Prelude.{◌≡◌, IfOk, flat_map, string_bytes};
 ghost use Rattle.feature_account_making.specs.AccountText.{LeavesWhereMemoryFails};
 ghost use Rattle.list_facts.specs.Writers.{Writes};
 ghost use Rattle.feature_account_making.specs.FeatureLines.{feature_line};
@@ -38,17 +38,9 @@ fn feature_lines(alloc: Global, features: &[Feature]) -> Result<String, AllocErr
 {
     let mut text = String::new(alloc);
     for feature in features {
-        push_feature_line(alloc, feature, &mut text)?;
+        let feature = PrintedFeature { feature };
+        let line = format!(in alloc; "{feature}\n")?;
+        text.push_str(line.as_str())?;
     }
     Ok(text)
-}
-
-fn push_feature_line(alloc: Global, feature: &Feature, text: &mut String) -> Result<(), AllocError>
-    ensures { OnOk result (string_bytes text.new
-        ≡ string_bytes text.old ++ feature_line feature.now) }
-{
-    let feature = PrintedFeature { feature };
-    let line = format!(in alloc; "{feature}\n")?;
-    text.push_str(line.as_str())?;
-    Ok(())
 }

@@ -3,7 +3,7 @@
 ghost use Rattle.std.specs.Prelude.{◌≡◌, ◌++◌, IfOk, OnOk, map, string_bytes};
 ghost use Rattle.feature_account_making.specs.AccountText.{LeavesWhereMemoryFails};
 ghost use Rattle.list_facts.specs.Writers.{Writes};
-ghost use Rattle.feature_account_making.specs.RuleLines.{entry_line, entry_lines, reason_line, rule_line, rule_lines};
+ghost use Rattle.feature_account_making.specs.RuleLines.{entry_line, entry_lines, rule_line, rule_lines};
 ghost use Rattle.feature_account_making.specs.SourceViews.{sourced_view};
 
 use crate::printed::PrintedRule;
@@ -109,21 +109,9 @@ fn push_entry(
     ensures { OnOk result (string_bytes text.new
         ≡ string_bytes text.old ++ entry_line (map sourced_view rules.now) number) }
 {
-    match rules.get(number) {
-        Some(rule) => push_reason(alloc, number, rule, text),
-        None => Ok(()),
-    }
-}
-
-fn push_reason(
-    alloc: Global,
-    number: usize,
-    rule: &SourcedRule<'_>,
-    text: &mut String,
-) -> Result<(), AllocError>
-    ensures { OnOk result (string_bytes text.new
-        ≡ string_bytes text.old ++ reason_line number (sourced_view rule.now)) }
-{
+    let Some(rule) = rules.get(number) else {
+        return Ok(());
+    };
     let source = rule.source;
     let rule = PrintedRule {
         number,

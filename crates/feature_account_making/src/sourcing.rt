@@ -1,6 +1,6 @@
 //! The rules of a record, a choice and a table, each with what it comes from.
 
-ghost use Rattle.std.specs.Prelude.{◌≡◌, ◌++◌, [], IfOk, OnOk, flat_map, map, string_bytes};
+ghost use Rattle.std.specs.Prelude.{◌≡◌, ◌++◌, [], IfOk, OnOk, flat_map, map};
 ghost use Rattle.feature_account_rules.specs.RuleList.{given};
 ghost use Rattle.feature_account_making.specs.SourceViews.{source_view, sourced_view};
 ghost use Rattle.feature_account_making.specs.Sources.{Chosen, from_source, sourced_entries, sourced_entry, sourced_feature, sourced_link, sourced_package, sourced_rules};
@@ -144,32 +144,7 @@ fn push_feature<'r>(
         ≡ map sourced_view sourced.old.items
         ++ sourced_feature index.now table.now owner.now feature.entry.now) }
 {
-    push_feature_entries(
-        alloc,
-        index,
-        table,
-        owner,
-        feature,
-        &feature.enables,
-        sourced,
-    )
-}
-
-fn push_feature_entries<'r>(
-    alloc: Global,
-    index: &RecordIndex<'r>,
-    table: &PlatformTable,
-    owner: &PackageIndex<'r>,
-    feature: &'r FeatureRecord,
-    entries: &'r [String],
-    sourced: &mut Vec<SourcedRule<'r>>,
-) -> Result<(), AllocError>
-    ensures { OnOk result (map sourced_view sourced.new.items
-        ≡ map sourced_view sourced.old.items
-        ++ flat_map (sourced_entry index.now table.now owner.now feature.entry.now)
-        (map string_bytes entries.entry.now)) }
-{
-    for entry in entries {
+    for entry in &feature.enables {
         push_entry(alloc, index, table, owner, feature, entry.as_str(), sourced)?;
     }
     Ok(())

@@ -1,6 +1,6 @@
 //! Which rules wait for a feature: those that have it among their premises.
 
-ghost use Rattle.std.specs.Prelude.{◌≡◌, [], ◌∷◌, ◌++◌, OnOk, IfOk, ◌||◌, if◌then◌else◌};
+ghost use Rattle.std.specs.Prelude.{◌≡◌, [], ◌∷◌, ◌++◌, OnOk, IfOk, if◌then◌else◌};
 ghost use Rattle.workspace_record.specs.Features.{FeatureValue, feature_eq};
 ghost use Rattle.feature_account_rules.specs.LentPremises.{lent_premises_view};
 ghost use Rattle.feature_account_making.specs.Waiting.{is_premise, waiting_at, IsWaiting};
@@ -37,27 +37,13 @@ fn add_premises<'r, 'a>(
     match premises {
         LentPremises::None => Ok(()),
         LentPremises::One(a) => add_number(alloc, waiting, a, number),
-        LentPremises::Two(a, b) => add_two(alloc, waiting, a, b, number),
+        LentPremises::Two(a, b) => {
+            if a != b {
+                add_number(alloc, waiting, a, number)?;
+            }
+            add_number(alloc, waiting, b, number)
+        }
     }
-}
-
-fn add_two<'r, 'a>(
-    alloc: Global,
-    waiting: &mut IndexMap<&'r FeatureRef<'a>, Vec<usize>>,
-    first: &'r FeatureRef<'a>,
-    second: &'r FeatureRef<'a>,
-    number: usize,
-) -> Result<(), AllocError>
-    ensures { OnOk result ((f : FeatureValue)
-        → waiting_at waiting.new f
-        ≡ waiting_at waiting.old f
-        ++ (if feature_eq f first.entry.now || feature_eq f second.entry.now then number ∷ []
-        else [])) }
-{
-    if first != second {
-        add_number(alloc, waiting, first, number)?;
-    }
-    add_number(alloc, waiting, second, number)
 }
 
 fn add_number<'r, 'a>(
