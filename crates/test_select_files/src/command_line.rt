@@ -1,11 +1,9 @@
 //! Command lines as data: what a program is called, its subcommands, and the words that each takes.
 
-ghost use Rattle.std.specs.Prelude.{◌≡◌, IfOk, false, fold, not};
-ghost use Rattle.clap.specs.Walk.{is_empty};
-ghost use Rattle.clap.specs.Words.{app_of, new_app, rule_of};
+ghost use Rattle.std.specs.Prelude.{◌≡◌, IfOk, false, fold};
+ghost use Rattle.clap.specs.Words.{app_of, rule_of};
 ghost use Rattle.clap.specs.declared.builder.Command.TheViews.{out-Command as fields_of};
 ghost use Rattle.test_select_files.specs.Apps.{
-  bare_app,
   program_app,
   subcommand_app,
   with_sub,
@@ -75,26 +73,15 @@ impl Program {
         ensures app { IfOk result (λ c. app_of c ≡ program_app self.now) }
         ensures local { IfOk result (λ c. (fields_of c).has_globals ≡ false) }
     {
-        let bare = self.bare(alloc)?;
+        let named = Command::new(alloc, self.name).bin_name(self.name)?;
+        let bare = named
+            .version("0.1.0")
+            .about(self.about)
+            .after_help(self.help)
+            .subcommand_required(!self.subcommands.is_empty())
+            .arg_required_else_help(true);
         let worded = with_words(alloc, bare, self.words)?;
         with_subcommands(alloc, worded, self.subcommands)
-    }
-
-    /// The command without its words and its subcommands.
-    fn bare<'a>(&self, alloc: Global) -> Result<Command<'a>, AllocError>
-        ensures app { IfOk result (λ c. app_of c
-            ≡ bare_app self.now.name.now (not (is_empty self.now.subcommands.now))) }
-        ensures local { IfOk result (λ c. (fields_of c).has_globals ≡ false) }
-    {
-        let named = Command::new(alloc, self.name).bin_name(self.name)?;
-        Ok(
-            named
-                .version("0.1.0")
-                .about(self.about)
-                .after_help(self.help)
-                .subcommand_required(!self.subcommands.is_empty())
-                .arg_required_else_help(true),
-        )
     }
 }
 
@@ -122,17 +109,10 @@ impl Subcommand {
         ensures app { IfOk result (λ c. app_of c ≡ subcommand_app self.now) }
         ensures local { IfOk result (λ c. (fields_of c).has_globals ≡ false) }
     {
-        with_words(alloc, self.bare(alloc), self.words)
-    }
-
-    /// The command without its words.
-    fn bare<'a>(&self, alloc: Global) -> Command<'a>
-        ensures app { app_of result ≡ new_app self.now.name.now }
-        ensures local { (fields_of result).has_globals ≡ false }
-    {
-        Command::new(alloc, self.name)
+        let bare = Command::new(alloc, self.name)
             .about(self.about)
-            .after_help(self.help)
+            .after_help(self.help);
+        with_words(alloc, bare, self.words)
     }
 }
 

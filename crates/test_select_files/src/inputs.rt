@@ -177,6 +177,7 @@ pub fn accepted<T>(name: &str, read: Result<T, ReadError>) -> Result<T, RunFailu
 {
     match read {
         Ok(value) => Ok(value),
-        Err(error) => Err(RunFailure::bad_file(name, error)),
+        Err(ReadError::Memory) => Err(RunFailure::Memory),
+        Err(error) => Err(RunFailure::BadFile(name, error)),
     }
 }

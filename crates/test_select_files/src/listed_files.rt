@@ -1,6 +1,6 @@
 //! Files that are held in memory, each under its name.
 
-ghost use Rattle.std.specs.Prelude.{◌≡◌, IfOk, IfErr, find, option_map};
+ghost use Rattle.std.specs.Prelude.{◌≡◌, find, option_map};
 ghost use Rattle.std.specs.Str.{bytes_eq};
 
 use crate::file_source::{FileFault, FileSource};
@@ -28,9 +28,12 @@ impl FileSource for ListedFiles<'_> {
     ghost answers = { λ source. AnswersListed source.files.now };
 
     fn read(&mut self, alloc: Global, name: &str) -> Result<Vec<u8>, FileFault> {
-        match file_named(self.files, name) {
-            Some(file) => copied(alloc, file.bytes),
-            None => Err(FileFault::CannotRead),
+        let Some(file) = file_named(self.files, name) else {
+            return Err(FileFault::CannotRead);
+        };
+        match file.bytes.to_vec(alloc) {
+            Ok(copy) => Ok(copy),
+            Err(_) => Err(FileFault::Memory),
         }
     }
 }
@@ -40,15 +43,4 @@ fn file_named<'m, 'a>(files: &'m [ListedFile<'a>], name: &str) -> Option<&'m Lis
     ensures { option_map (λ f. f.now) result ≡ find (λ f. bytes_eq f.name.now name.now) files.now }
 {
     files.iter().find(|file| file.name == name)
-}
-
-/// The same bytes, in memory of their own.
-fn copied(alloc: Global, bytes: &[u8]) -> Result<Vec<u8>, FileFault>
-    ensures bytes { IfOk result (λ copy. copy.items ≡ bytes.now) }
-    ensures memory { IfErr result (λ fault. fault ≡ FileFault.Memory) }
-{
-    match bytes.to_vec(alloc) {
-        Ok(copy) => Ok(copy),
-        Err(_) => Err(FileFault::Memory),
-    }
 }

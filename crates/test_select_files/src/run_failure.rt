@@ -6,7 +6,7 @@ ghost use Rattle.clap.specs.Words.{kind_of};
 ghost use Rattle.clap.specs.declared.error.ErrorKind.TheVariants.{OutOfMemory};
 ghost use Rattle.test_select_files.specs.Failures.{bad_shape_line, is_denial, status_of};
 ghost use Rattle.test_select_files.specs.Mistakes.{IsBadLine};
-ghost use Rattle.test_select_files.specs.Refusals.{refused, unread};
+ghost use Rattle.test_select_files.specs.Refusals.{unread};
 ghost use Rattle.test_select_files.specs.declared.run_failure.RunFailure.TheVariants.{CannotWrite, Memory};
 
 use crate::file_source::FileFault;
@@ -41,17 +41,6 @@ impl<'a> RunFailure<'a> {
         match fault {
             FileFault::CannotRead => RunFailure::CannotRead(name),
             FileFault::Memory => RunFailure::Memory,
-        }
-    }
-
-    /// Why the file with this name was refused.
-    pub(crate) fn bad_file(name: &'a str, error: ReadError) -> RunFailure<'a>
-        ensures status { status_of result ≡ 1 }
-        ensures why { result ≡ refused name.entry error }
-    {
-        match error {
-            ReadError::Memory => RunFailure::Memory,
-            _ => RunFailure::BadFile(name, error),
         }
     }
 
