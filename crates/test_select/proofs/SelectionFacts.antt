@@ -139,10 +139,13 @@ unlisted listings id none = go (get_by_text listings id) none
 module _ (words : List Row) (q : FeatureQuestion) (listings : Listings) where
   -- it has no listing
   pub unlisted_says : (result : Result Reason SelectError) (id : Text) → id ≡ word_or_empty (codes "binary") words → false ≡ is_some (get_by_text listings id) → ExplainsBy words q listings result → SaysWhy words q listings result
-  unlisted_says result id is none explains = (explains, λ named blamed.
-      let blames = subst (λ (r : Result Reason SelectError). ExplainsQuestion q (scope_in words) (filters_in words) (word_or_empty (codes "binary") words) (first_of (codes "test") words) (unasked listings) r explains.0) blamed explains.1 in
-      let same : string_bytes named ≡ id = blamed_id q (scope_in words) (filters_in words) (word_or_empty (codes "binary") words) (first_of (codes "test") words) (unasked listings) explains.0 named blames ∙ sym is in
-      subst (λ t. listing_in listings t ≡ None) (sym same) (unlisted listings id (sym none)))
+  unlisted_says result id is none explains = (
+    explains,
+    λ named blamed.
+        let blames = subst (λ (r : Result Reason SelectError). ExplainsQuestion q (scope_in words) (filters_in words) (word_or_empty (codes "binary") words) (first_of (codes "test") words) (unasked listings) r explains.0) blamed explains.1 in
+        let same : string_bytes named ≡ id = blamed_id q (scope_in words) (filters_in words) (word_or_empty (codes "binary") words) (first_of (codes "test") words) (unasked listings) explains.0 named blames ∙ sym is in
+        subst (λ t. listing_in listings t ≡ None) (sym same) (unlisted listings id (sym none)),
+  )
 
   -- it has one, so memory ran out
   pub unblamed_says : (result : Result Reason SelectError) → ExplainsBy words q listings result → SaysWhy words q listings (unblamed result)
