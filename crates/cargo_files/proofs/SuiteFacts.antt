@@ -1,16 +1,28 @@
 -- Listings of test binaries, one binary more at a time.
-use Rattle.std.proofs.Common.{◌≡◌, ℕ, ◌+◌, ◌<◌, Bool, List, [], ◌∷◌, ◌++◌, length, take, get_or, map, Contains, flat_map, String, Global, string_bytes, sym, ap, ◌∙◌, subst, ⊎_elim}
+use Rattle.std.proofs.Common.{◌≡◌, ℕ, ◌+◌, ◌<◌, Bool, List, [], ◌∷◌, ◌++◌, length, take, get_or, map, Contains, Option, Some, None, flat_map, String, Global, string_bytes, sym, ap, ◌∙◌, subst, ⊎_elim}
+use Rattle.std.specs.Option.{option_map_or}
 use Rattle.std.proofs.lemmas.Grind.{flat_map-append}
 use Rattle.std.proofs.lemmas.List.{append-nil}
 use Rattle.list_facts.proofs.Lists.{map-take_more}
 use Rattle.list_facts.proofs.Membership.{Contains-append_cases, Contains-cons_cases, Contains-map, Contains-none}
 use Rattle.serde_json.specs.Data.{Data}
 use Rattle.workspace_record.specs.Records.{Text}
+use Rattle.cargo_files.specs.Added.{IsAdded}
 use Rattle.cargo_files.specs.Nextest.{suite_tests}
 use Rattle.cargo_files.specs.Listed.{AreSuites, MayStand, suite_listing}
 use Rattle.cargo_files.specs.Refused.{RefusesSuites, RefusesTests}
 use Rattle.cargo_files.specs.declared.refusal.Refusal.{Refusal}
 use Rattle.cargo_files.specs.declared.refusal.Refusal.TheVariants.{Choice, File, Memory, Metadata, NoJson, NoList, NoSuites, Record, Repeated, Settings, Spec, StrayLine, UnreadList}
+
+module _ (list : Data) (built : Bool) where
+  -- the tests of a binary that were added may stand, behind those of the others
+  own_added : (id : Text) (tests : Option (List Text)) (old new : List (Text × List Text)) → IsAdded id tests built old new → MayStand built tests × (new ≡ old ++ option_map_or (λ names. (id, names) ∷ []) tests [])
+  own_added id None old new added = (added.0, added.1 ∙ sym (append-nil old))
+  own_added id (Some names) old new added = added
+
+  pub suite_added : (id : Text) (tests : Option (List Text)) (old new : List (Text × List Text)) → tests ≡ suite_tests list id → IsAdded id tests built old new → MayStand built (suite_tests list id) × (new ≡ old ++ suite_listing list id)
+  suite_added id tests old new is added =
+      subst (λ o. MayStand built o × (new ≡ old ++ option_map_or (λ names. (id, names) ∷ []) o [])) is (own_added id tests old new added)
 
 module _ (list : Data) (ids : List Text) (built : Bool) where
   -- one more binary is listed, behind the others

@@ -1,13 +1,12 @@
 //! Listings of the test binaries of a record.
 
-ghost use Rattle.std.specs.Prelude.{◌≡◌, ◌++◌, IfErr, IfOk, OnErr, OnOk, bytes_eq, map, option_map, string_bytes};
+ghost use Rattle.std.specs.Prelude.{◌≡◌, IfErr, IfOk, OnErr, OnOk, bytes_eq, map, option_map, string_bytes};
 ghost use Rattle.serde_json.specs.View.{view};
 ghost use Rattle.guppy_package_rules.specs.Places.{first_repeat};
 ghost use Rattle.test_select_rules.specs.Binaries.{binaries};
 ghost use Rattle.record_writing.specs.Files.{ReadAsListings};
-ghost use Rattle.cargo_files.specs.Nextest.{suite_tests};
 ghost use Rattle.cargo_files.specs.Added.{IsAdded, listing};
-ghost use Rattle.cargo_files.specs.Listed.{AreIdsIn, AreListed, ArePrinted, AreSuites, HasSuites, MayStand, suite_listing};
+ghost use Rattle.cargo_files.specs.Listed.{AreIdsIn, AreListed, ArePrinted, AreSuites, HasSuites};
 ghost use Rattle.cargo_files.specs.Refused.{RefusesFile, RefusesNextest, RefusesPrinted, RefusesSuites, RefusesTests};
 ghost use Rattle.cargo_files.specs.declared.refusal.Refusal.TheVariants.{Memory};
 
@@ -124,27 +123,11 @@ fn listed_by_nextest(
     }
     let mut listings = Vec::new(alloc);
     for id in ids {
-        add_suite(alloc, &mut listings, list, id.as_str(), built)?;
+        let id = id.as_str();
+        let tests = nextest_tests(alloc, list, id)?;
+        add_listing(alloc, &mut listings, id, tests, built)?;
     }
     Ok(listings)
-}
-
-/// Adds the tests that nextest lists of a binary.
-fn add_suite(
-    alloc: Global,
-    listings: &mut Listings,
-    list: &Value,
-    id: &str,
-    built: bool,
-) -> Result<(), Refusal>
-    ensures stand { OnOk result (MayStand built (suite_tests (view list.now) id.now)) }
-    ensures added { OnOk result (map listing listings.new.items
-        ≡ map listing listings.old.items ++ suite_listing (view list.now) id.now) }
-    ensures refused { IfErr result (RefusesTests id.now (suite_tests (view list.now) id.now)
-        built) }
-{
-    let tests = nextest_tests(alloc, list, id)?;
-    add_listing(alloc, listings, id, tests, built)
 }
 
 /// The tests that the program of a binary printed for `--list --format terse`.
