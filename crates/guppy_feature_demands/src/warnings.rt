@@ -13,7 +13,7 @@ ghost use Rattle.guppy_feature_demands.specs.Nodes.{named_of};
 ghost use Rattle.guppy_feature_demands.specs.Numbered.{links_named};
 ghost use Rattle.guppy_feature_demands.specs.NumberedViews.{link_view};
 ghost use Rattle.guppy_feature_demands.specs.StageViews.{place_view};
-ghost use Rattle.guppy_feature_demands.specs.Warnings.{line_warnings, link_warnings, missing, optional_warnings, own_warnings, slash_warnings};
+ghost use Rattle.guppy_feature_demands.specs.Warnings.{line_warnings, link_warnings, missing, own_warnings, slash_warnings};
 
 use crate::entries::EntryAt;
 use crate::feature_key::FeatureKey;
@@ -189,30 +189,11 @@ fn push_line<'g>(
 {
     let row = link.at.row;
     let stage = WarningSite::Line(link.from.text, row.name.as_str());
-    push_optional(alloc, stage, link, line, nodes, warnings)?;
-    push_listed(alloc, stage, link.to, &line.features, nodes, warnings)
-}
-
-fn push_optional<'g>(
-    alloc: Global,
-    stage: WarningSite<'g>,
-    link: LinkEnds<'g>,
-    line: &'g LineRow,
-    nodes: &NodeTable<'g>,
-    warnings: &mut Vec<FeatureGraphWarning>,
-) -> Result<(), AllocError>
-    ensures { OnOk result (map warning_view warnings.new.items
-        ≡ map warning_view warnings.old.items
-        ++ optional_warnings nodes.now (place_view stage.entry) link.entry.at.row.now
-        line.entry.now) }
-{
     if line.optional {
-        let row = link.at.row;
         let dep = FeatureKey::dep(link.from, row.name.as_str());
-        push_missing(alloc, stage, dep, nodes, warnings)
-    } else {
-        Ok(())
+        push_missing(alloc, stage, dep, nodes, warnings)?;
     }
+    push_listed(alloc, stage, link.to, &line.features, nodes, warnings)
 }
 
 fn push_listed<'g>(
