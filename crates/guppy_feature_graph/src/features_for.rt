@@ -82,23 +82,13 @@ pub(crate) fn list_in<'g>(
     ensures { IfOk result (ListsAt (labels_in set.now) (graph_of «package».entry)
         (place_of «package».entry)) }
 {
-    let labels = labels_in(alloc, set, package.row())?;
-    FeatureList::new(alloc, package, &labels)
-}
-
-// The labels of a package's row whose features are in the set.
-fn labels_in<'g>(
-    alloc: Global,
-    set: &FeatureSet<'g>,
-    row: &'g PackageRow,
-) -> Result<Vec<FeatureLabel<'g>>, AllocError>
-    ensures { IfOk result (λ v. map label_view v.items
-        ≡ filter (has_label set.now row.entry.now.id) (labels_of row.entry.now)) }
-{
+    let row = package.row();
     let labels = package_labels(alloc, row)?;
-    kept_labels(alloc, set, row.id.as_str(), &labels)
+    let kept = kept_labels(alloc, set, row.id.as_str(), &labels)?;
+    FeatureList::new(alloc, package, &kept)
 }
 
+// Those of the labels whose features are in the set.
 fn kept_labels<'g>(
     alloc: Global,
     set: &FeatureSet<'_>,
@@ -151,13 +141,6 @@ fn has_named(set: &FeatureSet<'_>, id: &str, features: &[FeatureRow]) -> bool
 fn has_dependency(set: &FeatureSet<'_>, id: &str, names: &[String]) -> bool
     ensures { result ≡ list_any (λ n. has_label set.now id.now (Dep n))
         (map string_bytes names.now) }
-{
-    has_any(set, id, names)
-}
-
-fn has_any(set: &FeatureSet<'_>, id: &str, names: &[String]) -> bool
-    ensures { result ≡ list_any (λ name. has_label set.now id.now (Dep (string_bytes name)))
-        names.now }
 {
     names.iter().any(|name| has_label(set, id, FeatureLabel::OptionalDependency(name.as_str())))
 }

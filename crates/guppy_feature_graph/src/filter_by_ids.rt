@@ -1,10 +1,9 @@
 //! Filters that add features by their ids.
 
 ghost use Rattle.std.specs.Prelude.{◌≡◌, map, true};
-ghost use Rattle.std.specs.List.{list_any};
 ghost use Rattle.std.specs.List.Sorted.{IsSorted};
 ghost use Rattle.std.specs.Ordering.{on};
-ghost use Rattle.workspace_record.specs.Features.{feature_cmp, feature_eq};
+ghost use Rattle.workspace_record.specs.Features.{feature_cmp};
 ghost use Rattle.guppy_feature_demands.specs.IdViews.{id_view};
 ghost use Rattle.guppy_feature_graph.specs.WrappedFilters.{is_listed};
 
@@ -46,7 +45,7 @@ impl<B: FeatureFilter> FeatureIdFilter<'_, B> {
         if self.ascending {
             self.feature_ids.binary_search(&feature_id).is_ok()
         } else {
-            has_id(self.feature_ids, feature_id)
+            self.feature_ids.iter().any(|id| *id == feature_id)
         }
     }
 }
@@ -67,11 +66,4 @@ impl<B: FeatureFilter> FeatureFilter for FeatureIdFilter<'_, B> {
         let taken = self.base.accept(graph, feature_id);
         taken || self.takes(feature_id)
     }
-}
-
-fn has_id(feature_ids: &[FeatureId<'_>], feature_id: FeatureId<'_>) -> bool
-    ensures { result ≡ list_any (λ x. feature_eq (id_view x) (id_view feature_id.entry))
-        feature_ids.now }
-{
-    feature_ids.iter().any(|id| *id == feature_id)
 }

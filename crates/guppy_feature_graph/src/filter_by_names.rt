@@ -1,8 +1,6 @@
 //! Filters that add features by their names.
 
 ghost use Rattle.std.specs.Prelude.{◌≡◌, map};
-ghost use Rattle.std.specs.List.{list_any};
-ghost use Rattle.std.specs.Str.{bytes_eq};
 ghost use Rattle.guppy_feature_demands.specs.IdViews.{id_view};
 ghost use Rattle.guppy_feature_graph.specs.WrappedFilters.{is_named_so};
 
@@ -34,7 +32,7 @@ impl<B: FeatureFilter> NamedFeatureFilter<'_, B> {
             (id_view feature_id.entry).label }
     {
         match feature_id.label() {
-            FeatureLabel::Named(name) => has_name(self.names, name),
+            FeatureLabel::Named(name) => self.names.iter().any(|n| *n == name),
             FeatureLabel::Base | FeatureLabel::OptionalDependency(_) => false,
         }
     }
@@ -56,10 +54,4 @@ impl<B: FeatureFilter> FeatureFilter for NamedFeatureFilter<'_, B> {
         let taken = self.base.accept(graph, feature_id);
         taken || self.takes(feature_id)
     }
-}
-
-fn has_name(names: &[&str], name: &str) -> bool
-    ensures { result ≡ list_any (λ n. bytes_eq n.now name.now) names.now }
-{
-    names.iter().any(|n| *n == name)
 }
