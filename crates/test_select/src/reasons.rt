@@ -68,7 +68,8 @@ fn reason_by<'q, 'a: 'q>(
     question: &'q FeatureQuestion,
     listings: BTreeMap<String, Listing>,
 ) -> Result<Reason<'q>, SelectError>
-    ensures explains { ExplainsBy (rows_of (found_of asked.now)) question.entry.now listings result }
+    ensures explains { ExplainsBy (rows_of (found_of asked.now)) question.entry.now listings
+        result }
 {
     let mut lister = FileLister::new(alloc, listings)?;
     let (record, choice, table) = (&question.record, &question.choice, &question.table);
