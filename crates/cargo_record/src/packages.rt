@@ -17,8 +17,8 @@ pub(crate) fn kept_rows(
 {
     let mut rows = Vec::with_capacity(alloc, packages.len())?;
     for package in packages {
+        let targets = own_targets(alloc, &package.row.features, &package.row.targets)?;
         let row = package.row.copy(alloc)?;
-        let targets = own_targets(alloc, &row.features, &row.targets)?;
         rows.push(PackageRecord { targets, ..row })?;
     }
     Ok(rows)
