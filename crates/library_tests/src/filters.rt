@@ -1,9 +1,9 @@
 //! Long globs, what errors of filters print, and copies of refusals.
 
+use crate::workspace::expect_printed;
 use nextest_filtering::errors::{FiltersetError, ParseExprError};
 use nextest_filtering::{GenericGlob, ParsedExpr, RustTestBinaryKind};
 use std::alloc::Global;
-use std::fmt::Display;
 use std::process::Abort;
 
 const LONG: usize = 70_000;
@@ -45,11 +45,6 @@ fn long_alternates_match(rt: HostRuntime) {
     for (name, want) in [("bc", true), ("b", false), ("ac", false), ("", false)] {
         assert_eq!(rt; glob.is_match(name), want);
     }
-}
-
-fn expect_printed<T: Display>(rt: &impl Abort, alloc: Global, value: &T, want: &str) {
-    let printed = format!(in alloc; "{value}").expect(rt, "memory");
-    assert_eq!(rt; printed.as_str(), want);
 }
 
 #[test]

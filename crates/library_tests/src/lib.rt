@@ -19,3 +19,5 @@ mod runs;
 mod selections;
 #[cfg(test)]
 mod workspace;
+#[cfg(test)]
+mod writers;

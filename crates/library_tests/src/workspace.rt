@@ -1,7 +1,9 @@
-//! Two members with a library and a test each, all of which are available under the choice.
+//! Two members with a library and a test each, all of which are available under the choice; and what tests of
+//! several parts make and assert.
 
+use guppy_package_graph::{PackageGraph, PackageGraphError, PackageId};
 use std::alloc::Global;
-use std::fmt::Debug;
+use std::fmt::{Debug, Display};
 use std::process::Abort;
 use test_select::{
     Feature, FeatureChoice, Label, LinkScope, PlatformTable, SelectError, Selection, TestLister,
@@ -74,6 +76,7 @@ impl Drop for Question {
     }
 }
 
+/// The question of a record and a choice, over `TABLE`.
 pub(crate) fn question_of(
     rt: &impl Abort,
     alloc: Global,
@@ -103,6 +106,26 @@ pub(crate) fn selected(
     select(alloc, record, choice, table, scope, texts, lister)
 }
 
+/// The graph of the packages of a record.
+pub(crate) fn graph_of(rt: &impl Abort, alloc: Global, record: &[u8]) -> PackageGraph {
+    let record = read_record(alloc, record).expect(rt, "a record");
+    built_graph(alloc, record).expect(rt, "a graph")
+}
+
+/// The graph of a record's rows.
+pub(crate) fn built_graph(
+    alloc: Global,
+    record: WorkspaceRecord,
+) -> Result<PackageGraph, PackageGraphError> {
+    let (packages, links, workspace) = (record.packages, record.links, record.workspace);
+    PackageGraph::from_records(alloc, packages, links, workspace)
+}
+
+/// The id of a package.
+pub(crate) fn id_of(rt: &impl Abort, alloc: Global, text: &str) -> PackageId {
+    PackageId::new(String::from_str(alloc, text).expect(rt, "memory"))
+}
+
 /// The feature `simd` of util.
 pub(crate) fn simd(rt: &impl Abort, alloc: Global) -> Feature {
     let package = String::from_str(alloc, "util").expect(rt, "memory");
@@ -113,4 +136,10 @@ pub(crate) fn simd(rt: &impl Abort, alloc: Global) -> Feature {
 /// What `Debug` prints of a value.
 pub(crate) fn debugged<T: Debug>(rt: &impl Abort, alloc: Global, value: &T) -> String {
     format!(in alloc; "{value:?}").expect(rt, "memory")
+}
+
+/// Asserts what a value prints.
+pub(crate) fn expect_printed<T: Display>(rt: &impl Abort, alloc: Global, value: &T, want: &str) {
+    let printed = format!(in alloc; "{value}").expect(rt, "memory");
+    assert_eq!(rt; printed.as_str(), want);
 }

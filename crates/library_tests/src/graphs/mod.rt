@@ -2,7 +2,7 @@
 //! print, visitors and filters that keep a state, boxed ones and closures, sets of two graphs, and counted
 //! resolves.
 
-mod features;
+pub(crate) mod features;
 mod numbers;
-mod packages;
+pub(crate) mod packages;
 mod parts;

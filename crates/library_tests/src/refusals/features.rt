@@ -1,12 +1,9 @@
 //! Feature graphs, their resolves and their filters.
 
-use crate::refusals::packages::{id_of, packages};
+use crate::graphs::features::visitors::Follows;
 use crate::refusals::turns::{AllocatingCall, Refusal, answered, refuse_in_turn};
-use crate::workspace::debugged;
-use guppy_feature_graph::{
-    ConditionalLink, FeatureGraph, FeatureGraphData, FeatureId, FeatureLinkContext,
-    FeatureLinkVisitor, FeatureMetadata, FeatureSet,
-};
+use crate::workspace::{RECORD, debugged, graph_of, id_of};
+use guppy_feature_graph::{FeatureGraph, FeatureGraphData, FeatureId, FeatureMetadata, FeatureSet};
 use guppy_package_graph::{DependencyDirection, Error, PackageGraph, PackageId};
 use std::alloc::{AllocError, Global};
 use std::process::Abort;
@@ -36,7 +33,7 @@ impl AllocatingCall for Builds<'_> {
 /// The graph of packages is afterwards what it was before.
 #[test]
 fn build(rt: HostRuntime) {
-    let packages = &packages(&rt, rt.alloc());
+    let packages = &graph_of(&rt, rt.alloc(), RECORD);
     let before = debugged(&rt, rt.alloc(), packages);
     refuse_in_turn(&rt, rt.alloc(), &mut Builds { packages }, "6");
     assert_eq!(rt;
@@ -45,26 +42,8 @@ fn build(rt: HostRuntime) {
     );
 }
 
-/// Counts the links that it is shown.
-#[derive(Drop)]
-struct Counts {
-    shown: usize,
-}
-
-impl FeatureLinkVisitor for Counts {
-    ghost use Rattle.std.specs.Prelude.{◌≡◌, [], true};
-
-    ghost state = { λ _. [] };
-
-    ghost steps = { λ _ _ _ answer t. (answer ≡ true) × (t ≡ []) };
-
-    fn visit_link(&mut self, _cx: &FeatureLinkContext<'_>, _link: ConditionalLink<'_>) -> bool {
-        self.shown = self.shown.saturating_add(1);
-        true
-    }
-}
-
-/// Resolves by a visitor from two features of app. Where that is refused, the visitor was shown nothing.
+/// Resolves by a visitor that follows all links from two features of app. Where that is refused, it was shown
+/// none.
 #[derive(Drop)]
 struct Resolves<'g, 's> {
     graph: &'s FeatureGraph<'g>,
@@ -77,7 +56,10 @@ impl AllocatingCall for Resolves<'_, '_> {
             FeatureId::named(self.app, "fast"),
             FeatureId::named(self.app, "full"),
         ];
-        let mut visitor = Counts { shown: 0 };
+        let mut visitor = Follows {
+            left: usize::MAX,
+            shown: 0,
+        };
         let forward = DependencyDirection::Forward;
         let query = answered(
             self.graph.query_directed(alloc, &starts, forward),
@@ -104,8 +86,8 @@ fn expect_resolved(rt: &impl Abort, alloc: Global, data: &FeatureGraphData<'_>, 
 /// The graph has afterwards the features that it had before.
 #[test]
 fn resolve_with(rt: HostRuntime) {
-    let packages = packages(&rt, rt.alloc());
-    let app = id_of(rt.alloc(), "app").expect(&rt, "memory");
+    let packages = graph_of(&rt, rt.alloc(), RECORD);
+    let app = id_of(&rt, rt.alloc(), "app");
     let data = FeatureGraphData::build(rt.alloc(), &packages).expect(&rt, "memory");
     expect_resolved(&rt, rt.alloc(), &data, &app);
 }
@@ -139,7 +121,7 @@ fn expect_filtered(rt: &impl Abort, alloc: Global, data: &FeatureGraphData<'_>) 
 
 #[test]
 fn filter(rt: HostRuntime) {
-    let packages = packages(&rt, rt.alloc());
+    let packages = graph_of(&rt, rt.alloc(), RECORD);
     let data = FeatureGraphData::build(rt.alloc(), &packages).expect(&rt, "memory");
     expect_filtered(&rt, rt.alloc(), &data);
 }

@@ -1,8 +1,7 @@
 //! Filters that are parsed, compiled and asked.
 
-use crate::refusals::packages::{id_of, packages};
-use crate::refusals::turns::{AllocatingCall, Refusal, printed, refuse_in_turn};
-use crate::workspace::debugged;
+use crate::refusals::turns::{AllocatingCall, Refusal, answered, refuse_in_turn};
+use crate::workspace::{RECORD, debugged, graph_of};
 use guppy_package_graph::{PackageGraph, PackageId};
 use nextest_filtering::errors::{FiltersetError, ParseExprError};
 use nextest_filtering::{
@@ -10,7 +9,6 @@ use nextest_filtering::{
     ParseContext, ParsedExpr, RustBinaryId, RustTestBinaryKind, TestCaseName, TestQuery,
 };
 use std::alloc::{AllocError, Global};
-use std::process::Abort;
 
 const FILTER: &str = r"test(/^o[a-z]+\d?$/) & (package(ap*) + deps(=app) - kind(bench))";
 
@@ -20,8 +18,8 @@ struct Parses;
 
 impl AllocatingCall for Parses {
     fn answer(&mut self, alloc: Global) -> Result<String, Refusal> {
-        let parsed = ParsedExpr::parse(alloc, FILTER);
-        printed(alloc, parsed, ParseExprError::Memory)
+        let parsed = answered(ParsedExpr::parse(alloc, FILTER), ParseExprError::Memory)?;
+        Ok(format!(in alloc; "{parsed}")?)
     }
 }
 
@@ -47,7 +45,7 @@ impl AllocatingCall for Knows<'_> {
 
 #[test]
 fn with_packages(rt: HostRuntime) {
-    let graph = &packages(&rt, rt.alloc());
+    let graph = &graph_of(&rt, rt.alloc(), RECORD);
     refuse_in_turn(&rt, rt.alloc(), &mut Knows { graph }, "2");
 }
 
@@ -76,6 +74,7 @@ impl Drop for Compiled {
     }
 }
 
+/// What `FILTER` is compiled to, or how that was refused.
 fn compile_filter(alloc: Global, cx: &ParseContext<'_>) -> Result<Compiled, Refusal> {
     let input = String::from_str(alloc, FILTER)?;
     let (kind, groups) = (FiltersetKind::OverrideFilter, KnownGroups::Unavailable);
@@ -88,7 +87,7 @@ fn compile_filter(alloc: Global, cx: &ParseContext<'_>) -> Result<Compiled, Refu
 
 #[test]
 fn filterset(rt: HostRuntime) {
-    let graph = packages(&rt, rt.alloc());
+    let graph = graph_of(&rt, rt.alloc(), RECORD);
     let cx = &ParseContext::new(rt.alloc(), &graph).expect(&rt, "memory");
     refuse_in_turn(&rt, rt.alloc(), &mut Compiles { cx }, FILTER);
 }
@@ -108,7 +107,7 @@ impl Parts {
         let binary_id = RustBinaryId::from_parts(alloc, "app", &kind, "app")?;
         let test_name = TestCaseName::new(String::from_str(alloc, test)?);
         Ok(Parts {
-            package_id: id_of(alloc, "app")?,
+            package_id: PackageId::new(String::from_str(alloc, "app")?),
             kind,
             binary_id,
             test_name,
@@ -151,24 +150,21 @@ impl AllocatingCall for Asks<'_, '_> {
     }
 }
 
-fn expect_answers(rt: &impl Abort, alloc: Global, filter: &CompiledExpr, parts: &Parts) {
+/// The trees are afterwards what they were before.
+#[test]
+fn evaluators(rt: HostRuntime) {
+    let graph = graph_of(&rt, rt.alloc(), RECORD);
+    let cx = ParseContext::new(rt.alloc(), &graph).expect(&rt, "memory");
+    let compiled = compile_filter(rt.alloc(), &cx).expect(&rt, "a filter");
+    let parts = &Parts::new(rt.alloc(), "one1").expect(&rt, "memory");
+    let before = debugged(&rt, rt.alloc(), &compiled.filter);
+    let filter = &compiled.filter.compiled;
     let all = CompiledExpr::ALL;
     let cx = &EvalContext {
         default_filter: &all,
     };
     let mut run = Asks { filter, parts, cx };
-    refuse_in_turn(rt, alloc, &mut run, "None true");
-}
-
-/// The trees are afterwards what they were before.
-#[test]
-fn evaluators(rt: HostRuntime) {
-    let graph = packages(&rt, rt.alloc());
-    let cx = ParseContext::new(rt.alloc(), &graph).expect(&rt, "memory");
-    let compiled = compile_filter(rt.alloc(), &cx).expect(&rt, "a filter");
-    let parts = Parts::new(rt.alloc(), "one1").expect(&rt, "memory");
-    let filter = &compiled.filter;
-    let before = debugged(&rt, rt.alloc(), filter);
-    expect_answers(&rt, rt.alloc(), &filter.compiled, &parts);
-    assert_eq!(rt; debugged(&rt, rt.alloc(), filter).as_str(), before.as_str());
+    refuse_in_turn(&rt, rt.alloc(), &mut run, "None true");
+    let after = debugged(&rt, rt.alloc(), &compiled.filter);
+    assert_eq!(rt; after.as_str(), before.as_str());
 }

@@ -38,15 +38,12 @@ impl MemoryBudget {
     /// first.
     fn take_all(&mut self, largest: u32) {
         for power in (4..largest.min(62)).rev() {
-            self.take_each(1 << power);
-        }
-    }
-
-    fn take_each(&mut self, bytes: usize) {
-        for _ in self.held.len()..self.held.capacity() {
-            match Vec::with_capacity(self.alloc, bytes) {
-                Ok(block) => drop(self.held.push(block)),
-                Err(_) => break,
+            let bytes: usize = 1 << power;
+            for _ in self.held.len()..self.held.capacity() {
+                match Vec::with_capacity(self.alloc, bytes) {
+                    Ok(block) => drop(self.held.push(block)),
+                    Err(_) => break,
+                }
             }
         }
     }

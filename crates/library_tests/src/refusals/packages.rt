@@ -1,38 +1,21 @@
 //! Package graphs, their sets and their resolves.
 
-ghost use Rattle.std.specs.Prelude.{◌≡◌};
-ghost use Rattle.guppy_package_table.specs.Tables.{ids_of};
-
+use crate::graphs::packages::visitors::Follows;
 use crate::refusals::turns::{AllocatingCall, Refusal, answered, refuse_in_turn};
-use crate::workspace::{CHOICE, RECORD, debugged, question_of};
+use crate::workspace::{CHOICE, RECORD, built_graph, debugged, graph_of, id_of, question_of};
 use guppy_package_graph::{
-    DependencyDirection, Error, PackageGraph, PackageGraphError, PackageId, PackageLink,
-    PackageLinkContext, PackageLinkVisitor, PackageMetadata, PackageSet,
+    DependencyDirection, Error, PackageGraph, PackageGraphError, PackageId, PackageMetadata,
+    PackageSet,
 };
 use std::alloc::{AllocError, Global};
-use std::process::Abort;
-use test_select::{WorkspaceRecord, read_record};
+use test_select::WorkspaceRecord;
 
-/// The graph of the packages.
-pub(crate) fn packages(rt: &impl Abort, alloc: Global) -> PackageGraph {
-    let record = read_record(alloc, RECORD).expect(rt, "a record");
-    graph_of(alloc, record).expect(rt, "a graph")
-}
-
-/// The graph of a record's rows.
-fn graph_of(alloc: Global, record: WorkspaceRecord) -> Result<PackageGraph, PackageGraphError> {
-    let (packages, links, workspace) = (record.packages, record.links, record.workspace);
-    PackageGraph::from_records(alloc, packages, links, workspace)
-}
-
-pub(crate) fn id_of(alloc: Global, text: &str) -> Result<PackageId, AllocError> {
-    Ok(PackageId::new(String::from_str(alloc, text)?))
-}
+const FORWARD: DependencyDirection = DependencyDirection::Forward;
 
 /// The ids of a set, dependents first, with a space after each.
-fn ids_text(alloc: Global, set: &PackageSet<'_>) -> Result<String, AllocError> {
+fn ids_text(alloc: Global, set: &PackageSet<'_>) -> Result<String, Refusal> {
     let mut text = String::new(alloc);
-    for id in set.package_ids(DependencyDirection::Forward) {
+    for id in set.package_ids(FORWARD) {
         write!(text, "{} ", id.repr())?;
     }
     Ok(text)
@@ -47,8 +30,9 @@ struct Builds<'r> {
 impl AllocatingCall for Builds<'_> {
     fn answer(&mut self, alloc: Global) -> Result<String, Refusal> {
         let copy = self.record.copy(alloc)?;
-        let graph = answered(graph_of(alloc, copy), PackageGraphError::Memory)?;
-        Ok(set_told(alloc, graph.resolve_all(alloc))?)
+        let graph = answered(built_graph(alloc, copy), PackageGraphError::Memory)?;
+        let all = graph.resolve_all(alloc)?;
+        ids_text(alloc, &all)
     }
 }
 
@@ -85,52 +69,34 @@ struct Makes<'g, 'h, 's, 't> {
 
 impl AllocatingCall for Makes<'_, '_, '_, '_> {
     fn answer(&mut self, alloc: Global) -> Result<String, Refusal> {
-        if !self.all.same_packages(self.one) {
+        let (all, one) = (self.all, self.one);
+        if !all.same_packages(one) {
             return Err(Refusal::Other);
         }
-        Ok(made_text(alloc, self.made, self.all, self.one)?)
+        let set = match self.made {
+            Made::Union => all.union(alloc, one),
+            Made::Intersection => all.intersection(alloc, one),
+            Made::Difference => all.difference(alloc, one),
+            Made::SymmetricDifference => all.symmetric_difference(alloc, one),
+            Made::Filter => all.filter(alloc, FORWARD, |package: PackageMetadata<'_>| -> bool {
+                package.id().repr() == "app"
+            }),
+            Made::Links => return length_told(alloc, all.links(alloc)),
+            Made::Roots => return length_told(alloc, all.root_ids(alloc, FORWARD)),
+            Made::First => return ids_text(alloc, all),
+            Made::Second => return ids_text(alloc, one),
+        };
+        ids_text(alloc, &set?)
     }
 }
 
-fn made_text(
-    alloc: Global,
-    made: Made,
-    all: &PackageSet<'_>,
-    one: &PackageSet<'_>,
-) -> Result<String, AllocError>
-    requires same { ids_of all.now.graph.packages ≡ ids_of one.now.graph.packages }
-{
-    match made {
-        Made::Union => set_told(alloc, all.union(alloc, one)),
-        Made::Intersection => set_told(alloc, all.intersection(alloc, one)),
-        Made::Difference => set_told(alloc, all.difference(alloc, one)),
-        Made::SymmetricDifference => set_told(alloc, all.symmetric_difference(alloc, one)),
-        Made::Filter => set_told(alloc, filtered(alloc, all)),
-        Made::Links => length_told(alloc, all.links(alloc)),
-        Made::Roots => length_told(alloc, all.root_ids(alloc, DependencyDirection::Forward)),
-        Made::First => ids_text(alloc, all),
-        Made::Second => ids_text(alloc, one),
-    }
-}
-
-fn filtered<'g>(alloc: Global, all: &PackageSet<'g>) -> Result<PackageSet<'g>, AllocError> {
-    all.filter(
-        alloc,
-        DependencyDirection::Forward,
-        |package: PackageMetadata<'_>| -> bool { package.id().repr() == "app" },
-    )
-}
-
-fn set_told(alloc: Global, set: Result<PackageSet<'_>, AllocError>) -> Result<String, AllocError> {
-    ids_text(alloc, &set?)
-}
-
+/// How long a list is.
 fn length_told<T: Drop>(
     alloc: Global,
     list: Result<Vec<T>, AllocError>,
-) -> Result<String, AllocError> {
+) -> Result<String, Refusal> {
     let list = list?;
-    format!(in alloc; "{}", list.len())
+    Ok(format!(in alloc; "{}", list.len())?)
 }
 
 const SETS: [(Made, &str); 9] = [
@@ -147,8 +113,8 @@ const SETS: [(Made, &str); 9] = [
 
 #[test]
 fn sets(rt: HostRuntime) {
-    let graph = packages(&rt, rt.alloc());
-    let util = id_of(rt.alloc(), "util").expect(&rt, "memory");
+    let graph = graph_of(&rt, rt.alloc(), RECORD);
+    let util = id_of(&rt, rt.alloc(), "util");
     let all = &graph.resolve_all(rt.alloc()).expect(&rt, "memory");
     let one = &graph.resolve_ids(rt.alloc(), &[&util]).expect(&rt, "a set");
     for (made, wanted) in SETS {
@@ -156,26 +122,7 @@ fn sets(rt: HostRuntime) {
     }
 }
 
-/// Counts the links that it is shown.
-#[derive(Drop)]
-struct Counts {
-    shown: usize,
-}
-
-impl PackageLinkVisitor for Counts {
-    ghost use Rattle.std.specs.Prelude.{◌≡◌, [], true};
-
-    ghost state = { λ _. [] };
-
-    ghost steps = { λ _ _ _ answer t. (answer ≡ true) × (t ≡ []) };
-
-    fn visit_link(&mut self, _cx: &PackageLinkContext<'_>, _link: PackageLink<'_>) -> bool {
-        self.shown = self.shown.saturating_add(1);
-        true
-    }
-}
-
-/// Resolves by a visitor. Where that is refused, the visitor was shown nothing.
+/// Resolves by a visitor that follows all links. Where that is refused, it was shown none.
 #[derive(Drop)]
 struct Resolves<'g> {
     graph: &'g PackageGraph,
@@ -184,13 +131,16 @@ struct Resolves<'g> {
 
 impl AllocatingCall for Resolves<'_> {
     fn answer(&mut self, alloc: Global) -> Result<String, Refusal> {
-        let mut visitor = Counts { shown: 0 };
+        let mut visitor = Follows {
+            left: usize::MAX,
+            shown: 0,
+        };
         let query = answered(
             self.graph.query_forward(alloc, &[self.start]),
             Error::Memory,
         )?;
         match query.resolve_with(alloc, &mut visitor) {
-            Ok(set) => Ok(ids_text(alloc, &set)?),
+            Ok(set) => ids_text(alloc, &set),
             Err(_) if visitor.shown == 0 => Err(Refusal::Memory),
             Err(_) => Err(Refusal::Other),
         }
@@ -199,7 +149,7 @@ impl AllocatingCall for Resolves<'_> {
 
 #[test]
 fn resolve_with(rt: HostRuntime) {
-    let graph = &packages(&rt, rt.alloc());
-    let start = &id_of(rt.alloc(), "app").expect(&rt, "memory");
+    let graph = &graph_of(&rt, rt.alloc(), RECORD);
+    let start = &id_of(&rt, rt.alloc(), "app");
     refuse_in_turn(&rt, rt.alloc(), &mut Resolves { graph, start }, "app util ");
 }

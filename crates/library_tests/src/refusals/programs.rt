@@ -6,6 +6,7 @@ use crate::runs::RUNS;
 use std::alloc::Global;
 use test_select::run;
 
+/// Runs the program, and tells what it prints. A run that is refused memory says so.
 #[derive(Drop)]
 struct Runs<'a, 'b> {
     words: &'a [&'b str],
@@ -19,24 +20,16 @@ impl AllocatingCall for Runs<'_, '_> {
         self.err.clear();
         let status = run(alloc, self.words, &mut Files, &mut self.out, &mut self.err);
         if status == 0 {
-            return Ok(text_of(alloc, &self.out)?);
+            return match String::from_utf8(self.out.to_vec(alloc)?) {
+                Ok(text) => Ok(text),
+                Err(_) => Err(Refusal::Other),
+            };
         }
-        if status == 1 && self.out.is_empty() && is_want_of_memory(&self.err) {
+        let is_told = self.err.as_slice() == b"out of memory\n".as_slice();
+        if status == 1 && self.out.is_empty() && is_told {
             return Err(Refusal::Memory);
         }
         Err(Refusal::Other)
-    }
-}
-
-/// Whether a refused run says so, or that the lister had no room.
-fn is_want_of_memory(err: &[u8]) -> bool {
-    err == b"out of memory\n".as_slice() || err.starts_with(b"lister: ")
-}
-
-fn text_of(alloc: Global, bytes: &[u8]) -> Result<String, Refusal> {
-    match String::from_utf8(bytes.to_vec(alloc)?) {
-        Ok(text) => Ok(text),
-        Err(_) => Err(Refusal::Other),
     }
 }
 

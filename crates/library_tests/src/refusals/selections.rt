@@ -1,10 +1,11 @@
 //! Selections, and graphs that are switched on.
 
-use crate::refusals::packages::packages;
 use crate::refusals::turns::{AllocatingCall, Refusal, answered, refuse_in_turn};
-use crate::workspace::{CHOICE, IDS, LISTINGS, Question, RECORD, debugged, question_of, selected};
+use crate::workspace::{
+    CHOICE, IDS, LISTINGS, Question, RECORD, debugged, graph_of, question_of, selected,
+};
 use guppy_package_graph::PackageGraph;
-use std::alloc::{AllocError, Global};
+use std::alloc::Global;
 use test_select::{
     FeaturesOn, FileLister, PlatformTable, ReadError, SelectError, Selection, features_on,
     read_listings, switched_on,
@@ -30,7 +31,7 @@ fn switched_on_graphs(rt: HostRuntime) {
     let question = question_of(&rt, rt.alloc(), RECORD, CHOICE);
     let (record, choice, table) = (&question.record, &question.choice, &question.table);
     let on = &features_on(rt.alloc(), record, choice, table).expect(&rt, "what is on");
-    let graph = &packages(&rt, rt.alloc());
+    let graph = &graph_of(&rt, rt.alloc(), RECORD);
     refuse_in_turn(&rt, rt.alloc(), &mut Switches { graph, on, table }, "1");
 }
 
@@ -48,19 +49,10 @@ impl AllocatingCall for Selects<'_> {
     fn answer(&mut self, alloc: Global) -> Result<String, Refusal> {
         let listings = answered(read_listings(alloc, LISTINGS), ReadError::Memory)?;
         let mut lister = FileLister::new(alloc, listings)?;
-        let answer = selected(alloc, self.question, self.plain, &TEXTS, &mut lister);
-        reported(alloc, answer, lister.asked())
-    }
-}
-
-fn reported(
-    alloc: Global,
-    answer: Result<Selection, SelectError>,
-    asked: &[String],
-) -> Result<String, Refusal> {
-    match answer {
-        Ok(selection) => Ok(report(alloc, &selection)?),
-        Err(error) => Err(refusal(asked, &error)),
+        match selected(alloc, self.question, self.plain, &TEXTS, &mut lister) {
+            Ok(selection) => report(alloc, &selection),
+            Err(error) => Err(refusal(lister.asked(), &error)),
+        }
     }
 }
 
@@ -84,7 +76,8 @@ fn is_last_asked(asked: &[String], id: &str) -> bool {
     [before, asked.len()].iter().any(|place| IDS.get(*place).is_some_and(|wanted| *wanted == id))
 }
 
-fn report(alloc: Global, selection: &Selection) -> Result<String, AllocError> {
+/// A line for each test that is chosen.
+fn report(alloc: Global, selection: &Selection) -> Result<String, Refusal> {
     let mut text = String::new(alloc);
     for (id, name) in selection.chosen() {
         writeln!(text, "{id} {name}")?;

@@ -2,7 +2,7 @@
 
 use crate::refusals::memory_budget::MemoryBudget;
 use std::alloc::{AllocError, Global};
-use std::fmt::{Debug, Display};
+use std::fmt::Debug;
 use std::process::Abort;
 
 /// A call whose requests for memory are refused in turn.
@@ -67,16 +67,6 @@ pub(crate) fn answered<T, E: Drop + PartialEq>(
         Err(error) if error == memory => Err(Refusal::Memory),
         Err(_) => Err(Refusal::Other),
     }
-}
-
-/// As `answered`, of what the call answers as it is printed.
-pub(crate) fn printed<T: Display + Drop, E: Drop + PartialEq>(
-    alloc: Global,
-    answer: Result<T, E>,
-    memory: E,
-) -> Result<String, Refusal> {
-    let value = answered(answer, memory)?;
-    Ok(format!(in alloc; "{value}")?)
 }
 
 /// As `answered`, of what the call answers as `Debug` prints it.

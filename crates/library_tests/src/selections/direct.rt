@@ -8,7 +8,7 @@ use nextest_filtering::{
     CompiledExpr, EvalContext, FiltersetLeaf, GenericGlob, GroupLookup, NameMatcher, ParsedExpr,
     ParsedLeaf, SourceSpan, TestQuery,
 };
-use std::alloc::{AllocError, Global};
+use std::alloc::Global;
 use std::process::Abort;
 use test_select::{
     FileLister, GroupTable, LinkScope, RecordError, RecordFilters, WorkspaceRecord, account,
@@ -71,7 +71,11 @@ fn expect_group(rt: &impl Abort, alloc: Global, table: &GroupTable<'_>, test: &s
     let found = table.group_of(&query).expect(rt, "memory");
     assert_eq!(rt; found, group);
     let slow = group == "slow";
-    let matcher = equal_to(alloc, "slow").expect(rt, "memory");
+    let value = String::from_str(alloc, "slow").expect(rt, "memory");
+    let matcher = NameMatcher::Equal {
+        value,
+        implicit: false,
+    };
     let is_member = table.is_member_test(&query, &matcher).expect(rt, "memory");
     assert_eq!(rt; is_member, slow);
     let leaf = FiltersetLeaf::Group(matcher, SourceSpan::from((6, 5)));
@@ -82,12 +86,6 @@ fn expect_group(rt: &impl Abort, alloc: Global, table: &GroupTable<'_>, test: &s
     };
     let holds = filter.matches_test_with_groups(alloc, &query, &cx, table);
     assert_eq!(rt; holds.expect(rt, "memory"), slow);
-}
-
-fn equal_to(alloc: Global, text: &str) -> Result<NameMatcher, AllocError> {
-    let value = String::from_str(alloc, text)?;
-    let implicit = false;
-    Ok(NameMatcher::Equal { value, implicit })
 }
 
 #[test]
@@ -146,23 +144,23 @@ fn copies_of_rules(rt: HostRuntime) {
 fn copies_of_leaves(rt: HostRuntime) {
     for text in ["package(a*)", "test(/o+/)", "platform(host)", "default()"] {
         let parsed = ParsedExpr::parse(rt.alloc(), text).expect(&rt, "a filter");
-        expect_leaf(&rt, rt.alloc(), &parsed);
-    }
-}
-
-fn expect_leaf(rt: &impl Abort, alloc: Global, parsed: &ParsedExpr) {
-    match parsed {
-        ParsedExpr::Set(leaf) => {
-            let copy: ParsedLeaf = leaf.copy(alloc).expect(rt, "memory");
-            assert!(rt; copy == *leaf);
+        match &parsed {
+            ParsedExpr::Set(leaf) => {
+                let copy: ParsedLeaf = leaf.copy(rt.alloc()).expect(&rt, "memory");
+                assert!(rt; copy == *leaf);
+            }
+            _ => assert!(rt; false, "a leaf"),
         }
-        _ => assert!(rt; false, "a leaf"),
     }
 }
 
 #[test]
 fn copies_of_compiled_filters(rt: HostRuntime) {
-    let matcher = equal_to(rt.alloc(), "one").expect(&rt, "memory");
+    let value = String::from_str(rt.alloc(), "one").expect(&rt, "memory");
+    let matcher = NameMatcher::Equal {
+        value,
+        implicit: false,
+    };
     let leaf = FiltersetLeaf::Test(matcher, SourceSpan::from((5, 4)));
     assert!(rt; leaf.copy(rt.alloc()).expect(&rt, "memory") == leaf);
     let filter = CompiledExpr::Set(leaf);

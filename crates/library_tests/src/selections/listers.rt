@@ -4,7 +4,7 @@ ghost use Rattle.std.specs.Prelude.{◌≡◌, ◌<◌, ◌++◌, ◌∷◌, [],
 ghost use Rattle.list_facts.specs.Texts.{texts};
 ghost use Rattle.nextest_binaries.specs.Listers.{largest};
 
-use crate::workspace::{CHOICE, IDS, Question, RECORD, question_of, selected};
+use crate::workspace::{CHOICE, IDS, RECORD, question_of, selected};
 use std::alloc::Global;
 use std::process::Abort;
 use test_select::{BinaryInfo, ListFault, Listing, SelectError, Selection, TestLister};
@@ -31,23 +31,18 @@ impl TestLister for FailingLister {
 
     fn list(&mut self, binary: &BinaryInfo<'_>) -> Result<Listing, ListFault> {
         let (alloc, failures, fails_at) = (self.alloc, self.failures, self.fails_at);
-        let _ = write_down(&mut self.told, binary);
-        let answer = one_test(alloc, &mut self.asked, failures, fails_at, binary.id);
+        let (id, package_id, name) = (binary.id, binary.package_id, binary.name);
+        let _ = writeln!(
+            self.told,
+            "{id}, {package_id}, {name}, {:?}, {}",
+            binary.kind, binary.platform
+        );
+        let answer = one_test(alloc, &mut self.asked, failures, fails_at, id);
         if answer.is_err() {
             self.failures = failures.saturating_add(1);
         }
         answer
     }
-}
-
-fn write_down(told: &mut String, binary: &BinaryInfo<'_>) -> std::fmt::Result {
-    let (id, package_id, name) = (binary.id, binary.package_id, binary.name);
-    writeln!(
-        told,
-        "{id}, {package_id}, {name}, {:?}, {}",
-        binary.kind, binary.platform
-    )?;
-    Ok(())
 }
 
 fn one_test(
@@ -70,39 +65,6 @@ fn one_test(
     let mut names = Vec::new(alloc);
     names.push(String::from_str(alloc, "t")?)?;
     Ok(names)
-}
-
-fn failing(alloc: Global, failures: u64, fails_at: usize) -> FailingLister {
-    FailingLister {
-        alloc,
-        asked: Vec::new(alloc),
-        failures,
-        fails_at,
-        told: String::new(alloc),
-    }
-}
-
-/// Asserts how a selection over the lister ends, that the first of the workspace's ids were asked, how
-/// many, and with which count.
-fn expect_end(
-    rt: &impl Abort,
-    question: &Question,
-    lister: &mut FailingLister,
-    plain: bool,
-    (end, asked, failures): (&str, usize, u64),
-) {
-    let alloc = lister.alloc;
-    expect_text(
-        rt,
-        alloc,
-        selected(alloc, question, plain, &[], lister),
-        end,
-    );
-    assert_eq!(rt; lister.asked.len(), asked);
-    for (id, wanted) in lister.asked.iter().zip(IDS) {
-        assert_eq!(rt; id.as_str(), wanted);
-    }
-    assert_eq!(rt; lister.failures, failures);
 }
 
 /// Asserts how many tests a selection has, or what its error says.
@@ -129,13 +91,27 @@ const ENDS: [(usize, u64, &str, usize, u64); 9] = [
     (4, u64::MAX, "lister: app", 1, u64::MAX),
 ];
 
+/// The ids that are asked are the first of the workspace's.
 #[test]
 fn a_lister_that_fails(rt: HostRuntime) {
-    let question = question_of(&rt, rt.alloc(), RECORD, CHOICE);
-    for (fails_at, before, end, asked, after) in ENDS {
+    let alloc = rt.alloc();
+    let question = question_of(&rt, alloc, RECORD, CHOICE);
+    for (fails_at, failures, end, asked, after) in ENDS {
         for plain in [false, true] {
-            let mut lister = failing(rt.alloc(), before, fails_at);
-            expect_end(&rt, &question, &mut lister, plain, (end, asked, after));
+            let mut lister = FailingLister {
+                alloc,
+                asked: Vec::new(alloc),
+                failures,
+                fails_at,
+                told: String::new(alloc),
+            };
+            let answer = selected(alloc, &question, plain, &[], &mut lister);
+            expect_text(&rt, alloc, answer, end);
+            assert_eq!(rt; lister.asked.len(), asked);
+            for (id, wanted) in lister.asked.iter().zip(IDS) {
+                assert_eq!(rt; id.as_str(), wanted);
+            }
+            assert_eq!(rt; lister.failures, after);
         }
     }
 }
@@ -163,10 +139,17 @@ fn what_a_lister_is_told(rt: HostRuntime) {
         p-q::bin/c, p 1.0.0, c, Bin, target\n\
         p-q::example/e, p 1.0.0, e, Example, target\n\
         p-q::t, p 1.0.0, t, Test, target\n";
-    let question = question_of(&rt, rt.alloc(), KINDS, b"{}");
+    let alloc = rt.alloc();
+    let question = question_of(&rt, alloc, KINDS, b"{}");
     for plain in [false, true] {
-        let mut lister = failing(rt.alloc(), 0, 5);
-        let answer = selected(rt.alloc(), &question, plain, &[], &mut lister);
+        let mut lister = FailingLister {
+            alloc,
+            asked: Vec::new(alloc),
+            failures: 0,
+            fails_at: 5,
+            told: String::new(alloc),
+        };
+        let answer = selected(alloc, &question, plain, &[], &mut lister);
         assert!(rt; answer.is_ok());
         assert_eq!(rt; lister.told.as_str(), told);
     }

@@ -5,5 +5,4 @@ mod direct;
 mod error_texts;
 mod listers;
 mod sorts;
-mod writers;
 mod written;

@@ -1,10 +1,10 @@
 //! Reports, orders, accounts, explanations and features into writers that take little or fail.
 
-use crate::selections::writers::SlowWriter;
 use crate::workspace::{question_of, selected, simd};
+use crate::writers::SlowWriter;
 use feature_account_making::write_features;
 use std::alloc::Global;
-use std::io::{self, ErrorKind};
+use std::io::ErrorKind;
 use std::process::Abort;
 use test_select::{
     Feature, FileLister, Selection, WriteAccountError, read_listings, write_account,
@@ -22,32 +22,15 @@ enum Written {
 }
 
 impl Written {
-    /// Writes it, and tells the kind of the error.
-    fn write(&self, alloc: Global, writer: &mut SlowWriter) -> Option<ErrorKind> {
+    /// Writes it. A fault of the writer is told as the writing of an account tells it.
+    fn write(&self, alloc: Global, writer: &mut SlowWriter) -> Result<(), WriteAccountError> {
         match self {
-            Written::Report(selection) => kind_of(write_report(selection, writer)),
-            Written::Order(ids) => kind_of(write_order(ids, writer)),
-            Written::Account(rules) => account_kind(write_account(alloc, *rules, writer)),
-            Written::Explanation(goal, rules) => {
-                account_kind(write_explanation(alloc, goal, *rules, writer))
-            }
-            Written::Features(features) => account_kind(write_features(alloc, features, writer)),
+            Written::Report(selection) => Ok(write_report(selection, writer)?),
+            Written::Order(ids) => Ok(write_order(ids, writer)?),
+            Written::Account(rules) => write_account(alloc, *rules, writer),
+            Written::Explanation(goal, rules) => write_explanation(alloc, goal, *rules, writer),
+            Written::Features(features) => write_features(alloc, features, writer),
         }
-    }
-}
-
-fn kind_of(answer: io::Result<()>) -> Option<ErrorKind> {
-    match answer {
-        Ok(()) => None,
-        Err(error) => Some(error.kind()),
-    }
-}
-
-fn account_kind(answer: Result<(), WriteAccountError>) -> Option<ErrorKind> {
-    match answer {
-        Ok(()) => None,
-        Err(WriteAccountError::Memory) => Some(ErrorKind::OutOfMemory),
-        Err(WriteAccountError::Write(error)) => Some(error.kind()),
     }
 }
 
@@ -56,32 +39,26 @@ type End = (usize, usize, Option<ErrorKind>, usize);
 
 const BROKEN: ErrorKind = ErrorKind::BrokenPipe;
 
-/// Asserts with which error the writing ends, how many bytes were taken, and that these are a beginning of
-/// all.
-fn expect_end(
-    rt: &impl Abort,
-    alloc: Global,
-    written: &Written,
-    whole: &[u8],
-    (most, left, error, taken): End,
-) {
-    let mut writer = SlowWriter::new(alloc, most, left, error.unwrap_or(BROKEN));
-    assert_eq!(rt; written.write(alloc, &mut writer), error);
-    assert_eq!(rt; writer.taken.len(), taken);
-    assert!(rt; whole.starts_with(&writer.taken));
-}
-
 /// Asserts these ends; that a writer which fails after any number of bytes is told so, and took just
-/// these; and that one which takes all of them is not.
+/// these; and that one which takes all of them is not. What was taken is a beginning of all.
 fn expect_ends(rt: &impl Abort, alloc: Global, written: Written, whole: &[u8], ends: &[End]) {
-    for end in ends {
-        expect_end(rt, alloc, &written, whole, *end);
-    }
+    let mut ends = Vec::from_slice(alloc, ends).expect(rt, "memory");
     for left in 0..whole.len() {
-        expect_end(rt, alloc, &written, whole, (1, left, Some(BROKEN), left));
+        assert!(rt; ends.push((1, left, Some(BROKEN), left)).is_ok());
     }
-    let end = (1, whole.len(), None, whole.len());
-    expect_end(rt, alloc, &written, whole, end);
+    assert!(rt; ends.push((1, whole.len(), None, whole.len())).is_ok());
+    for end in &ends {
+        let (most, left, error, taken) = *end;
+        let mut writer = SlowWriter::new(alloc, most, left, error.unwrap_or(BROKEN));
+        let kind = match written.write(alloc, &mut writer) {
+            Ok(()) => None,
+            Err(WriteAccountError::Memory) => Some(ErrorKind::OutOfMemory),
+            Err(WriteAccountError::Write(fault)) => Some(fault.kind()),
+        };
+        assert_eq!(rt; kind, error);
+        assert_eq!(rt; writer.taken.len(), taken);
+        assert!(rt; whole.starts_with(&writer.taken));
+    }
 }
 
 /// Three packages with a library each.

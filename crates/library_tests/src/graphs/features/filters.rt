@@ -1,6 +1,7 @@
 //! Filters that stand alone, boxed, lent and round a base, and closures.
 
-use crate::graphs::features::graphs::{Question, answer_to, id_of};
+use crate::graphs::features::graphs::WEAK;
+use crate::workspace::{graph_of, id_of};
 use guppy_feature_graph::{
     FeatureFilter, FeatureFilterFn, FeatureGraph, FeatureGraphData, FeatureId, StandardFeatures,
     feature_id_filter, named_feature_filter, query_to_feature_query, set_to_feature_set,
@@ -8,31 +9,18 @@ use guppy_feature_graph::{
 use std::alloc::Global;
 use std::process::Abort;
 
-/// Asks how many features of all packages the filter takes.
-#[derive(Drop)]
-struct TakenBy<F> {
-    filter: F,
-}
-
-impl<F: FeatureFilter> Question for TakenBy<F> {
-    type Answer = usize;
-
-    ghost can_ask = { λ q. F.can_accept q.filter };
-
-    fn ask<R: Abort>(&mut self, rt: &R, alloc: Global, data: &FeatureGraphData<'_>) -> usize {
-        let graph = FeatureGraph::of(data);
-        let all = data.package_graph().resolve_all(alloc).expect(rt, "memory");
-        let taken = set_to_feature_set(alloc, &graph, &all, &mut self.filter);
-        taken.expect(rt, "memory").len()
-    }
-}
-
-fn taken_by<R: Abort, F: FeatureFilter>(rt: &R, alloc: Global, filter: F) -> usize
+/// How many features of all packages of `WEAK` the filter takes.
+fn taken_by<R: Abort, F: FeatureFilter>(rt: &R, alloc: Global, mut filter: F) -> usize
 where
     F: Drop,
     requires { F.can_accept filter }
 {
-    answer_to(rt, alloc, &mut TakenBy { filter })
+    let packages = graph_of(rt, alloc, WEAK);
+    let data = FeatureGraphData::build(alloc, &packages).expect(rt, "memory");
+    let graph = FeatureGraph::of(&data);
+    let all = data.package_graph().resolve_all(alloc).expect(rt, "memory");
+    let taken = set_to_feature_set(alloc, &graph, &all, &mut filter);
+    taken.expect(rt, "memory").len()
 }
 
 #[test]
@@ -76,29 +64,17 @@ fn closure_as_a_filter(rt: HostRuntime) {
     assert_eq!(rt; taken_by(&rt, rt.alloc(), filter), 2);
 }
 
-/// Asks how many features of app, from which a query starts, are taken.
-#[derive(Drop)]
-struct TakenFromApp;
-
-impl Question for TakenFromApp {
-    ghost use Rattle.std.specs.Prelude.{⊤};
-
-    type Answer = usize;
-
-    ghost can_ask = { λ _. ⊤ };
-
-    fn ask<R: Abort>(&mut self, rt: &R, alloc: Global, data: &FeatureGraphData<'_>) -> usize {
-        let app = id_of(rt, alloc, "app");
-        let query = data.package_graph().query_forward(alloc, &[&app]);
-        let query = query.expect(rt, "a query");
-        let graph = FeatureGraph::of(data);
-        let mut filter = StandardFeatures::All;
-        let taken = query_to_feature_query(alloc, &graph, &query, &mut filter);
-        taken.expect(rt, "memory").initials().len()
-    }
-}
-
+/// Those of app are taken, from which a query starts.
 #[test]
 fn features_of_a_query(rt: HostRuntime) {
-    assert_eq!(rt; answer_to(&rt, rt.alloc(), &mut TakenFromApp), 3);
+    let alloc = rt.alloc();
+    let packages = graph_of(&rt, alloc, WEAK);
+    let data = FeatureGraphData::build(alloc, &packages).expect(&rt, "memory");
+    let app = id_of(&rt, alloc, "app");
+    let query = data.package_graph().query_forward(alloc, &[&app]);
+    let query = query.expect(&rt, "a query");
+    let graph = FeatureGraph::of(&data);
+    let mut filter = StandardFeatures::All;
+    let taken = query_to_feature_query(alloc, &graph, &query, &mut filter);
+    assert_eq!(rt; taken.expect(&rt, "memory").initials().len(), 3);
 }

@@ -1,14 +1,14 @@
 //! What is asked of a feature graph whose packages are read from a record.
 
+use crate::workspace::graph_of;
 use guppy_feature_graph::FeatureGraphData;
-use guppy_package_graph::{PackageGraph, PackageId};
-use record_files::read_record;
+use guppy_package_graph::PackageGraph;
 use std::alloc::Global;
 use std::process::Abort;
 
 /// The feature `weak` of app names a feature of foo, which app requires in one line, and in another
 /// where it is switched on.
-const WEAK: &str = r#"{
+pub(crate) const WEAK: &[u8] = br#"{
     "packages": [
         {
             "id": "app", "name": "app", "version": "1.0.0", "optional": ["foo"],
@@ -40,7 +40,7 @@ pub(crate) trait Question {
 pub(crate) fn answer_to<R: Abort, Q: Question>(rt: &R, alloc: Global, question: &mut Q) -> Q::Answer
     requires { Q.can_ask question.old }
 {
-    let packages = weak_graph(rt, alloc);
+    let packages = graph_of(rt, alloc, WEAK);
     answer_over(rt, alloc, &packages, question)
 }
 
@@ -54,15 +54,4 @@ fn answer_over<R: Abort, Q: Question>(
 {
     let data = FeatureGraphData::build(alloc, packages).expect(rt, "memory");
     question.ask(rt, alloc, &data)
-}
-
-pub(crate) fn weak_graph(rt: &impl Abort, alloc: Global) -> PackageGraph {
-    let record = read_record(alloc, WEAK.as_bytes()).expect(rt, "a record");
-    let (packages, links, workspace) = (record.packages, record.links, record.workspace);
-    let graph = PackageGraph::from_records(alloc, packages, links, workspace);
-    graph.expect(rt, "a graph")
-}
-
-pub(crate) fn id_of(rt: &impl Abort, alloc: Global, text: &str) -> PackageId {
-    PackageId::new(String::from_str(alloc, text).expect(rt, "memory"))
 }

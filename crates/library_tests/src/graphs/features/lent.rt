@@ -1,10 +1,10 @@
 //! What sets, lists and cycles lend lives as long as their graph; what is copied, compared and printed of
 //! them.
 
-use crate::graphs::features::graphs::{Question, answer_to, id_of};
+use crate::graphs::features::graphs::{Question, WEAK, answer_to};
+use crate::workspace::{debugged, graph_of, id_of};
 use guppy_feature_graph::{
     FeatureGraph, FeatureGraphData, FeatureId, FeatureList, FeatureMetadata, FeatureQuery,
-    FeatureSet,
 };
 use guppy_package_graph::{DependencyDirection, PackageId};
 use std::alloc::Global;
@@ -89,90 +89,25 @@ fn features_outlive_what_lends_them(rt: HostRuntime) {
     assert_eq!(rt; counts, [3, 3, 1, 0]);
 }
 
-/// Whether a copied set is equal to its original, and to the set of a graph that was built once more.
-fn sets_compared(
-    rt: &impl Abort,
-    alloc: Global,
-    all: &FeatureSet<'_>,
-    others: &FeatureSet<'_>,
-) -> bool {
-    let copy = all.copy(alloc).expect(rt, "memory");
-    let none = all.difference(alloc, &copy).expect(rt, "memory");
-    [
-        copy == *all,
-        *all == *others,
-        none != *others,
-        *others != none,
-    ] == [true; 4]
-}
-
-fn compared_with(
-    rt: &impl Abort,
-    alloc: Global,
-    data: &FeatureGraphData<'_>,
-    again: &FeatureGraphData<'_>,
-) -> bool {
-    let all = FeatureGraph::of(data)
-        .resolve_all(alloc)
-        .expect(rt, "memory");
-    let others = FeatureGraph::of(again)
-        .resolve_all(alloc)
-        .expect(rt, "memory");
-    sets_compared(rt, alloc, &all, &others)
-}
-
-/// Asks whether sets of two graphs of the same packages are compared by their features.
-#[derive(Drop)]
-struct Compared;
-
-impl Question for Compared {
-    ghost use Rattle.std.specs.Prelude.{⊤};
-
-    type Answer = bool;
-
-    ghost can_ask = { λ _. ⊤ };
-
-    fn ask<R: Abort>(&mut self, rt: &R, alloc: Global, data: &FeatureGraphData<'_>) -> bool {
-        let again = FeatureGraphData::build(alloc, data.package_graph());
-        compared_with(rt, alloc, data, &again.expect(rt, "memory"))
-    }
-}
-
+/// A copied set is equal to its original, and to the set of a graph that was built once more.
 #[test]
 fn sets_are_equal_by_their_features(rt: HostRuntime) {
-    assert!(rt; answer_to(&rt, rt.alloc(), &mut Compared));
-}
-
-/// Asks how a copied query from app, and a copied list of its features, print.
-#[derive(Drop)]
-struct Printed;
-
-impl Question for Printed {
-    ghost use Rattle.std.specs.Prelude.{⊤};
-
-    type Answer = (String, String);
-
-    ghost can_ask = { λ _. ⊤ };
-
-    fn ask<R: Abort>(
-        &mut self,
-        rt: &R,
-        alloc: Global,
-        data: &FeatureGraphData<'_>,
-    ) -> (String, String) {
-        let app = id_of(rt, alloc, "app");
-        let graph = FeatureGraph::of(data);
-        let query = graph.query_forward(alloc, &[FeatureId::base(&app)]);
-        let query = query_text(rt, alloc, &query.expect(rt, "a query"));
-        let list = graph.all_features_for(alloc, &app);
-        let list = list_text(rt, alloc, &list.expect(rt, "a list"));
-        (query, list)
-    }
+    let alloc = rt.alloc();
+    let packages = graph_of(&rt, alloc, WEAK);
+    let data = FeatureGraphData::build(alloc, &packages).expect(&rt, "memory");
+    let again = FeatureGraphData::build(alloc, &packages).expect(&rt, "memory");
+    let all = FeatureGraph::of(&data).resolve_all(alloc);
+    let all = all.expect(&rt, "memory");
+    let others = FeatureGraph::of(&again).resolve_all(alloc);
+    let others = others.expect(&rt, "memory");
+    let copy = all.copy(alloc).expect(&rt, "memory");
+    let none = all.difference(alloc, &copy).expect(&rt, "memory");
+    assert!(rt; [copy == all, all == others, none != others, others != none] == [true; 4]);
 }
 
 fn query_text(rt: &impl Abort, alloc: Global, query: &FeatureQuery<'_>) -> String {
     let copy = query.copy(alloc).expect(rt, "memory");
-    format!(in alloc; "{copy:?}").expect(rt, "memory")
+    debugged(rt, alloc, &copy)
 }
 
 fn list_text(rt: &impl Abort, alloc: Global, list: &FeatureList<'_>) -> String {
@@ -180,9 +115,23 @@ fn list_text(rt: &impl Abort, alloc: Global, list: &FeatureList<'_>) -> String {
     format!(in alloc; "{}", copy.display_features()).expect(rt, "memory")
 }
 
+/// How a copied query from app, and a copied list of its features, print.
+fn copied_texts(rt: &impl Abort, alloc: Global, data: &FeatureGraphData<'_>) -> (String, String) {
+    let app = id_of(rt, alloc, "app");
+    let graph = FeatureGraph::of(data);
+    let query = graph.query_forward(alloc, &[FeatureId::base(&app)]);
+    let query = query_text(rt, alloc, &query.expect(rt, "a query"));
+    let list = graph.all_features_for(alloc, &app);
+    let list = list_text(rt, alloc, &list.expect(rt, "a list"));
+    (query, list)
+}
+
 #[test]
 fn copies_are_printed(rt: HostRuntime) {
-    let (query, list) = answer_to(&rt, rt.alloc(), &mut Printed);
+    let alloc = rt.alloc();
+    let packages = graph_of(&rt, alloc, WEAK);
+    let data = FeatureGraphData::build(alloc, &packages).expect(&rt, "memory");
+    let (query, list) = copied_texts(&rt, alloc, &data);
     assert_eq!(rt;
         query.as_str(),
         r#"FeatureQuery { direction: Forward, initials: {FeatureId { package_id: PackageId { text: "app" }, label: Base }} }"#

@@ -7,4 +7,4 @@ mod lent;
 mod lists;
 mod resolves;
 mod sets;
-mod visitors;
+pub(crate) mod visitors;

@@ -2,8 +2,9 @@
 
 ghost use Rattle.std.specs.Prelude.{◌≡◌, ◌<◌};
 
-use crate::graphs::features::graphs::{Question, answer_to, id_of, weak_graph};
+use crate::graphs::features::graphs::WEAK;
 use crate::graphs::features::visitors::{Follows, FollowsOptional};
+use crate::workspace::{graph_of, id_of};
 use guppy_feature_graph::{
     ConditionalLink, FeatureGraph, FeatureGraphData, FeatureId, FeatureLinkContext,
     FeatureLinkVisitor, FeatureQuery, LinkDeclarations,
@@ -26,53 +27,26 @@ fn query_of<'g>(rt: &impl Abort, alloc: Global, graph: FeatureGraph<'g>) -> Feat
     query.expect(rt, "a query")
 }
 
-/// How many features the visitor includes.
-fn included_by(
-    rt: &impl Abort,
-    alloc: Global,
-    data: &FeatureGraphData<'_>,
-    visitor: &mut dyn FeatureLinkVisitor,
-) -> usize {
-    let query = query_of(rt, alloc, FeatureGraph::of(data));
+/// How many features of `WEAK` the visitor includes.
+fn included_by(rt: &impl Abort, alloc: Global, visitor: &mut dyn FeatureLinkVisitor) -> usize {
+    let packages = graph_of(rt, alloc, WEAK);
+    let data = FeatureGraphData::build(alloc, &packages).expect(rt, "memory");
+    let query = query_of(rt, alloc, FeatureGraph::of(&data));
     let included = query.resolve_with(alloc, visitor).expect(rt, "memory");
     included.len()
-}
-
-impl Question for Follows {
-    ghost use Rattle.std.specs.Prelude.{⊤};
-
-    type Answer = usize;
-
-    ghost can_ask = { λ _. ⊤ };
-
-    fn ask<R: Abort>(&mut self, rt: &R, alloc: Global, data: &FeatureGraphData<'_>) -> usize {
-        included_by(rt, alloc, data, self)
-    }
-}
-
-impl Question for Box<dyn FeatureLinkVisitor + Drop> {
-    ghost use Rattle.std.specs.Prelude.{⊤};
-
-    type Answer = usize;
-
-    ghost can_ask = { λ _. ⊤ };
-
-    fn ask<R: Abort>(&mut self, rt: &R, alloc: Global, data: &FeatureGraphData<'_>) -> usize {
-        included_by(rt, alloc, data, &mut **self)
-    }
 }
 
 #[test]
 fn refuses_all(rt: HostRuntime) {
     let mut visitor = Follows { left: 0, shown: 0 };
-    assert_eq!(rt; answer_to(&rt, rt.alloc(), &mut visitor), 3);
+    assert_eq!(rt; included_by(&rt, rt.alloc(), &mut visitor), 3);
     assert_eq!(rt; visitor.shown, 4);
 }
 
 #[test]
 fn accepts_all(rt: HostRuntime) {
     let mut visitor = Follows { left: 4, shown: 0 };
-    assert_eq!(rt; answer_to(&rt, rt.alloc(), &mut visitor), 5);
+    assert_eq!(rt; included_by(&rt, rt.alloc(), &mut visitor), 5);
     assert_eq!(rt; visitor.left, 0);
 }
 
@@ -80,47 +54,24 @@ fn accepts_all(rt: HostRuntime) {
 fn boxed_visitor(rt: HostRuntime) {
     let boxed = Box::new(rt.alloc(), FollowsOptional).expect(&rt, "memory");
     let mut visitor: Box<dyn FeatureLinkVisitor + Drop> = boxed;
-    assert_eq!(rt; answer_to(&rt, rt.alloc(), &mut visitor), 5);
+    assert_eq!(rt; included_by(&rt, rt.alloc(), &mut *visitor), 5);
 }
 
-/// Asks what a closure is shown, of halves alone.
-#[derive(Drop)]
-struct Halves;
-
-impl Question for Halves {
-    ghost use Rattle.std.specs.Prelude.{⊤};
-
-    type Answer = Vec<LinkDeclarations>;
-
-    ghost can_ask = { λ _. ⊤ };
-
-    fn ask<R: Abort>(
-        &mut self,
-        rt: &R,
-        alloc: Global,
-        data: &FeatureGraphData<'_>,
-    ) -> Vec<LinkDeclarations> {
-        let query = query_of(rt, alloc, FeatureGraph::of(data));
-        halves_shown(rt, alloc, query)
-    }
-}
-
-fn halves_shown(rt: &impl Abort, alloc: Global, query: FeatureQuery<'_>) -> Vec<LinkDeclarations> {
-    let mut shown = Vec::new(alloc);
+/// What the closure is shown, of halves alone.
+#[test]
+fn closure_shown_the_required_half_first(rt: HostRuntime) {
+    let packages = graph_of(&rt, rt.alloc(), WEAK);
+    let data = FeatureGraphData::build(rt.alloc(), &packages).expect(&rt, "memory");
+    let query = query_of(&rt, rt.alloc(), FeatureGraph::of(&data));
+    let mut shown = Vec::new(rt.alloc());
     let included = query.resolve_with_fn(
-        alloc,
+        rt.alloc(),
         |_cx: &FeatureLinkContext<'_>, link: ConditionalLink<'_>| -> bool {
             let declarations = link.declarations();
             declarations == LinkDeclarations::Unsplit || shown.push(declarations).is_ok()
         },
     );
     assert!(rt; included.is_ok());
-    shown
-}
-
-#[test]
-fn closure_shown_the_required_half_first(rt: HostRuntime) {
-    let shown = answer_to(&rt, rt.alloc(), &mut Halves);
     let wanted = [LinkDeclarations::Required, LinkDeclarations::Optional];
     assert!(rt; shown.iter().copied().eq(wanted.iter().copied()));
 }
@@ -143,7 +94,7 @@ fn counted<L: Ledger>(
 
 #[test]
 fn counts_looks(rt: HostRuntime) {
-    let packages = weak_graph(&rt, rt.alloc());
+    let packages = graph_of(&rt, rt.alloc(), WEAK);
     let data = FeatureGraphData::build(rt.alloc(), &packages).expect(&rt, "memory");
     let query = query_of(&rt, rt.alloc(), FeatureGraph::of(&data));
     let count = counted::<Brand>(rt.alloc(), query, Blank::new(1));

@@ -1,7 +1,8 @@
 //! Cycles come as the packages of the graph are listed.
 
-use crate::graphs::packages::graphs::{TWO_PAIRS, graph_of};
+use crate::graphs::packages::graphs::TWO_PAIRS;
 use crate::graphs::packages::lent::all_ids;
+use crate::workspace::graph_of;
 use guppy_package_graph::PackageGraph;
 use std::alloc::Global;
 use std::process::Abort;

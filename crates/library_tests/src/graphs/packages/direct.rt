@@ -1,43 +1,35 @@
 //! Calls that rows reach by way of others.
 
-use crate::graphs::packages::graphs::{FEWER, TRIANGLE, TURNED, graph_of, id_of};
-use guppy_package_graph::{DependencyDirection, DependsCache, PackageGraph, PackageMetadata};
+use crate::graphs::packages::graphs::{FEWER, TRIANGLE, TURNED};
+use crate::workspace::{debugged, graph_of, id_of};
+use guppy_package_graph::{DependencyDirection, DependsCache};
 use record_files::read_record;
-use std::alloc::Global;
-use std::process::Abort;
 
 const REVERSE: DependencyDirection = DependencyDirection::Reverse;
 
-/// What a cache and its copy answer on a and c, and then the cache once more.
-fn cached(rt: &impl Abort, alloc: Global, graph: &PackageGraph) -> [bool; 3] {
-    let (a, c) = (id_of(rt, alloc, "a"), id_of(rt, alloc, "c"));
-    let mut cache = DependsCache::new(alloc, graph).expect(rt, "memory");
-    let there = cache.depends_on(alloc, &a, &c).expect(rt, "an answer");
-    let mut copy = cache.copy(alloc).expect(rt, "memory");
-    let back = copy.depends_on(alloc, &c, &a).expect(rt, "an answer");
-    let again = cache.depends_on(alloc, &a, &c).expect(rt, "an answer");
-    [there, back, again]
-}
-
+/// A cache and its copy are asked about a and c, and then the cache once more.
 #[test]
 fn copied_caches_answer_by_themselves(rt: HostRuntime) {
-    let graph = graph_of(&rt, rt.alloc(), TRIANGLE);
-    assert!(rt; cached(&rt, rt.alloc(), &graph) == [true, false, true]);
+    let alloc = rt.alloc();
+    let graph = graph_of(&rt, alloc, TRIANGLE);
+    let (a, c) = (id_of(&rt, alloc, "a"), id_of(&rt, alloc, "c"));
+    let mut cache = DependsCache::new(alloc, &graph).expect(&rt, "memory");
+    let there = cache.depends_on(alloc, &a, &c).expect(&rt, "an answer");
+    let mut copy = cache.copy(alloc).expect(&rt, "memory");
+    let back = copy.depends_on(alloc, &c, &a).expect(&rt, "an answer");
+    let again = cache.depends_on(alloc, &a, &c).expect(&rt, "an answer");
+    assert!(rt; [there, back, again] == [true, false, true]);
 }
 
-/// How a query from all packages prints, and how its copy does.
-fn queries(rt: &impl Abort, alloc: Global, graph: &PackageGraph) -> [String; 2] {
-    let all = graph.resolve_all(alloc).expect(rt, "memory");
-    let query = all.to_package_query(alloc, REVERSE).expect(rt, "memory");
-    let copy = query.copy(alloc).expect(rt, "memory");
-    let copied = format!(in alloc; "{copy:?}").expect(rt, "memory");
-    [format!(in alloc; "{query:?}").expect(rt, "memory"), copied]
-}
-
+/// A query from all packages prints as its copy does.
 #[test]
 fn copied_queries_are_printed(rt: HostRuntime) {
-    let graph = graph_of(&rt, rt.alloc(), FEWER);
-    for text in &queries(&rt, rt.alloc(), &graph) {
+    let alloc = rt.alloc();
+    let graph = graph_of(&rt, alloc, FEWER);
+    let all = graph.resolve_all(alloc).expect(&rt, "memory");
+    let query = all.to_package_query(alloc, REVERSE).expect(&rt, "memory");
+    let copy = query.copy(alloc).expect(&rt, "memory");
+    for text in &[debugged(&rt, alloc, &query), debugged(&rt, alloc, &copy)] {
         assert_eq!(rt;
             text.as_str(),
             r#"PackageQuery { direction: Reverse, initials: [PackageMetadata(PackageId { text: "a" }), PackageMetadata(PackageId { text: "b" })], .. }"#
@@ -45,24 +37,19 @@ fn copied_queries_are_printed(rt: HostRuntime) {
     }
 }
 
-/// The numbers of the links from a package, and of those to it.
-fn links_of(rt: &impl Abort, alloc: Global, package: PackageMetadata<'_>) -> Vec<usize> {
-    let mut numbers = Vec::new(alloc);
+/// First the links from the package, and then those to it.
+#[test]
+fn links_of_one_package_come_from_both_ends(rt: HostRuntime) {
+    let graph = graph_of(&rt, rt.alloc(), TRIANGLE);
+    let b = id_of(&rt, rt.alloc(), "b");
+    let package = graph.metadata(&b).expect(&rt, "a package");
+    let mut numbers = Vec::new(rt.alloc());
     for link in package.direct_links_directed(DependencyDirection::Forward) {
         assert!(rt; numbers.push(link.number()).is_ok());
     }
     for link in package.direct_links_directed(REVERSE) {
         assert!(rt; numbers.push(link.number()).is_ok());
     }
-    numbers
-}
-
-#[test]
-fn links_of_one_package_come_from_both_ends(rt: HostRuntime) {
-    let graph = graph_of(&rt, rt.alloc(), TRIANGLE);
-    let b = id_of(&rt, rt.alloc(), "b");
-    let package = graph.metadata(&b).expect(&rt, "a package");
-    let numbers = links_of(&rt, rt.alloc(), package);
     assert!(rt; numbers.as_slice() == [2, 0].as_slice());
 }
 
@@ -76,7 +63,7 @@ fn graphs_are_compared_by_their_packages(rt: HostRuntime) {
 }
 
 /// A workspace with all that it may say.
-const FOLDERS: &str = r#"{
+const FOLDERS: &[u8] = br#"{
     "packages": [{"id": "a", "name": "a", "version": "1.0.0"}],
     "links": [],
     "workspace": {
@@ -107,7 +94,7 @@ fn folders_that_are_not_there_are_none(rt: HostRuntime) {
 
 #[test]
 fn a_copied_row_is_equal(rt: HostRuntime) {
-    let record = read_record(rt.alloc(), FOLDERS.as_bytes()).expect(&rt, "a record");
+    let record = read_record(rt.alloc(), FOLDERS).expect(&rt, "a record");
     for row in &record.packages {
         let copy = row.copy(rt.alloc()).expect(&rt, "memory");
         assert!(rt; copy == *row);

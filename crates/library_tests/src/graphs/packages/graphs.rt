@@ -1,13 +1,7 @@
-//! Graphs that are read from records.
-
-use guppy_package_graph::PackageGraph;
-use guppy_package_parts::PackageId;
-use record_files::read_record;
-use std::alloc::Global;
-use std::process::Abort;
+//! Records of packages and links.
 
 /// Three packages; a depends on b and c, and b on c.
-pub(crate) const TRIANGLE: &str = r#"{
+pub(crate) const TRIANGLE: &[u8] = br#"{
     "packages": [
         {"id": "a", "name": "a", "version": "1.0.0"},
         {"id": "b", "name": "b", "version": "1.0.0"},
@@ -22,7 +16,7 @@ pub(crate) const TRIANGLE: &str = r#"{
 }"#;
 
 /// The same packages; a depends on b for its tests alone, and on c.
-pub(crate) const FOR_TESTS: &str = r#"{
+pub(crate) const FOR_TESTS: &[u8] = br#"{
     "packages": [
         {"id": "a", "name": "a", "version": "1.0.0"},
         {"id": "b", "name": "b", "version": "1.0.0"},
@@ -36,7 +30,7 @@ pub(crate) const FOR_TESTS: &str = r#"{
 }"#;
 
 /// The same packages, where c depends on a.
-pub(crate) const TURNED: &str = r#"{
+pub(crate) const TURNED: &[u8] = br#"{
     "packages": [
         {"id": "a", "name": "a", "version": "2.0.0"},
         {"id": "b", "name": "b", "version": "2.0.0"},
@@ -47,7 +41,7 @@ pub(crate) const TURNED: &str = r#"{
 }"#;
 
 /// The same packages, one after the other.
-pub(crate) const CHAIN: &str = r#"{
+pub(crate) const CHAIN: &[u8] = br#"{
     "packages": [
         {"id": "a", "name": "a", "version": "1.0.0"},
         {"id": "b", "name": "b", "version": "1.0.0"},
@@ -61,7 +55,7 @@ pub(crate) const CHAIN: &str = r#"{
 }"#;
 
 /// Two pairs of packages, those of each on a cycle, and no link between the pairs.
-pub(crate) const TWO_PAIRS: &str = r#"{
+pub(crate) const TWO_PAIRS: &[u8] = br#"{
     "packages": [
         {"id": "a", "name": "a", "version": "1.0.0"},
         {"id": "b", "name": "b", "version": "1.0.0"},
@@ -78,7 +72,7 @@ pub(crate) const TWO_PAIRS: &str = r#"{
 }"#;
 
 /// Two of the packages.
-pub(crate) const FEWER: &str = r#"{
+pub(crate) const FEWER: &[u8] = br#"{
     "packages": [
         {"id": "a", "name": "a", "version": "1.0.0"},
         {"id": "b", "name": "b", "version": "1.0.0"}
@@ -86,14 +80,3 @@ pub(crate) const FEWER: &str = r#"{
     "links": [],
     "workspace": {"members": []}
 }"#;
-
-pub(crate) fn graph_of(rt: &impl Abort, alloc: Global, text: &str) -> PackageGraph {
-    let record = read_record(alloc, text.as_bytes()).expect(rt, "a record");
-    let (packages, links, workspace) = (record.packages, record.links, record.workspace);
-    let graph = PackageGraph::from_records(alloc, packages, links, workspace);
-    graph.expect(rt, "a graph")
-}
-
-pub(crate) fn id_of(rt: &impl Abort, alloc: Global, text: &str) -> PackageId {
-    PackageId::new(String::from_str(alloc, text).expect(rt, "memory"))
-}

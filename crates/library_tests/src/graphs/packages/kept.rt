@@ -1,48 +1,29 @@
 //! What callbacks keep of the packages and links that they are shown lives as long as the graph.
 
-use crate::graphs::packages::graphs::{TRIANGLE, graph_of};
-use guppy_package_graph::{
-    DependencyDirection, PackageGraph, PackageLink, PackageLinkContext, PackageSet,
-};
+use crate::graphs::packages::graphs::TRIANGLE;
+use crate::workspace::graph_of;
+use guppy_package_graph::{DependencyDirection, PackageGraph, PackageLink, PackageLinkContext};
 use std::alloc::Global;
 use std::process::Abort;
 
 const FORWARD: DependencyDirection = DependencyDirection::Forward;
 
-/// The names that a filter of all packages keeps.
-fn filtered<'g>(rt: &impl Abort, alloc: Global, all: &PackageSet<'g>) -> Vec<&'g str> {
-    let mut names: Vec<&'g str> = Vec::new(alloc);
-    let kept = all.filter(alloc, FORWARD, |shown| names.push(shown.name()).is_ok());
-    assert!(rt; kept.is_ok());
-    names
-}
-
-/// Those that a partition keeps.
-fn parted<'g>(rt: &impl Abort, alloc: Global, all: &PackageSet<'g>) -> Vec<&'g str> {
-    let mut names: Vec<&'g str> = Vec::new(alloc);
-    let parts = all.partition(alloc, FORWARD, |shown| names.push(shown.name()).is_ok());
-    assert!(rt; parts.is_ok());
-    names
-}
-
-/// Those that a partition in three keeps.
-fn parted_in_three<'g>(rt: &impl Abort, alloc: Global, all: &PackageSet<'g>) -> Vec<&'g str> {
-    let mut names: Vec<&'g str> = Vec::new(alloc);
-    let parts = all.filter_partition(alloc, FORWARD, |shown| {
-        Some(names.push(shown.name()).is_ok())
-    });
-    assert!(rt; parts.is_ok());
-    names
-}
-
-/// The names of all packages, by sets that are gone when they are looked at.
+/// The names that a filter of all packages, a partition and a partition in three are shown, by sets that are
+/// gone when the names are looked at.
 fn names_kept<'g>(rt: &impl Abort, alloc: Global, graph: &'g PackageGraph) -> [Vec<&'g str>; 3] {
     let all = graph.resolve_all(alloc).expect(rt, "memory");
-    [
-        filtered(rt, alloc, &all),
-        parted(rt, alloc, &all),
-        parted_in_three(rt, alloc, &all),
-    ]
+    let mut filtered: Vec<&'g str> = Vec::new(alloc);
+    let kept = all.filter(alloc, FORWARD, |shown| filtered.push(shown.name()).is_ok());
+    assert!(rt; kept.is_ok());
+    let mut parted: Vec<&'g str> = Vec::new(alloc);
+    let parts = all.partition(alloc, FORWARD, |shown| parted.push(shown.name()).is_ok());
+    assert!(rt; parts.is_ok());
+    let mut in_three: Vec<&'g str> = Vec::new(alloc);
+    let parts = all.filter_partition(alloc, FORWARD, |shown| {
+        Some(in_three.push(shown.name()).is_ok())
+    });
+    assert!(rt; parts.is_ok());
+    [filtered, parted, in_three]
 }
 
 /// The links that a resolve from the members shows.

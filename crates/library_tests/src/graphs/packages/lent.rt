@@ -1,6 +1,7 @@
 //! What sets lend lives as long as their graph; what is copied and printed of them.
 
-use crate::graphs::packages::graphs::{TRIANGLE, graph_of};
+use crate::graphs::packages::graphs::TRIANGLE;
+use crate::workspace::graph_of;
 use guppy_package_graph::{DependencyDirection, PackageGraph, PackageMetadata};
 use std::alloc::Global;
 use std::process::Abort;

@@ -7,4 +7,4 @@ mod kept;
 mod lent;
 mod resolves;
 mod sets;
-mod visitors;
+pub(crate) mod visitors;

@@ -2,10 +2,11 @@
 
 ghost use Rattle.std.specs.Prelude.{◌≡◌, ◌<◌};
 
-use crate::graphs::packages::graphs::{CHAIN, FOR_TESTS, TRIANGLE, graph_of, id_of};
+use crate::graphs::packages::graphs::{CHAIN, FOR_TESTS, TRIANGLE};
 use crate::graphs::packages::visitors::{Alternates, Follows, FollowsFirm};
+use crate::workspace::{debugged, graph_of, id_of};
 use guppy_package_graph::{
-    PackageGraph, PackageLink, PackageLinkContext, PackageLinkVisitor, PackageQuery,
+    PackageGraph, PackageLink, PackageLinkContext, PackageLinkVisitor, PackageQuery, PackageSet,
 };
 use guppy_package_parts::DependencyDirection;
 use numbered_graph::Looks;
@@ -18,7 +19,7 @@ const FORWARD: DependencyDirection = DependencyDirection::Forward;
 
 const REVERSE: DependencyDirection = DependencyDirection::Reverse;
 
-/// A query of `TRIANGLE` or of another graph.
+/// A query of the links from a package, or of those to it.
 fn query_of<'g>(
     rt: &impl Abort,
     alloc: Global,
@@ -31,105 +32,90 @@ fn query_of<'g>(
     query.expect(rt, "a query")
 }
 
-/// How many packages of `TRIANGLE` the visitor includes from the start.
-fn included_by(
+/// What the visitor includes from the start.
+fn included_by<'g>(
     rt: &impl Abort,
     alloc: Global,
+    graph: &'g PackageGraph,
     start: &str,
     direction: DependencyDirection,
     visitor: &mut dyn PackageLinkVisitor,
-) -> usize {
-    let graph = graph_of(rt, alloc, TRIANGLE);
-    let query = query_of(rt, alloc, &graph, start, direction);
-    query
-        .resolve_with(alloc, visitor)
-        .expect(rt, "memory")
-        .len()
+) -> PackageSet<'g> {
+    let query = query_of(rt, alloc, graph, start, direction);
+    let included = query.resolve_with(alloc, visitor);
+    included.expect(rt, "memory")
 }
 
 #[test]
 fn refuses_all(rt: HostRuntime) {
+    let graph = graph_of(&rt, rt.alloc(), TRIANGLE);
     let mut visitor = Follows { left: 0, shown: 0 };
-    let included = included_by(&rt, rt.alloc(), "a", FORWARD, &mut visitor);
-    assert_eq!(rt; included, 1);
+    let included = included_by(&rt, rt.alloc(), &graph, "a", FORWARD, &mut visitor);
+    assert_eq!(rt; included.len(), 1);
     assert_eq!(rt; visitor.shown, 2);
 }
 
 #[test]
 fn accepts_once(rt: HostRuntime) {
+    let graph = graph_of(&rt, rt.alloc(), TRIANGLE);
     let mut visitor = Follows { left: 1, shown: 0 };
-    let included = included_by(&rt, rt.alloc(), "c", REVERSE, &mut visitor);
-    assert_eq!(rt; included, 2);
+    let included = included_by(&rt, rt.alloc(), &graph, "c", REVERSE, &mut visitor);
+    assert_eq!(rt; included.len(), 2);
     assert_eq!(rt; visitor.left, 0);
 }
 
 #[test]
 fn accepts_all(rt: HostRuntime) {
+    let graph = graph_of(&rt, rt.alloc(), TRIANGLE);
     let mut visitor = Follows { left: 3, shown: 0 };
-    let included = included_by(&rt, rt.alloc(), "a", FORWARD, &mut visitor);
-    assert_eq!(rt; included, 3);
+    let included = included_by(&rt, rt.alloc(), &graph, "a", FORWARD, &mut visitor);
+    assert_eq!(rt; included.len(), 3);
     assert_eq!(rt; visitor.shown, 3);
 }
 
 /// One of the two links that lead to c is followed.
 #[test]
 fn alternates(rt: HostRuntime) {
+    let graph = graph_of(&rt, rt.alloc(), TRIANGLE);
     let mut visitor = Alternates { accepts: false };
-    let included = included_by(&rt, rt.alloc(), "c", REVERSE, &mut visitor);
-    assert_eq!(rt; included, 2);
-}
-
-/// How the set prints that the visitor includes from the first package of `CHAIN`.
-fn chain_text(
-    rt: &impl Abort,
-    alloc: Global,
-    graph: &PackageGraph,
-    visitor: &mut dyn PackageLinkVisitor,
-) -> String {
-    let query = query_of(rt, alloc, graph, "a", FORWARD);
-    let included = query.resolve_with(alloc, visitor).expect(rt, "memory");
-    format!(in alloc; "{included:?}").expect(rt, "memory")
+    let included = included_by(&rt, rt.alloc(), &graph, "c", REVERSE, &mut visitor);
+    assert_eq!(rt; included.len(), 2);
 }
 
 /// The first link that is shown is followed, and no other, be they counted or taken in turn.
 #[test]
 fn follows_the_first_of_a_chain(rt: HostRuntime) {
-    let graph = graph_of(&rt, rt.alloc(), CHAIN);
+    let alloc = rt.alloc();
+    let graph = graph_of(&rt, alloc, CHAIN);
     let first = r#"{PackageId { text: "a" }, PackageId { text: "b" }}"#;
     let mut once = Follows { left: 1, shown: 0 };
-    assert_eq!(rt;
-        chain_text(&rt, rt.alloc(), &graph, &mut once).as_str(),
-        first
-    );
+    let included = included_by(&rt, alloc, &graph, "a", FORWARD, &mut once);
+    assert_eq!(rt; debugged(&rt, alloc, &included).as_str(), first);
     assert_eq!(rt; once.shown, 2);
     let mut turns = Alternates { accepts: true };
-    assert_eq!(rt;
-        chain_text(&rt, rt.alloc(), &graph, &mut turns).as_str(),
-        first
-    );
+    let included = included_by(&rt, alloc, &graph, "a", FORWARD, &mut turns);
+    assert_eq!(rt; debugged(&rt, alloc, &included).as_str(), first);
     let mut turns = Alternates { accepts: false };
+    let included = included_by(&rt, alloc, &graph, "a", FORWARD, &mut turns);
     let none = r#"{PackageId { text: "a" }}"#;
-    assert_eq!(rt;
-        chain_text(&rt, rt.alloc(), &graph, &mut turns).as_str(),
-        none
-    );
+    assert_eq!(rt; debugged(&rt, alloc, &included).as_str(), none);
 }
 
 #[test]
 fn answers_by_the_link(rt: HostRuntime) {
     let graph = graph_of(&rt, rt.alloc(), FOR_TESTS);
-    let query = query_of(&rt, rt.alloc(), &graph, "a", FORWARD);
-    let included = query.resolve_with(rt.alloc(), &mut FollowsFirm);
-    assert_eq!(rt; included.expect(&rt, "memory").len(), 2);
+    let included = included_by(&rt, rt.alloc(), &graph, "a", FORWARD, &mut FollowsFirm);
+    assert_eq!(rt; included.len(), 2);
 }
 
 #[test]
 fn boxed_visitor(rt: HostRuntime) {
+    let graph = graph_of(&rt, rt.alloc(), TRIANGLE);
     let follows = Follows { left: 3, shown: 0 };
     let boxed = Box::new(rt.alloc(), follows).expect(&rt, "memory");
     let mut visitor: Box<dyn PackageLinkVisitor + Drop> = boxed;
-    let included = included_by(&rt, rt.alloc(), "a", FORWARD, &mut *visitor);
-    assert_eq!(rt; included, 3);
+    let included = included_by(&rt, rt.alloc(), &graph, "a", FORWARD, &mut *visitor);
+    assert_eq!(rt; included.len(), 3);
 }
 
 #[test]

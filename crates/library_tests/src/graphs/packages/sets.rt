@@ -1,29 +1,27 @@
 //! Sets of packages of two graphs.
 
-use crate::graphs::packages::graphs::{FEWER, TRIANGLE, TURNED, graph_of};
-use std::alloc::Global;
-use std::process::Abort;
+use crate::graphs::packages::graphs::{FEWER, TRIANGLE, TURNED};
+use crate::workspace::graph_of;
 
-/// How many packages are in the union of all packages of the one record's graph and none of the other's,
-/// where both have the same packages.
-fn union_size(rt: &impl Abort, alloc: Global, one: &str, other: &str) -> Option<usize> {
-    let graph = graph_of(rt, alloc, one);
-    let other = graph_of(rt, alloc, other);
-    let all = graph.resolve_all(alloc).expect(rt, "memory");
-    let none = other.resolve_none(alloc).expect(rt, "memory");
-    if none.same_packages(&all) {
-        Some(none.union(alloc, &all).expect(rt, "memory").len())
-    } else {
-        None
-    }
-}
-
+/// All packages of the one graph and none of the other's make a set of the other's graph.
 #[test]
 fn sets_of_two_graphs(rt: HostRuntime) {
-    assert_eq!(rt; union_size(&rt, rt.alloc(), TRIANGLE, TURNED), Some(3));
+    let alloc = rt.alloc();
+    let graph = graph_of(&rt, alloc, TRIANGLE);
+    let other = graph_of(&rt, alloc, TURNED);
+    let all = graph.resolve_all(alloc).expect(&rt, "memory");
+    let none = other.resolve_none(alloc).expect(&rt, "memory");
+    assert!(rt; none.same_packages(&all));
+    let both = none.union(alloc, &all).expect(&rt, "memory");
+    assert_eq!(rt; both.len(), 3);
 }
 
 #[test]
 fn sets_of_other_packages(rt: HostRuntime) {
-    assert_eq!(rt; union_size(&rt, rt.alloc(), TRIANGLE, FEWER), None);
+    let alloc = rt.alloc();
+    let graph = graph_of(&rt, alloc, TRIANGLE);
+    let other = graph_of(&rt, alloc, FEWER);
+    let all = graph.resolve_all(alloc).expect(&rt, "memory");
+    let none = other.resolve_none(alloc).expect(&rt, "memory");
+    assert!(rt; !none.same_packages(&all));
 }

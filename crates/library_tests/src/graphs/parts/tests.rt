@@ -2,33 +2,32 @@
 
 ghost use Rattle.std.specs.Prelude.{◌↔◌, ◌<◌, All, IsTrue};
 
+use crate::workspace::expect_printed;
 use guppy_package_parts::{
     DependencyDirection, DependencyKind, EnabledTernary, Error, FeatureBuildStage,
     FeatureGraphWarning, LineChoice, LineKind, LineRow, LinkRow, PackageId, Platform, PlatformSpec,
     PlatformStatus, SortedSet,
 };
-use std::alloc::{AllocError, Global};
-use std::fmt::Display;
+use std::alloc::Global;
 use std::process::Abort;
 
+/// A text in memory of its own.
 fn text(rt: &impl Abort, alloc: Global, text: &str) -> String {
     String::from_str(alloc, text).expect(rt, "memory")
 }
 
-fn line(rt: &impl Abort, alloc: Global, spec: &str) -> LineRow {
-    LineRow {
-        kind: LineKind::Normal,
-        optional: false,
-        default_features: true,
-        features: Vec::new(alloc),
-        spec: Some(text(rt, alloc, spec)),
-    }
-}
-
+/// A link of three lines.
 fn link(rt: &impl Abort, alloc: Global) -> LinkRow {
     let mut lines = Vec::new(alloc);
     for spec in ["one", "two", "three"] {
-        assert!(rt; lines.push(line(rt, alloc, spec)).is_ok());
+        let line = LineRow {
+            kind: LineKind::Normal,
+            optional: false,
+            default_features: true,
+            features: Vec::new(alloc),
+            spec: Some(text(rt, alloc, spec)),
+        };
+        assert!(rt; lines.push(line).is_ok());
     }
     LinkRow {
         from: text(rt, alloc, "a"),
@@ -39,16 +38,6 @@ fn link(rt: &impl Abort, alloc: Global) -> LinkRow {
         registry: None,
         path: None,
     }
-}
-
-fn expect_printed<T: Display>(rt: &impl Abort, alloc: Global, value: &T, want: &str) {
-    let printed = format!(in alloc; "{value}").expect(rt, "memory");
-    assert_eq!(rt; printed.as_str(), want);
-}
-
-/// A copy was made, and is equal.
-fn expect_copy<T: Drop + PartialEq>(rt: &impl Abort, copy: Result<T, AllocError>, value: &T) {
-    assert!(rt; copy.expect(rt, "memory") == *value);
 }
 
 // The platform that one spec names, and that knows of no other spec.
@@ -71,19 +60,19 @@ fn copies_ids_and_warnings(rt: HostRuntime) {
     let alloc = rt.alloc();
     let id = PackageId::new(text(&rt, alloc, "a 1.0.0"));
     assert_eq!(rt; id.repr(), "a 1.0.0");
-    expect_copy(&rt, id.copy(alloc), &id);
+    assert!(rt; id.copy(alloc).expect(&rt, "memory") == id);
     expect_printed(&rt, alloc, &id, "a 1.0.0");
     let stage = FeatureBuildStage::AddDependencyEdges {
         package_id: id.copy(alloc).expect(&rt, "memory"),
         dep_name: text(&rt, alloc, "b"),
     };
-    expect_copy(&rt, stage.copy(alloc), &stage);
+    assert!(rt; stage.copy(alloc).expect(&rt, "memory") == stage);
     let warning = FeatureGraphWarning::MissingFeature {
         stage,
         package_id: id,
         feature_name: text(&rt, alloc, "x"),
     };
-    expect_copy(&rt, warning.copy(alloc), &warning);
+    assert!(rt; warning.copy(alloc).expect(&rt, "memory") == warning);
 }
 
 #[test]
@@ -108,10 +97,11 @@ fn compares_sets_by_their_elements(rt: HostRuntime) {
     let alloc = rt.alloc();
     let set = SortedSet::new(Vec::from_slice(alloc, &[2_usize, 1, 2]).expect(&rt, "memory"));
     let later = SortedSet::new(Vec::from_slice(alloc, &[1_usize, 3]).expect(&rt, "memory"));
-    expect_copy(&rt, set.copy(alloc), &set);
+    assert!(rt; set.copy(alloc).expect(&rt, "memory") == set);
     assert!(rt; set < later && later != set);
 }
 
+/// Whether there is a line at each of the places.
 fn are_below(places: &[usize], count: usize) -> bool
     ensures { IsTrue result ↔ All (λ i. i < count) places.now }
 {

@@ -3,10 +3,12 @@
 use std::alloc::Global;
 use std::io::{self, ErrorKind, Write};
 
-/// Takes at most `most` bytes at a time, and fails once `left` writes are over.
+/// Takes at most `most` bytes at a time, and fails once `left` writes are over, and when it is flushed, if it
+/// does not flush.
 #[derive(Drop)]
 pub(crate) struct SlowWriter {
     pub(crate) taken: Vec<u8>,
+    pub(crate) flushes: bool,
     most: usize,
     left: usize,
     fault: ErrorKind,
@@ -16,6 +18,7 @@ impl SlowWriter {
     pub(crate) fn new(alloc: Global, most: usize, left: usize, fault: ErrorKind) -> SlowWriter {
         SlowWriter {
             taken: Vec::new(alloc),
+            flushes: true,
             most,
             left,
             fault,
@@ -35,6 +38,10 @@ impl Write for SlowWriter {
     }
 
     fn flush(&mut self) -> io::Result<()> {
-        Ok(())
+        if self.flushes {
+            Ok(())
+        } else {
+            Err(io::Error::from(self.fault))
+        }
     }
 }
