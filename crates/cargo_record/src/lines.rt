@@ -1,6 +1,6 @@
 //! The links of the record, with their lines.
 
-ghost use Rattle.std.specs.Prelude.{◌<◌, ◌≡◌, ◌≢◌, ◌≤◌, ◌↔◌, ℕ, All, AllPairs, Contains, IfErr, IfNone, IfOk, IfSome, IsTrue, List, OnOk, Some, [], ◌∷◌, false, length, slice_get, string_bytes, true};
+ghost use Rattle.std.specs.Prelude.{◌<◌, ◌≡◌, ◌≢◌, ◌≤◌, ℕ, All, AllPairs, Contains, IfErr, IfNone, IfOk, IfSome, List, OnOk, Some, [], ◌∷◌, false, length, slice_get, string_bytes, true};
 ghost use Rattle.std.specs.List.{list_all, list_any};
 ghost use Rattle.workspace_record.specs.Records.{Workspace};
 ghost use Rattle.workspace_record.specs.Packages.{is_member};

@@ -1,6 +1,6 @@
 //! The rows of a package graph with their indices.
 
-ghost use Rattle.std.specs.Prelude.{◌≡◌, ◌≢◌, ◌<◌, ℕ, All, AllPairs, IfErr, IfNone, IfOk, IfSome, Some, length, map, nat_lt, option_map, position, slice_get, slice_index};
+ghost use Rattle.std.specs.Prelude.{◌≡◌, ◌≢◌, ◌<◌, All, AllPairs, IfErr, IfNone, IfOk, IfSome, Some, length, map, nat_lt, option_map, position, slice_get};
 ghost use Rattle.std.specs.Option.{option_copied};
 ghost use Rattle.std.specs.Str.{bytes_eq};
 ghost use Rattle.numbered_graph.specs.Listings.{IsListing};
@@ -12,7 +12,7 @@ ghost use Rattle.guppy_package_table.specs.Indices.{ArePackagesKept, IndexesPack
 ghost use Rattle.guppy_package_table.specs.LinkDetailsViews as link_views;
 ghost use Rattle.guppy_package_table.specs.PackageDetailsViews.{member_path_of, row_of};
 ghost use Rattle.guppy_package_table.specs.TableLinks.{links_of};
-ghost use Rattle.guppy_package_table.specs.Tables.{AreKnownEnds, IsClear, IsFirstBetween, IsTableOf, firm_flags, ids_of, member_of, member_path_at, numbered_links, place_among};
+ghost use Rattle.guppy_package_table.specs.Tables.{AreKnownEnds, IsClear, IsFirstBetween, IsTableOf, firm_flags, ids_of, member_of, numbered_links, place_among};
 
 use crate::indices::{LinkIndices, SharedRows, link_indices, package_indices};
 use crate::link_details::LinkDetails;

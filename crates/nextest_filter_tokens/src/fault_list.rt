@@ -16,7 +16,7 @@ pub struct FaultList {
 }
 
 impl FaultList {
-    ghost use Rattle.std.specs.Prelude.{◌≡◌, ◌+◌, ◌≤◌, ◌<◌, ◌++◌, ◌∷◌, ℕ, List, [], false, true, IfOk, OnOk, vec_len};
+    ghost use Rattle.std.specs.Prelude.{◌≡◌, ◌+◌, ◌≤◌, ◌<◌, ◌++◌, ◌∷◌, ℕ, List, [], false, true, OnOk, vec_len};
     ghost use Rattle.nextest_filter_tokens.specs.Faults.{is_pattern_fault};
     ghost use Rattle.nextest_filter_tokens.specs.declared.parse_error.ParseSingleError.TheVariants.{UnsupportedExpression};
     ghost use Rattle.nextest_filter_tokens.specs.FaultLists.{AreOver, AreWithin, LiesOver, LiesWithin, pattern_spans, syntax_faults};

@@ -1,6 +1,5 @@
 //! Accounts and explanations read from their files.
 
-ghost use Rattle.std.specs.Prelude.{◌≡◌};
 ghost use Rattle.record_files.specs.Trees.{seen, seen_items};
 ghost use Rattle.record_files.specs.Files.{ReadsFile};
 ghost use Rattle.record_files.specs.Outcomes.{Gives};

@@ -1,6 +1,6 @@
 //! The members of objects.
 
-ghost use Rattle.std.specs.Prelude.{◌≡◌, IfOk, OnOk, map, string_bytes};
+ghost use Rattle.std.specs.Prelude.{◌≡◌, IfOk, map, string_bytes};
 ghost use Rattle.serde_json.specs.Data.{Data, no_members, put};
 ghost use Rattle.serde_json.specs.View.{members_view, view};
 ghost use Rattle.record_writing.specs.Members.{value_of, members_data, put_all, texts_data};

@@ -1,4 +1,4 @@
-use Rattle.std.proofs.Common.{◌≡◌, ◌∙◌, ap, List, subst}
+use Rattle.std.proofs.Common.{◌∙◌, ap, List, subst}
 use Rattle.workspace_record.specs.Records.{Link, Package, Workspace, WorkspaceDetails}
 use Rattle.guppy_package_rules.specs.Kept.{AreKept}
 use Rattle.guppy_package_rules.specs.Readings.{AreReadIn}
